@@ -1,0 +1,44 @@
+-- Choosing by a test: `pick`, the laws that close a branch of code against it, and the few facts on Bool that proofs use again and again.
+-- Assumes nothing.
+use Prim.Native.Nat.{ℕ}
+use mathlib.Core.Path.{_≡_, refl, sym, _∙_, subst}
+use mathlib.Core.Bool.{Bool, true, false, not, _&&_, _||_}
+use lib.Dec.{eqb}
+use borrow.Author.Tests.{eq-eqb, ne-eqb, lt-ltb, le-ltb, le-leb, lt-leb}
+
+-- the first where the test holds, else the second
+abbrev pub pick : {A : Type 0} → Bool → A → A → A
+pick true x y = x
+pick false x y = y
+
+-- a result is the first way of a choice whose test holds
+pub pick-then : {A : Type 0} (b : Bool) (r x y : A) → b ≡ true → r ≡ x → r ≡ pick b x y
+pick-then b r x y e h = simp e h
+
+-- a result is the second way of a choice whose test fails
+pub pick-else : {A : Type 0} (b : Bool) (r x y : A) → b ≡ false → r ≡ y → r ≡ pick b x y
+pick-else b r x y e h = simp e h
+
+-- a test that was computed elsewhere, and held
+pub was-true : {a : Bool} (b : Bool) → a ≡ b → a ≡ true → b ≡ true
+was-true b e h = sym e ∙ h
+
+-- a test that was computed elsewhere, and failed
+pub was-false : {a : Bool} (b : Bool) → a ≡ b → a ≡ false → b ≡ false
+was-false b e h = sym e ∙ h
+
+-- what closes a return of code that branches as its definition does
+pub ruleset cases = (pick-then, pick-else, was-true, was-false, eq-eqb, ne-eqb, lt-ltb, le-ltb, le-leb, lt-leb)
+
+-- a proof by the two values of a test
+pub by-test : {P : Type 0} (b : Bool) → (b ≡ true → P) → (b ≡ false → P) → P
+by-test true yes′ no′ = yes′ refl
+by-test false yes′ no′ = no′ refl
+
+-- a test cannot both hold and fail
+pub not-both : {P : Type 0} {b : Bool} → b ≡ true → b ≡ false → P
+not-both {b = b} h g = absurd (subst holds (sym h ∙ g) tt)
+  where
+    holds : Bool → Type 0
+    holds true = Unit {0}
+    holds false = ⊥

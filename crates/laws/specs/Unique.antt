@@ -1,0 +1,12 @@
+-- No second result meets a contract: what that says of a function, over the contract that Rattle itself reads off the source.
+-- Assumes nothing.
+use Prim.Native.Nat.{ℕ}
+use mathlib.Core.Path.{_≡_}
+use mathlib.Core.List.{List}
+use borrow.Fn.Kinds.{Out, Dens, resT, endedOf, PK, RK}
+use denote.Triple.Clauses.{AtExit}
+use contract.Lifetimes.{Lfts}
+
+-- any two results that meet the contract on the same arguments are equal
+abbrev pub Unique : {n : ℕ} (ps : List (PK n)) (r : RK n) → Out n ps r → Type 0
+Unique {n} ps r post = (κs : Lfts n) (a : Dens κs ps) (x y : resT r κs .Denot) (e f : AtExit (endedOf n ps r) κs) → post κs a x e → post κs a y f → x ≡ y

@@ -1,0 +1,3 @@
+pub mod Alphabet
+pub mod Numbers
+pub mod Unique

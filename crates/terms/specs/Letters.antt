@@ -1,0 +1,78 @@
+-- The letters of request and history lines, with their bytes and fields (01, Lines).
+use Prim.Native.Nat.{ℕ}
+use mathlib.Core.Bool.{Bool, true, false}
+use lib.Dec.{eqb}
+use Rattle.laws.specs.Choice.{pick}
+use Rattle.terms.specs.declared.letters.Ask.{Ask}
+use Rattle.terms.specs.declared.letters.Ask.the-variants.{Read, Write, Increment}
+use Rattle.terms.specs.declared.letters.Letter.{Letter}
+use Rattle.terms.specs.declared.letters.Letter.the-variants.{Begin, Commit, GiveUp, Retry, Back, Asks}
+use Rattle.terms.specs.declared.letters.Lettered.{Lettered}
+use Rattle.terms.specs.declared.letters.Lettered.the-variants.{Known, Unknown}
+
+-- the bytes of r, w and i
+abbrev pub askByte : Ask → ℕ
+askByte Read = 114
+askByte Write = 119
+askByte Increment = 105
+
+-- the bytes of b, c, a, t and k, and of what is asked
+abbrev pub byteOf : Letter → ℕ
+byteOf Begin = 98
+byteOf Commit = 99
+byteOf GiveUp = 97
+byteOf Retry = 116
+byteOf Back = 107
+byteOf (Asks a) = askByte a
+
+-- this letter where the byte is its byte, and else whatever the rest of the alphabet says
+abbrev pub orElse : Letter → ℕ → Lettered → Lettered
+orElse l b rest = pick (eqb b (byteOf l)) (Known l) rest
+
+-- the letter whose byte this is, looked up in the one table of bytes
+abbrev pub letterOf : ℕ → Lettered
+letterOf b =
+    orElse Begin b
+    (orElse Commit b
+    (orElse GiveUp b
+    (orElse Retry b
+    (orElse Back b
+    (orElse (Asks Read) b
+    (orElse (Asks Write) b
+    (orElse (Asks Increment) b Unknown)))))))
+
+-- the letters of requests: all but k (01, Lines)
+abbrev pub ofRequests : Letter → Bool
+ofRequests Begin = true
+ofRequests Commit = true
+ofRequests GiveUp = true
+ofRequests Retry = true
+ofRequests Back = false
+ofRequests (Asks a) = true
+
+-- the letters of histories: r, w, i, c, a and k (01, Lines)
+abbrev pub ofHistories : Letter → Bool
+ofHistories Begin = false
+ofHistories Commit = true
+ofHistories GiveUp = true
+ofHistories Retry = false
+ofHistories Back = true
+ofHistories (Asks a) = true
+
+-- b stands alone, and every other letter has a job (01, Lines)
+abbrev pub hasJob : Letter → Bool
+hasJob Begin = false
+hasJob Commit = true
+hasJob GiveUp = true
+hasJob Retry = true
+hasJob Back = true
+hasJob (Asks a) = true
+
+-- r, w and i have a cell too (01, Lines)
+abbrev pub hasCell : Letter → Bool
+hasCell Begin = false
+hasCell Commit = false
+hasCell GiveUp = false
+hasCell Retry = false
+hasCell Back = false
+hasCell (Asks a) = true

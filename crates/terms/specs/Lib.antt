@@ -1,0 +1,4 @@
+pub mod Letters
+pub mod Refusals
+pub mod Words
+pub mod Limits

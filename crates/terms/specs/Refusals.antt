@@ -1,0 +1,39 @@
+-- The refusals with their numbers, the one table of them (01, Refusals by number).
+use Prim.Native.Nat.{ℕ}
+use Rattle.terms.specs.declared.refusals.Refusal.{Refusal}
+use Rattle.terms.specs.declared.refusals.Refusal.the-variants.{UnknownKind, CellAbove, NotOpen, Waiting, SentBack, AllOpen, NoNumberLeft, Running, BadLine, StartedAtZero, TooManyLines, JobOutside, Ended, ShortOrder, NoRoom, TooLong}
+
+-- the paper's number of each refusal, with the paper's words beside it
+abbrev pub numberOf : Refusal → ℕ
+-- request kind other than the seven
+numberOf UnknownKind = 1
+-- cell above 63
+numberOf CellAbove = 2
+-- job is not open (0 never is)
+numberOf NotOpen = 3
+-- job is waiting, request is not give-up
+numberOf Waiting = 4
+-- job was sent back, request is read, write, increment or commit
+numberOf SentBack = 5
+-- begin with 32 open jobs
+numberOf AllOpen = 6
+-- begin after 4,294,967,295 was given
+numberOf NoNumberLeft = 7
+-- retry of a running job
+numberOf Running = 8
+-- bad line
+numberOf BadLine = 9
+-- desk started at number 0
+numberOf StartedAtZero = 10
+-- history has a line 4,097
+numberOf TooManyLines = 11
+-- job outside 1 to 255
+numberOf JobOutside = 12
+-- line for a job that has committed or given up
+numberOf Ended = 13
+-- order buffer shorter than 255 places
+numberOf ShortOrder = 14
+-- record does not fit from the place given, or the place is past the end
+numberOf NoRoom = 15
+-- history text longer than 65,536 bytes
+numberOf TooLong = 16

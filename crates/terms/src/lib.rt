@@ -1,0 +1,5 @@
+// The paper's words and numbers, each in this one place. Every other crate takes them from here.
+pub mod letters;
+pub mod limits;
+pub mod refusals;
+pub mod words;

@@ -1,0 +1,59 @@
+// The words of answer records and verdict lines, the tab and the newline (01, Lines; 01, The judge's rules).
+ghost use mathlib.Core.Path.{_≡_};
+ghost use Rattle.terms.specs.Words.{spellingOf};
+
+pub enum Word {
+    Go,
+    Wait,
+    Back,
+    No,
+    Wake,
+    Orderly,
+    Knot,
+}
+
+pub const TAB: u8 = b'\t';
+
+pub const NEWLINE: u8 = b'\n';
+
+// A word's bytes from the first place on, and how many they are.
+pub struct Spelling {
+    pub bytes: [u8; 7],
+    pub len: usize,
+}
+
+// How a word is spelled.
+pub fn spelled(w: Word) -> Spelling
+    ensures { λ r. ⌜ r ≡ spellingOf w ⌝ }
+{
+    match w {
+        Word::Go => Spelling {
+            bytes: [b'g', b'o', 0, 0, 0, 0, 0],
+            len: 2,
+        },
+        Word::Wait => Spelling {
+            bytes: [b'w', b'a', b'i', b't', 0, 0, 0],
+            len: 4,
+        },
+        Word::Back => Spelling {
+            bytes: [b'b', b'a', b'c', b'k', 0, 0, 0],
+            len: 4,
+        },
+        Word::No => Spelling {
+            bytes: [b'n', b'o', 0, 0, 0, 0, 0],
+            len: 2,
+        },
+        Word::Wake => Spelling {
+            bytes: [b'w', b'a', b'k', b'e', 0, 0, 0],
+            len: 4,
+        },
+        Word::Orderly => Spelling {
+            bytes: [b'o', b'r', b'd', b'e', b'r', b'l', b'y'],
+            len: 7,
+        },
+        Word::Knot => Spelling {
+            bytes: [b'k', b'n', b'o', b't', 0, 0, 0],
+            len: 4,
+        },
+    }
+}
