@@ -1,0 +1,39 @@
+-- `conflict::modes::code_of` meets its contract: in each arm `codeOf` computes at what was matched.
+-- Assumes nothing.
+use borrow.Author.Needs.{needs}
+use Rattle.conflict.specs.Modes.{codeOf}
+use Rattle.conflict.proofs.modes.code_of.Statement.{statement}
+use Rattle.conflict.proofs.modes.code_of.Tie as tie
+
+enum-told : tie.Need-enum-told
+enum-told c = search needs
+
+enum-told-2 : tie.Need-enum-told-2
+enum-told-2 c = search needs
+
+enum-told-3 : tie.Need-enum-told-3
+enum-told-3 c = search needs
+
+enum-told-4 : tie.Need-enum-told-4
+enum-told-4 c = search needs
+
+returns : tie.Need-returns
+unfolding codeOf
+returns c = search needs
+
+returns-2 : tie.Need-returns-2
+unfolding codeOf
+returns-2 c = search needs
+
+returns-3 : tie.Need-returns-3
+unfolding codeOf
+returns-3 c = search needs
+
+returns-4 : tie.Need-returns-4
+unfolding codeOf
+returns-4 c = search needs
+
+pub code-of-spec : {M : Type 1} → statement M
+code-of-spec =
+    tie.close
+    (tie.spec enum-told enum-told-2 enum-told-3 enum-told-4 returns returns-2 returns-3 returns-4)

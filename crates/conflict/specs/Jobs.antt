@@ -1,0 +1,24 @@
+-- Lists of jobs: who is in one, whether it names each once, and where a job stands in it.
+use Prim.Native.Nat.{ℕ, zero, suc}
+use mathlib.Core.Bool.{Bool, true, false, not, _&&_, _||_, cond}
+use mathlib.Core.List.{List, [], _∷_}
+use lib.Dec.{eqb}
+
+-- whether two numbers are the same
+abbrev pub same : ℕ → ℕ → Bool
+same m n = eqb m n
+
+-- whether the list names the job
+unfoldable pub member : ℕ → List ℕ → Bool
+member j [] = false
+member j (k ∷ ks) = same k j || member j ks
+
+-- whether the list names no job twice
+unfoldable pub distinct : List ℕ → Bool
+distinct [] = true
+distinct (k ∷ ks) = not (member k ks) && distinct ks
+
+-- how many jobs stand before the first place of this one
+unfoldable pub pos : List ℕ → ℕ → ℕ
+pos [] j = 0
+pos (k ∷ ks) j = cond (same k j) 0 (suc (pos ks j))

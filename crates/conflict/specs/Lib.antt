@@ -1,0 +1,4 @@
+pub mod Modes
+pub mod Jobs
+pub mod Schedule
+pub mod History

@@ -1,0 +1,49 @@
+// Actions and the events of a history, and which kinds of action conflict (01, The judge's rules).
+ghost use mathlib.Core.Path.{_≡_};
+ghost use Rattle.conflict.specs.Schedule.{agree};
+
+// The kinds of action that a history records.
+pub enum Kind {
+    Read,
+    Write,
+    Increment,
+}
+
+// One action: a job does something to a cell.
+pub struct Action {
+    pub kind: Kind,
+    pub job: u32,
+    pub cell: u32,
+}
+
+// What ends a run: c, a or k in a history.
+pub enum Mark {
+    Commit,
+    GiveUp,
+    Back,
+}
+
+// One line of a history.
+pub enum Event {
+    Does(Action),
+    Ends(Mark, u32),
+}
+
+// Whether two kinds agree, as two reads or two increments do: actions on one cell by different jobs conflict unless their kinds agree.
+pub fn kinds_agree(a: Kind, b: Kind) -> bool
+    ensures { λ r. ⌜ r ≡ agree a b ⌝ }
+{
+    match a {
+        Kind::Read => match b {
+            Kind::Read => true,
+            Kind::Write => false,
+            Kind::Increment => false,
+        },
+        Kind::Write => false,
+        Kind::Increment => match b {
+            Kind::Read => false,
+            Kind::Write => false,
+            Kind::Increment => true,
+        },
+    }
+}

@@ -1,0 +1,132 @@
+// Lock modes: what each need is, what covers it, what goes beside it and what a promotion asks for (01, The desk's rules).
+use crate::action::Kind;
+use terms::letters::Ask;
+ghost use mathlib.Core.Path.{_≡_};
+ghost use Rattle.conflict.specs.Modes.{needed, recorded, covers, beside, grants, asked, codeOf, modeOf};
+
+// What a job holds on a cell: nothing, or a lock that is shared, exclusive or for increments.
+pub enum Mode {
+    Free,
+    S,
+    X,
+    I,
+}
+
+// The mode that what is asked needs.
+pub fn needed_mode(a: Ask) -> Mode
+    ensures { λ r. ⌜ r ≡ needed a ⌝ }
+{
+    match a {
+        Ask::Read => Mode::S,
+        Ask::Write => Mode::X,
+        Ask::Increment => Mode::I,
+    }
+}
+
+// The kind that the history records of what is asked.
+pub fn recorded_kind(a: Ask) -> Kind
+    ensures { λ r. ⌜ r ≡ recorded a ⌝ }
+{
+    match a {
+        Ask::Read => Kind::Read,
+        Ask::Write => Kind::Write,
+        Ask::Increment => Kind::Increment,
+    }
+}
+
+// Whether a held mode covers a needed one.
+pub fn mode_covers(held: Mode, need: Mode) -> bool
+    ensures { λ r. ⌜ r ≡ covers held need ⌝ }
+{
+    match need {
+        Mode::Free => true,
+        Mode::S => match held {
+            Mode::Free => false,
+            Mode::S => true,
+            Mode::X => true,
+            Mode::I => false,
+        },
+        Mode::X => match held {
+            Mode::Free => false,
+            Mode::S => false,
+            Mode::X => true,
+            Mode::I => false,
+        },
+        Mode::I => match held {
+            Mode::Free => false,
+            Mode::S => false,
+            Mode::X => true,
+            Mode::I => true,
+        },
+    }
+}
+
+// Whether two jobs may hold a cell in these modes together.
+pub fn modes_beside(a: Mode, b: Mode) -> bool
+    ensures { λ r. ⌜ r ≡ beside a b ⌝ }
+{
+    match a {
+        Mode::Free => true,
+        Mode::S => match b {
+            Mode::Free => true,
+            Mode::S => true,
+            Mode::X => false,
+            Mode::I => false,
+        },
+        Mode::X => match b {
+            Mode::Free => true,
+            Mode::S => false,
+            Mode::X => false,
+            Mode::I => false,
+        },
+        Mode::I => match b {
+            Mode::Free => true,
+            Mode::S => false,
+            Mode::X => false,
+            Mode::I => true,
+        },
+    }
+}
+
+// Whether a mode that one job holds lets another be granted the mode that it asks for.
+pub fn mode_grants(held: Mode, asks: Mode) -> bool
+    ensures { λ r. ⌜ r ≡ grants held asks ⌝ }
+{
+    modes_beside(held, asks)
+}
+
+// The mode that a job asks for, given what it holds and what it needs: a promotion asks for X.
+pub fn asked_mode(held: Mode, need: Mode) -> Mode
+    ensures { λ r. ⌜ r ≡ asked held need ⌝ }
+{
+    match held {
+        Mode::Free => need,
+        Mode::S => Mode::X,
+        Mode::X => Mode::X,
+        Mode::I => Mode::X,
+    }
+}
+
+// The number that stands for a mode in a table.
+pub fn code_of(m: Mode) -> u8
+    ensures { λ r. ⌜ r ≡ codeOf m ⌝ }
+{
+    match m {
+        Mode::Free => 0,
+        Mode::S => 1,
+        Mode::X => 2,
+        Mode::I => 3,
+    }
+}
+
+// The mode that a number stands for.
+pub fn mode_of(code: u8) -> Mode
+    ensures { λ r. ⌜ r ≡ modeOf code ⌝ }
+{
+    match code {
+        1 => Mode::S,
+        2 => Mode::X,
+        3 => Mode::I,
+        _ => Mode::Free,
+    }
+}
