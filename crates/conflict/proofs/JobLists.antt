@@ -1,0 +1,79 @@
+-- Laws of lists of jobs: who is in one, whether it names each once, and where a job stands in it.
+-- Assumes nothing.
+use Prim.Native.Nat.{ℕ, zero, suc, _<_}
+use mathlib.Core.Path.{_≡_, refl, sym, ap, _∙_}
+use mathlib.Core.Bool.{Bool, true, false, not, _&&_, _||_, cond}
+use mathlib.Core.List.{List, [], _∷_}
+use native.Mathlib.Omega.{arith}
+use borrow.Author.Tests.{eqb-true, eqb-false, eq-eqb, ne-eqb, not-true}
+use Rattle.laws.specs.Choice.{by-test, not-both}
+use Rattle.conflict.specs.Jobs.{same, member, distinct, pos}
+use Rattle.conflict.proofs.Parts.{and-first, and-second, or-either, nor-first}
+
+-- a number is the same as itself
+pub same-refl : (j : ℕ) → same j j ≡ true
+same-refl j = eq-eqb j j refl
+
+-- being the same does not depend on which of the two comes first
+pub same-sym : (i j : ℕ) → same i j ≡ same j i
+same-sym i j =
+    by-test (same i j) (λ t. t ∙ sym (eq-eqb j i (sym (eqb-true i j t))))
+    (λ f. f ∙ sym (ne-eqb j i (λ e. eqb-false i j f (sym e))))
+
+-- the first of a list stands at 0
+pub pos-first : (k : ℕ) (ks : List ℕ) → pos (k ∷ ks) k ≡ 0
+unfolding pos
+pos-first k ks = rw (same-refl k)
+
+-- any other stands one place further than in the rest
+pub pos-later : (k : ℕ) (ks : List ℕ) (j : ℕ) → same k j ≡ false → pos (k ∷ ks) j ≡ suc (pos ks j)
+unfolding pos
+pos-later k ks j f = rw f
+
+-- who stands behind another is not the first, and stands there behind it in the rest too
+pub pos-rest : (k : ℕ) (ks : List ℕ) (i j : ℕ) → same k i ≡ false → pos (k ∷ ks) i < pos (k ∷ ks) j → pos ks i < pos ks j
+pos-rest k ks i j f h =
+    by-test (same k j) (λ t. let e : k ≡ j = eqb-true k j t in absurd (omega (arith, pos-first k ks, ap (pos (k ∷ ks)) e)))
+    (λ g. omega (arith, pos-later k ks i f, pos-later k ks j g))
+
+-- the first stands ahead of every other
+pub first-ahead : (k : ℕ) (ks : List ℕ) (i j : ℕ) → same k i ≡ true → same k j ≡ false → pos (k ∷ ks) i < pos (k ∷ ks) j
+first-ahead k ks i j t f = omega (arith, pos-first k ks, ap (pos (k ∷ ks)) (eqb-true k i t), pos-later k ks j f)
+
+-- nobody stands ahead of the first
+pub none-ahead : {P : Type 0} (k : ℕ) (ks : List ℕ) (i : ℕ) → pos (k ∷ ks) i < pos (k ∷ ks) k → P
+none-ahead k ks i h = absurd (omega (arith, pos-first k ks))
+
+-- two others stand in the whole as in the rest
+pub pos-both : (k : ℕ) (ks : List ℕ) (i j : ℕ) → same k i ≡ false → same k j ≡ false → pos ks i < pos ks j → pos (k ∷ ks) i < pos (k ∷ ks) j
+pos-both k ks i j f g h = omega (arith, pos-later k ks i f, pos-later k ks j g)
+
+-- the first of a list is in it
+pub member-first : (k : ℕ) (ks : List ℕ) → member k (k ∷ ks) ≡ true
+unfolding member
+member-first k ks = rw (same-refl k)
+
+-- another is in a list where it is in the rest
+pub member-later : (k : ℕ) (ks : List ℕ) (j : ℕ) → same k j ≡ false → member j (k ∷ ks) ≡ member j ks
+unfolding member
+member-later k ks j f = rw f
+
+-- who is in the rest is in the list
+pub member-more : (k : ℕ) (ks : List ℕ) (j : ℕ) → member j ks ≡ true → member j (k ∷ ks) ≡ true
+unfolding member
+member-more k ks j h = by-test (same k j) (λ t. rw t) (λ f. rw f h)
+
+-- a list that names none twice does not name its first again
+pub once-first : (k : ℕ) (ks : List ℕ) → distinct (k ∷ ks) ≡ true → member k ks ≡ false
+unfolding distinct
+once-first k ks h = not-true (member k ks) (and-first (not (member k ks)) (distinct ks) h)
+
+-- and its rest names none twice
+pub once-rest : (k : ℕ) (ks : List ℕ) → distinct (k ∷ ks) ≡ true → distinct ks ≡ true
+unfolding distinct
+once-rest k ks h = and-second (not (member k ks)) (distinct ks) h
+
+-- who is in a list is not one that is not in it
+pub member-other : (k j : ℕ) (ks : List ℕ) → member k ks ≡ false → member j ks ≡ true → same k j ≡ false
+member-other k j ks f h =
+    by-test (same k j) (λ t. not-both (ap (λ i. member i ks) (eqb-true k j t) ∙ h) f) (λ g. g)
