@@ -1,14 +1,14 @@
 -- Laws of lists of jobs: who is in one, whether it names each once, and where a job stands in it.
 -- Assumes nothing.
-use Prim.Native.Nat.{ℕ, zero, suc, _<_}
+use Prim.Native.Nat.{ℕ, suc, _<_}
 use mathlib.Core.Path.{_≡_, refl, sym, ap, _∙_}
-use mathlib.Core.Bool.{Bool, true, false, not, _&&_, _||_, cond}
-use mathlib.Core.List.{List, [], _∷_}
+use mathlib.Core.Bool.{true, false, not}
+use mathlib.Core.List.{List, _∷_}
 use native.Mathlib.Omega.{arith}
 use borrow.Author.Tests.{eqb-true, eqb-false, eq-eqb, ne-eqb, not-true}
 use Rattle.laws.specs.Choice.{by-test, not-both}
 use Rattle.conflict.specs.Jobs.{same, member, distinct, pos}
-use Rattle.conflict.proofs.Parts.{and-first, and-second, or-either, nor-first}
+use Rattle.conflict.proofs.Parts.{and-first, and-second}
 
 -- a number is the same as itself
 pub same-refl : (j : ℕ) → same j j ≡ true

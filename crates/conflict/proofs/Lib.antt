@@ -1,3 +1,7 @@
 pub mod Parts
 pub mod JobLists
 pub mod Swaps
+pub mod Edges
+pub mod OwnActions
+pub mod Forward
+pub mod Backward

@@ -1,14 +1,12 @@
 -- Swaps are the book's: two neighbours in the midst of a schedule change places. They can be taken back, and so equivalence goes both ways, in steps, and behind anything.
 -- Assumes nothing.
-use Prim.Native.Nat.{ℕ}
-use mathlib.Core.Path.{_≡_, refl, sym, ap, ap₂, _∙_, subst₂}
+use mathlib.Core.Path.{_≡_, refl, sym, ap, _∙_, subst₂}
 use mathlib.Core.Logic.{_≢_}
-use mathlib.Core.Bool.{Bool, true, false, not, _&&_}
-use mathlib.Core.List.{List, [], _∷_, _++_}
+use mathlib.Core.Bool.{false}
+use mathlib.Core.List.{[], _∷_, _++_}
 use Rattle.conflict.specs.declared.action.Kind.{Kind}
 use Rattle.conflict.specs.declared.action.Kind.the-variants.{Read, Write, Increment}
 use Rattle.conflict.specs.declared.action.Action.{Action}
-use Rattle.conflict.specs.Jobs.{same}
 use Rattle.conflict.specs.Schedule.{Schedule, agree, conflicts, Swap, Equivalent}
 use Rattle.conflict.specs.Schedule.Swap.{here, later}
 use Rattle.conflict.specs.Schedule.Equivalent.{done, after}
