@@ -5,3 +5,4 @@ pub mod Edges
 pub mod OwnActions
 pub mod Forward
 pub mod Backward
+pub mod Book
