@@ -6,3 +6,6 @@ pub mod OwnActions
 pub mod Forward
 pub mod Backward
 pub mod Book
+pub mod ModeLaws
+pub mod Matrix
+pub mod Unique
