@@ -9,12 +9,12 @@ use Rattle.laws.specs.Choice.{by-test, not-both}
 use Rattle.conflict.specs.declared.action.Action.{Action}
 use Rattle.conflict.specs.Jobs.{same, member}
 use Rattle.conflict.specs.Schedule.{Schedule, agree, conflicts, names, touches, edge}
-use Rattle.conflict.proofs.Parts.{and-first, and-second, and-both, or-either, or-first, or-second}
+use Rattle.conflict.proofs.Parts.{and-first, and-second, or-either, or-second}
 
 -- an action conflicts with one of job j that comes next
 pub touches-here : (a : Action) (j : ℕ) (b : Action) (s : Schedule) → same (b .job) j ≡ true → conflicts a b ≡ true → touches a j (b ∷ s) ≡ true
 unfolding touches
-touches-here a j b s m c = or-first (same (b .job) j && conflicts a b) (touches a j s) (and-both (same (b .job) j) (conflicts a b) m c)
+touches-here a j b s m c = rw (m, c)
 
 -- or with one that comes later
 pub touches-later : (a : Action) (j : ℕ) (b : Action) (s : Schedule) → touches a j s ≡ true → touches a j (b ∷ s) ≡ true
@@ -31,7 +31,7 @@ touches-cases a j b s h next later′ =
 -- an edge goes from the job of the first action
 pub edge-here : (a : Action) (s : Schedule) (i j : ℕ) → same (a .job) i ≡ true → touches a j s ≡ true → edge (a ∷ s) i j ≡ true
 unfolding edge
-edge-here a s i j m h = or-first (same (a .job) i && touches a j s) (edge s i j) (and-both (same (a .job) i) (touches a j s) m h)
+edge-here a s i j m h = rw (m, h)
 
 -- or is one of the later actions
 pub edge-later : (a : Action) (s : Schedule) (i j : ℕ) → edge s i j ≡ true → edge (a ∷ s) i j ≡ true

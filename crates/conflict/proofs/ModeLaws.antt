@@ -108,21 +108,21 @@ pub asked-free : (need : Mode) → asked Free need ≡ need
 unfolding asked
 asked-free need = refl
 
--- what is asked for covers what is needed
-pub asked-covers : (held need : Mode) → covers (asked held need) need ≡ true
-unfolding asked
-asked-covers Free need = covers-refl need
-asked-covers S need = covers-all need
-asked-covers X need = covers-all need
-asked-covers I need = covers-all need
-
--- and what is held
+-- what is asked for covers what is held
 pub asked-grows : (held need : Mode) → covers (asked held need) held ≡ true
 unfolding asked covers
 asked-grows Free need = refl
 asked-grows S need = covers-all S
 asked-grows X need = covers-all X
 asked-grows I need = covers-all I
+
+-- and what is needed
+pub asked-covers : (held need : Mode) → covers (asked held need) need ≡ true
+unfolding asked
+asked-covers Free need = covers-refl need
+asked-covers S need = covers-all need
+asked-covers X need = covers-all need
+asked-covers I need = covers-all need
 
 -- only a job that holds nothing is free
 pub is-free : (m : Mode) → isFree m ≡ true → m ≡ Free

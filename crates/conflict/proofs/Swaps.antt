@@ -56,7 +56,7 @@ agree-sym Increment Increment = refl
 -- conflicting does not depend on which action comes first
 pub conflicts-sym : (a b : Action) → conflicts a b ≡ conflicts b a
 unfolding conflicts
-conflicts-sym a b = rw (same-sym (a .cell) (b .cell), same-sym (a .job) (b .job), agree-sym (a .kind) (b .kind))
+conflicts-sym a b = simp (same-sym (a .cell) (b .cell), same-sym (a .job) (b .job), agree-sym (a .kind) (b .kind))
 
 -- a swap is taken back by a swap
 pub swap-back : {s t : Schedule} → Swap s t → Swap t s
