@@ -14,3 +14,4 @@ pub mod Marks
 pub mod Committed
 pub mod Appended
 pub mod Calm
+pub mod Strict
