@@ -86,6 +86,10 @@ kept-alone [] g none′ = refl
 kept-alone (Does a ∷ h) g none′ = ap₂ (λ b s. keep b a s) (by-test (ended (a .job) h) (λ t. rw t) (λ f. rw f (none′ (a .job) ∙ sym (no-commit (a .job) h f)))) (kept-alone h g none′)
 kept-alone (Ends m i ∷ h) g none′ = kept-alone h g none′
 
+-- there the committed part is that of the first, then that of the second
+pub committed-apart : (h g : History) → ((j : ℕ) → commits j g ≡ false) → committed (h ++ g) ≡ committed h ++ committed g
+committed-apart h g none′ = committed-append h g ∙ ap (λ s. s ++ committed g) (kept-alone h g none′)
+
 -- a c and an a are the marks that are not a k
 last-is : (m : Mark) → isLast m ≡ not (isBack m)
 unfolding isLast isBack

@@ -15,3 +15,4 @@ pub mod Committed
 pub mod Appended
 pub mod Calm
 pub mod Strict
+pub mod LockMachine

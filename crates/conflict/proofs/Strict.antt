@@ -9,11 +9,11 @@ use Rattle.laws.specs.Choice.{by-test, not-both}
 use Rattle.conflict.specs.declared.action.Action.{Action}
 use Rattle.conflict.specs.declared.action.Event.the-variants.{Does, Ends}
 use Rattle.conflict.specs.Jobs.{same, member, distinct, pos}
-use Rattle.conflict.specs.Schedule.{Schedule, conflicts, Equivalent, keep, serial, touches, edge, names, Forward}
+use Rattle.conflict.specs.Schedule.{Schedule, conflicts, Equivalent, ConflictSerializable, keep, serial, touches, edge, names, Forward}
 use Rattle.conflict.specs.History.{History, isCommit, committedPart, commits, committed, put, commitOrder, endsForGood, undisturbed, strict}
 use Rattle.conflict.proofs.Parts.{and-first, and-second, and-both}
 use Rattle.conflict.proofs.JobLists.{same-refl, first-ahead}
-use Rattle.conflict.proofs.Forward.{forward}
+use Rattle.conflict.proofs.Forward.{forward, forward-serializable}
 use Rattle.conflict.proofs.CommitOrder.{put-once, put-ahead}
 use Rattle.conflict.proofs.Edges.{touches-cases, touches-other, edge-here, edge-cases, edge-names}
 use Rattle.conflict.proofs.Marks.{listed, commits-marked}
@@ -77,3 +77,7 @@ strict-serial h s d = forward (commitOrder h) (committed h) (strict-forward h s 
 -- and so is the committed part in the paper's words, where no line of a job follows its c or a
 pub strict-serial-paper : (h : History) → strict h ≡ true → endsForGood h ≡ true → Equivalent (committedPart h) (serial (commitOrder h) (committedPart h))
 strict-serial-paper h s e = rw (committed-is h e) (strict-serial h s (commit-order-once h e))
+
+-- so it is conflict-serializable
+pub strict-serializable : (h : History) → strict h ≡ true → endsForGood h ≡ true → ConflictSerializable (committedPart h)
+strict-serializable h s e = rw (committed-is h e) (forward-serializable (commitOrder h) (committed h) (strict-forward h s (commit-order-once h e)))

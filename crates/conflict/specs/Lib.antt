@@ -3,3 +3,4 @@ pub mod Jobs
 pub mod Schedule
 pub mod History
 pub mod Runs
+pub mod LockMachine
