@@ -9,3 +9,10 @@ pub mod Book
 pub mod ModeLaws
 pub mod Matrix
 pub mod Unique
+pub mod CommitOrder
+pub mod Marks
+pub mod Committed
+pub mod Appended
+pub mod Calm
+pub mod Strict
+pub mod LockMachine

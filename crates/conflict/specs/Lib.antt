@@ -2,3 +2,5 @@ pub mod Modes
 pub mod Jobs
 pub mod Schedule
 pub mod History
+pub mod Runs
+pub mod LockMachine

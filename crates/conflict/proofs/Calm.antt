@@ -1,0 +1,60 @@
+-- Strictness of a history of two parts: each part is strict, and the second disturbs no action of the first whose run has not ended there.
+-- Assumes nothing.
+use Prim.Native.Nat.{ℕ}
+use mathlib.Core.Path.{_≡_, refl, sym, ap, ap₂, _∙_}
+use mathlib.Core.Bool.{Bool, true, false, not, _&&_, _||_, and-assoc, and-true}
+use mathlib.Core.List.{[], _∷_, _++_}
+use Rattle.laws.specs.Choice.{by-test}
+use Rattle.conflict.specs.declared.action.Action.{Action}
+use Rattle.conflict.specs.declared.action.Mark.{Mark}
+use Rattle.conflict.specs.declared.action.Event.the-variants.{Does, Ends}
+use Rattle.conflict.specs.Jobs.{same}
+use Rattle.conflict.specs.Schedule.{conflicts}
+use Rattle.conflict.specs.History.{History, marked, undisturbed, strict}
+use Rattle.conflict.specs.Runs.{isEnd, ended, calm}
+use Rattle.conflict.proofs.Parts.{and-both, or-second}
+
+-- until its run ends nothing of the first part disturbs an action, nor, if its run has not ended there, of the second
+pub undisturbed-append : (a : Action) (h g : History) → undisturbed a (h ++ g) ≡ (undisturbed a h && (ended (a .job) h || undisturbed a g))
+unfolding undisturbed ended marked isEnd
+undisturbed-append a [] g = refl
+undisturbed-append a (Does b ∷ h) g =
+    ap (λ u. not (conflicts a b) && u) (undisturbed-append a h g)
+    ∙ sym (and-assoc (not (conflicts a b)) (undisturbed a h) (ended (a .job) h || undisturbed a g))
+undisturbed-append a (Ends m i ∷ h) g = by-test (same i (a .job)) (λ t. rw t) (λ f. rw f (undisturbed-append a h g))
+
+-- five tests regrouped
+regroup : (u w s c t : Bool) → ((u && w) && ((s && c) && t)) ≡ (((u && s) && (w && c)) && t)
+regroup false w s c t = refl
+regroup true true s c t = refl
+regroup true false true c t = refl
+regroup true false false c t = refl
+
+-- strict as a whole
+pub strict-append : (h g : History) → strict (h ++ g) ≡ ((strict h && calm h g) && strict g)
+unfolding strict calm
+strict-append [] g = refl
+strict-append (Does a ∷ h) g =
+    ap₂ (λ u s. u && s) (undisturbed-append a h g) (strict-append h g)
+    ∙ regroup (undisturbed a h) (ended (a .job) h || undisturbed a g) (strict h) (calm h g) (strict g)
+strict-append (Ends m i ∷ h) g = strict-append h g
+
+-- the end of a run disturbs nothing
+pub calm-mark : (h : History) (m : Mark) (j : ℕ) → calm h (Ends m j ∷ []) ≡ true
+unfolding calm undisturbed
+calm-mark [] m j = refl
+calm-mark (Does a ∷ h) m j =
+    and-both (ended (a .job) h || undisturbed a (Ends m j ∷ [])) (calm h (Ends m j ∷ []))
+    (or-second (ended (a .job) h) (undisturbed a (Ends m j ∷ [])) (by-test (same j (a .job)) (λ t. rw t) (λ f. rw f)))
+    (calm-mark h m j)
+calm-mark (Ends n i ∷ h) m j = calm-mark h m j
+
+-- a history with one more mark is strict as it was
+pub strict-mark : (h : History) (m : Mark) (j : ℕ) → strict (h ++ Ends m j ∷ []) ≡ strict h
+unfolding strict
+strict-mark h m j = strict-append h (Ends m j ∷ []) ∙ and-true (strict h && calm h (Ends m j ∷ [])) ∙ ap (λ b. strict h && b) (calm-mark h m j) ∙ and-true (strict h)
+
+-- a history with one more action is strict if it was and no open action of it is disturbed by that one
+pub strict-action : (h : History) (b : Action) → strict (h ++ Does b ∷ []) ≡ (strict h && calm h (Does b ∷ []))
+unfolding strict undisturbed
+strict-action h b = strict-append h (Does b ∷ []) ∙ and-true (strict h && calm h (Does b ∷ []))
