@@ -16,6 +16,8 @@ use Rattle.conflict.proofs.modes.mode_grants.Reads as mode-grants
 use Rattle.conflict.proofs.modes.mode_grants.Kinds as mode-grantsK
 use Rattle.conflict.proofs.modes.asked_mode.Reads as asked-mode
 use Rattle.conflict.proofs.modes.asked_mode.Kinds as asked-modeK
+use Rattle.conflict.proofs.modes.mode_is_free.Reads as mode-is-free
+use Rattle.conflict.proofs.modes.mode_is_free.Kinds as mode-is-freeK
 use Rattle.conflict.proofs.modes.code_of.Reads as code-of
 use Rattle.conflict.proofs.modes.code_of.Kinds as code-ofK
 use Rattle.conflict.proofs.modes.mode_of.Reads as mode-of
@@ -47,3 +49,6 @@ code-of-unique κs a x y e f p q = p ∙ sym q
 
 pub mode-of-unique : Unique mode-ofK.ps mode-ofK.r mode-of.Post
 mode-of-unique κs a x y e f p q = p ∙ sym q
+
+pub mode-is-free-unique : Unique mode-is-freeK.ps mode-is-freeK.r mode-is-free.Post
+mode-is-free-unique κs a x y e f p q = p ∙ sym q

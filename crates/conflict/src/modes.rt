@@ -2,7 +2,7 @@
 use crate::action::Kind;
 use terms::letters::Ask;
 ghost use mathlib.Core.Path.{_≡_};
-ghost use Rattle.conflict.specs.Modes.{needed, recorded, covers, beside, grants, asked, codeOf, modeOf};
+ghost use Rattle.conflict.specs.Modes.{needed, recorded, covers, beside, grants, asked, isFree, codeOf, modeOf};
 
 // What a job holds on a cell: nothing, or a lock that is shared, exclusive or for increments.
 pub enum Mode {
@@ -104,6 +104,18 @@ pub fn asked_mode(held: Mode, need: Mode) -> Mode
         Mode::S => Mode::X,
         Mode::X => Mode::X,
         Mode::I => Mode::X,
+    }
+}
+
+// Whether a mode is that of a job that holds nothing.
+pub fn mode_is_free(m: Mode) -> bool
+    ensures { λ r. ⌜ r ≡ isFree m ⌝ }
+{
+    match m {
+        Mode::Free => true,
+        Mode::S => false,
+        Mode::X => false,
+        Mode::I => false,
     }
 }
 

@@ -1,0 +1,76 @@
+-- The paper's desk: jobs by number, what each job is doing, and for each cell who holds it and who waits (01, Jobs and their numbers).
+use Prim.Native.Nat.{ℕ, zero, suc}
+use mathlib.Core.Bool.{Bool, true, false, not, _&&_, _||_}
+use mathlib.Core.List.{List, [], _∷_, map}
+use lib.ListN.{replicate}
+use Rattle.laws.specs.Choice.{pick}
+use Rattle.terms.specs.declared.letters.Ask.{Ask}
+use Rattle.terms.specs.Limits.{places}
+use Rattle.conflict.specs.declared.modes.Mode.{Mode}
+use Rattle.conflict.specs.declared.modes.Mode.the-variants.{Free}
+use Rattle.conflict.specs.Jobs.{same, member}
+
+-- a job is running, waiting for one cell with what it asked, or sent back while it is open, and closed else (01, Jobs and their numbers)
+pub data Status : Type 0 where
+  closed : Status
+  running : Status
+  waiting : (cell : ℕ) (ask : Ask) → Status
+  sentback : Status
+
+-- an open job is running, waiting or sent back (01, Jobs and their numbers)
+unfoldable pub isOpen : Status → Bool
+isOpen closed = false
+isOpen running = true
+isOpen (waiting c a) = true
+isOpen sentback = true
+
+-- running and waiting jobs are live (01, Jobs and their numbers)
+unfoldable pub isLive : Status → Bool
+isLive closed = false
+isLive running = true
+isLive (waiting c a) = true
+isLive sentback = false
+
+-- who waits in a queue, and what for
+pub record Waiter : Type 0 where
+  pub job : ℕ
+  pub ask : Ask
+
+-- a cell: the mode that each job holds, and the queue, its front first
+pub record Row : Type 0 where
+  pub held : ℕ → Mode
+  pub queue : List Waiter
+
+-- the desk: the next number, the 32 places with the job in each (0 where free), what each job is doing, and the cells
+pub record Desk : Type 0 where
+  pub next : ℕ
+  pub jobs : List ℕ
+  pub stat : ℕ → Status
+  pub row : ℕ → Row
+
+-- a request by numbers: kind is the letter's byte (01, Refusals by number: any numbers)
+pub record Request : Type 0 where
+  pub kind : ℕ
+  pub job : ℕ
+  pub cell : ℕ
+
+-- a function as before but at one number
+unfoldable pub at : {A : Type 0} → (ℕ → A) → ℕ → A → ℕ → A
+at f i x j = pick (same j i) x (f j)
+
+-- nobody holds the cell and nobody waits for it
+unfoldable pub idle : Row
+idle = record { held = λ j. Free; queue = [] }
+
+-- a fresh desk: its first number is next, every place is free, every job closed, every cell idle (01, Jobs and their numbers)
+unfoldable pub freshDesk : ℕ → Desk
+freshDesk n = record { next = n; jobs = replicate places 0; stat = λ j. closed; row = λ c. idle }
+
+-- a new job takes the first free place
+unfoldable pub seated : ℕ → List ℕ → List ℕ
+seated j [] = []
+seated j (k ∷ ks) = pick (same k 0) (j ∷ ks) (k ∷ seated j ks)
+
+-- a job that is closed frees its place
+unfoldable pub vacated : ℕ → List ℕ → List ℕ
+vacated j ks = map (λ k. pick (same k j) 0 k) ks

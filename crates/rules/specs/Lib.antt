@@ -1,0 +1,4 @@
+pub mod Desk
+pub mod Locks
+pub mod Rules
+pub mod Step
