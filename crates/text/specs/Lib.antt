@@ -1,0 +1,4 @@
+pub mod Decimal
+pub mod Records
+pub mod Lines
+pub mod Split
