@@ -40,6 +40,10 @@ taken s b =
     (record { kept = set (s .kept) (s .len) b; len = s .len + 1; ended = eqb b newline; line = s .line })
     (record { kept = s .kept; len = s .len; ended = eqb b newline; line = s .line }))
 
+-- a line that has begun, with so many bytes kept, and has not ended
+unfoldable pub underWay : List ℕ → ℕ → ℕ → Splitter
+underWay bytes n line = record { kept = bytes; len = n; ended = false; line = line }
+
 -- the bytes up to and with the first newline, or all where there is none, one after another
 unfoldable pub through : Splitter → List ℕ → Splitter
 through s [] = s

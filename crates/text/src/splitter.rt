@@ -1,11 +1,10 @@
 // The splitter: chunks of input to lines, whatever their length, in fixed memory (01, Lines).
 use terms::words::NEWLINE;
 ghost use mathlib.Core.Path.{_≡_};
-ghost use mathlib.Core.Bool.{false};
 ghost use Prim.Native.Nat.{_+_, _-_, _≤_, _<_, min};
 ghost use lib.ListN.{length, take, drop};
 ghost use lib.Seq.{sets};
-ghost use Rattle.text.specs.Split.{fresh, following, through, used, cutOf};
+ghost use Rattle.text.specs.Split.{fresh, following, underWay, through, used, cutOf};
 
 // So many bytes of a line are kept: the longest good line has as many, its newline among them.
 pub const KEPT: usize = 16;
@@ -25,18 +24,6 @@ pub struct Splitter {
 pub struct Cut {
     pub splitter: Splitter,
     pub next: usize,
-}
-
-// A splitter that has seen no byte.
-pub fn started() -> Splitter
-    ensures { λ r. ⌜ r ≡ fresh ⌝ }
-{
-    Splitter {
-        kept: [0; KEPT],
-        len: 0,
-        ended: true,
-        line: 0,
-    }
 }
 
 // The place after the line that starts at a place of a text: after its newline, or the text's end where none is left.
@@ -73,4 +60,66 @@ fn room(len: usize, n: usize) -> usize
     }
     let left = KEPT - len;
     if n < left { n } else { left }
+}
+
+// The kept bytes with the first n of a part put in from place len on.
+fn filled(kept: [u8; KEPT], len: usize, part: &[u8], n: usize) -> [u8; KEPT]
+    requires { ⌜ (n ≤ length (now part)) × (n ≤ 16 - len) ⌝ }
+    ensures { λ r. ⌜ r ≡ sets kept len (take n (now (part .entry))) ⌝ }
+{
+    let mut all = kept;
+    let mut i = 0;
+    while i < n {
+        all[len + i] = part[i];
+        i += 1;
+    }
+    all
+}
+
+// A line under way, with len bytes kept, after a part of it that may end it.
+fn grown(kept: [u8; KEPT], len: usize, line: u64, part: &[u8]) -> Splitter
+    requires { ⌜ (0 < length (now part)) × (used (now part) ≡ length (now part)) ⌝ }
+    ensures { λ r. ⌜ r ≡ through (underWay kept len line) (now (part .entry)) ⌝ }
+{
+    let n = room(len, part.len());
+    let all = filled(kept, len, part, n);
+    let last = part.len() - 1;
+    Splitter {
+        kept: all,
+        len: len + n,
+        ended: part[last] == NEWLINE,
+        line,
+    }
+}
+
+impl Splitter {
+    // A splitter that has seen no byte.
+    pub fn started() -> Self
+        ensures { λ r. ⌜ r ≡ fresh ⌝ }
+    {
+        Self {
+            kept: [0; KEPT],
+            len: 0,
+            ended: true,
+            line: 0,
+        }
+    }
+
+    // The splitter after a chunk's bytes from a place up to and with the next newline, and the place after them.
+    pub fn cut(self, chunk: &[u8], from: usize) -> Cut
+        ensures { λ r. ⌜ r ≡ cutOf self (now (chunk .entry)) from ⌝ }
+    {
+        let next = line_end(chunk, from);
+        if next == from {
+            return Cut { splitter: self, next };
+        }
+        let kept = self.kept;
+        let part = &chunk[from..next];
+        if self.ended {
+            let splitter = grown(kept, 0, next_line(self.line), part);
+            return Cut { splitter, next };
+        }
+        let splitter = grown(kept, self.len, self.line, part);
+        Cut { splitter, next }
+    }
 }

@@ -1,9 +1,9 @@
--- `text::splitter::started` meets its contract, by computation.
+-- `text::splitter::Splitter::started` meets its contract, by computation.
 -- Assumes nothing.
 use mathlib.Core.Path.{refl}
 use Rattle.text.specs.Split.{fresh}
-use Rattle.text.proofs.splitter.started.Statement.{statement}
-use Rattle.text.proofs.splitter.started.Tie as tie
+use Rattle.text.proofs.splitter.Splitter.started.Statement.{statement}
+use Rattle.text.proofs.splitter.Splitter.started.Tie as tie
 
 returns : tie.Need-returns
 unfolding fresh
