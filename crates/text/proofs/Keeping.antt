@@ -65,7 +65,7 @@ after-room : (bytes : List ℕ) (n line b c : ℕ) (t : List ℕ) → n < kept �
     after (set bytes n b) (n + 1) line (c ∷ t) (min (suc (length t)) (kept - (n + 1))) ≡ after bytes n line (b ∷ c ∷ t) (min (suc (suc (length t))) (kept - n))
 after-room bytes n line b c t h =
     let m : min (suc (suc (length t))) (kept - n) ≡ suc (min (suc (length t)) (kept - (n + 1))) = omega arith in
-    rw (m, add-one n, suc-add, add-suc, sub-one, sub-one)
+    rw (m, add-one n, suc-add, add-suc) (simp sub-one)
 
 -- where there is none nothing is stored
 after-full : (bytes : List ℕ) (n line b c : ℕ) (t : List ℕ) → kept ≤ n →
@@ -73,7 +73,7 @@ after-full : (bytes : List ℕ) (n line b c : ℕ) (t : List ℕ) → kept ≤ n
 after-full bytes n line b c t h =
     let e : min (suc (length t)) (kept - n) ≡ 0 = omega arith in
     let f : min (suc (suc (length t))) (kept - n) ≡ 0 = omega arith in
-    rw (e, f, sub-one, sub-one)
+    rw (e, f) (simp sub-one)
 
 -- where one byte comes and there is room it is stored
 one-room : (bytes : List ℕ) (n line b : ℕ) → ltb n kept ≡ true → taken (underWay bytes n line) b ≡ after bytes n line (b ∷ []) (min 1 (kept - n))
@@ -101,5 +101,10 @@ through-part (b ∷ c ∷ t) bytes n line h u =
     through-on (underWay bytes n line) b (c ∷ t) e
     ∙ ap (λ (s : Splitter). through s (c ∷ t)) (taken-on bytes n line b e)
     ∙ by-test (ltb n kept)
-        (λ r. rw r (through-part (c ∷ t) (set bytes n b) (n + 1) line (omega arith) u′ ∙ after-room bytes n line b c t (ltb-true n kept r)))
-        (λ r. rw r (through-part (c ∷ t) bytes n line (omega arith) u′ ∙ after-full bytes n line b c t (ltb-false n kept r)))
+    (λ r. rw r (through-part (c ∷ t) (set bytes n b) (n + 1) line (omega arith) u′ ∙ after-room bytes n line b c t (ltb-true n kept r)))
+    (λ r. rw r (through-part (c ∷ t) bytes n line (omega arith) u′ ∙ after-full bytes n line b c t (ltb-false n kept r)))
+
+-- what the stores and the sum have made is that
+pub grown-is : (t bytes k : List ℕ) (n line m : ℕ) → m ≡ min (length t) (kept - n) → k ≡ sets bytes n (take m t) → (0 < length t) × (used t ≡ length t) →
+    _≡_ {A = Splitter} (record { kept = k; len = n + m; ended = eqb (getD t (length t - 1) 0) newline; line = line }) (through (underWay bytes n line) t)
+grown-is t bytes k n line m e f h = rw (f, e) (sym (through-part t bytes n line (h .0) (h .1)))

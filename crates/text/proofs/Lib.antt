@@ -1,2 +1,4 @@
 pub mod Scan
 pub mod Keeping
+pub mod Cutting
+pub mod SplitterUnique

@@ -44,11 +44,7 @@ pub fn line_end(text: &[u8], from: usize) -> usize
 fn next_line(line: u64) -> u64
     ensures { λ r. ⌜ r ≡ following line ⌝ }
 {
-    if line < LAST_LINE {
-        line + 1
-    } else {
-        line
-    }
+    if line < LAST_LINE { line + 1 } else { line }
 }
 
 // How many of n bytes there is room for where len are kept.
@@ -111,7 +107,10 @@ impl Splitter {
     {
         let next = line_end(chunk, from);
         if next == from {
-            return Cut { splitter: self, next };
+            return Cut {
+                splitter: self,
+                next,
+            };
         }
         let kept = self.kept;
         let part = &chunk[from..next];
