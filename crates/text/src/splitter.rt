@@ -4,13 +4,10 @@ ghost use mathlib.Core.Path.{_≡_};
 ghost use Prim.Native.Nat.{_+_, _-_, _≤_, _<_, min};
 ghost use lib.ListN.{length, take, drop};
 ghost use lib.Seq.{sets};
-ghost use Rattle.text.specs.Split.{fresh, following, underWay, through, used, cutOf};
+ghost use Rattle.text.specs.Split.{kept, fresh, following, underWay, through, used, cutOf};
 
 // So many bytes of a line are kept: the longest good line has as many, its newline among them.
 pub const KEPT: usize = 16;
-
-// The largest line number that fits.
-const LAST_LINE: u64 = 18_446_744_073_709_551_615;
 
 // The line that is being put together: its first bytes, how many they are, whether its newline has come, and its number from 1.
 pub struct Splitter {
@@ -44,12 +41,12 @@ pub fn line_end(text: &[u8], from: usize) -> usize
 fn next_line(line: u64) -> u64
     ensures { λ r. ⌜ r ≡ following line ⌝ }
 {
-    if line < LAST_LINE { line + 1 } else { line }
+    if line < u64::MAX { line + 1 } else { line }
 }
 
 // How many of n bytes there is room for where len are kept.
 fn room(len: usize, n: usize) -> usize
-    ensures { λ r. ⌜ r ≡ min n (16 - len) ⌝ }
+    ensures { λ r. ⌜ r ≡ min n (kept - len) ⌝ }
 {
     if KEPT <= len {
         return 0;
@@ -59,11 +56,11 @@ fn room(len: usize, n: usize) -> usize
 }
 
 // The kept bytes with the first n of a part put in from place len on.
-fn filled(kept: [u8; KEPT], len: usize, part: &[u8], n: usize) -> [u8; KEPT]
-    requires { ⌜ (n ≤ length (now part)) × (n ≤ 16 - len) ⌝ }
-    ensures { λ r. ⌜ r ≡ sets kept len (take n (now (part .entry))) ⌝ }
+fn filled(bytes: [u8; KEPT], len: usize, part: &[u8], n: usize) -> [u8; KEPT]
+    requires { ⌜ (n ≤ length (now part)) × (n ≤ kept - len) ⌝ }
+    ensures { λ r. ⌜ r ≡ sets bytes len (take n (now (part .entry))) ⌝ }
 {
-    let mut all = kept;
+    let mut all = bytes;
     let mut i = 0;
     while i < n {
         all[len + i] = part[i];
@@ -73,12 +70,12 @@ fn filled(kept: [u8; KEPT], len: usize, part: &[u8], n: usize) -> [u8; KEPT]
 }
 
 // A line under way, with len bytes kept, after a part of it that may end it.
-fn grown(kept: [u8; KEPT], len: usize, line: u64, part: &[u8]) -> Splitter
+fn grown(bytes: [u8; KEPT], len: usize, line: u64, part: &[u8]) -> Splitter
     requires { ⌜ (0 < length (now part)) × (used (now part) ≡ length (now part)) ⌝ }
-    ensures { λ r. ⌜ r ≡ through (underWay kept len line) (now (part .entry)) ⌝ }
+    ensures { λ r. ⌜ r ≡ through (underWay bytes len line) (now (part .entry)) ⌝ }
 {
     let n = room(len, part.len());
-    let all = filled(kept, len, part, n);
+    let all = filled(bytes, len, part, n);
     let last = part.len() - 1;
     Splitter {
         kept: all,

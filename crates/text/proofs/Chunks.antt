@@ -1,0 +1,101 @@
+-- How a text is cut into chunks does not matter, nor whether a chunk is gone through byte by byte or cut by cut.
+-- Assumes nothing.
+use Prim.Native.Nat.{ℕ, zero, suc, _+_, _-_, _≤_, _<_}
+use mathlib.Core.Path.{_≡_, refl, sym, ap, ap₂, _∙_}
+use mathlib.Core.Bool.{Bool, true, false}
+use mathlib.Core.List.{List, [], _∷_, _++_, append-nil, append-assoc}
+use native.Mathlib.Omega.{arith}
+use borrow.Author.Tests.{ltb-true, ltb-false}
+use lib.Dec.{eqb, ltb}
+use lib.ListN.{length, take, drop, length-drop, take-append-drop, drop-of-length-le}
+use lib.Seq.{drop-drop}
+use Rattle.laws.specs.Choice.{pick, by-test}
+use Rattle.terms.specs.Words.{newline}
+use Rattle.text.specs.declared.splitter.Splitter.{Splitter}
+use Rattle.text.specs.Split.{kept, taken, through, used, cutOf, joined, afterAll, Found, foundNow, foundLast, foundIn, foundOver, afterCuts, foundCuts}
+use Rattle.text.proofs.Cutting.{used-some, used-within}
+
+-- going through one run and then another is going through both as one
+pub after-append : (s : Splitter) (a b : List ℕ) → afterAll s (a ++ b) ≡ afterAll (afterAll s a) b
+unfolding afterAll
+after-append s [] b = refl
+after-append s (x ∷ a) b = after-append (taken s x) a b
+
+-- the lines that end in both are those that end in the first and then those that end in the second
+pub found-append : (s : Splitter) (a b : List ℕ) → foundIn s (a ++ b) ≡ foundIn s a ++ foundIn (afterAll s a) b
+unfolding afterAll foundIn
+found-append s [] b = refl
+found-append s (x ∷ a) b =
+    ap (λ (r : List Found). foundNow (taken s x) ++ r) (found-append (taken s x) a b)
+    ∙ sym (append-assoc (foundNow (taken s x)) (foundIn (taken s x) a) (foundIn (afterAll (taken s x) a) b))
+
+-- whatever the chunks are, the lines found are those of all the bytes as one chunk
+pub chunks-do-not-matter : (s : Splitter) (chunks : List (List ℕ)) → foundOver s chunks ≡ foundOver s (joined chunks ∷ [])
+unfolding foundOver joined afterAll foundIn
+chunks-do-not-matter s [] = refl
+chunks-do-not-matter s (c ∷ cs) =
+    ap (λ (r : List Found). foundIn s c ++ r) (chunks-do-not-matter (afterAll s c) cs)
+    ∙ sym (append-assoc (foundIn s c) (foundIn (afterAll s c) (joined cs)) (foundLast (afterAll (afterAll s c) (joined cs))))
+    ∙ ap₂ (λ (r : List Found) (x : Splitter). r ++ foundLast x) (sym (found-append s c (joined cs))) (sym (after-append s c (joined cs)))
+
+-- a cut goes through the bytes up to the line's end, one after another
+pub through-all : (s : Splitter) (t : List ℕ) → through s t ≡ afterAll s (take (used t) t)
+unfolding through afterAll used
+through-all s [] = refl
+through-all s (b ∷ t) = by-test (eqb b newline) (λ e. simp e) (λ e. simp (e, through-all (taken s b) t))
+
+-- after a byte the line has ended exactly where the byte is a newline
+pub taken-ended : (s : Splitter) (b : ℕ) → taken s b .ended ≡ eqb b newline
+unfolding taken
+taken-ended s b =
+    by-test (s .ended) (λ e. rw e) (λ e. rw e (by-test (ltb (s .len) kept) (λ f. rw f) (λ f. rw f)))
+
+-- so a byte that is no newline gives no line
+none-now : (s : Splitter) (b : ℕ) → eqb b newline ≡ false → foundNow (taken s b) ≡ []
+unfolding foundNow
+none-now s b e = rw (taken-ended s b, e)
+
+-- within a cut, before its last byte, no line ends
+pub none-inside : (s : Splitter) (t : List ℕ) (i : ℕ) → i < used t → foundIn s (take i t) ≡ []
+unfolding used foundIn
+none-inside s t zero h = refl
+none-inside s [] (suc i) h = refl
+none-inside s (b ∷ t) (suc i) h =
+    by-test (eqb b newline)
+    (λ e. absurd (omega (arith, rw e at h)))
+    (λ e. let g : suc i < suc (used t) = rw e at h in rw (none-now s b e) (none-inside (taken s b) t i (omega arith)))
+
+-- after a cut the rest of the chunk leads where the whole does
+pub after-cut : (s : Splitter) (t : List ℕ) → afterAll s t ≡ afterAll (through s t) (drop (used t) t)
+after-cut s t =
+    ap (afterAll s) (sym (take-append-drop (used t) t))
+    ∙ after-append s (take (used t) t) (drop (used t) t)
+    ∙ ap (λ (x : Splitter). afterAll x (drop (used t) t)) (sym (through-all s t))
+
+-- the lines that end in a chunk are that which the cut finds, if it finds one, and those that end in the rest
+pub found-cut : (s : Splitter) (t : List ℕ) → 0 < length t → foundIn s t ≡ foundNow (through s t) ++ foundIn (through s t) (drop (used t) t)
+unfolding foundIn through used
+found-cut s [] h = absurd (omega arith)
+found-cut s (b ∷ []) h = by-test (eqb b newline) (λ e. simp e) (λ e. simp e)
+found-cut s (b ∷ c ∷ t) h =
+    by-test (eqb b newline)
+    (λ e. simp e)
+    (λ e. rw e (ap (λ (r : List Found). r ++ foundIn (taken s b) (c ∷ t)) (none-now s b e) ∙ found-cut (taken s b) (c ∷ t) (omega arith)))
+
+module _ (s : Splitter) (chunk : List ℕ) (from : ℕ) where
+  -- the same of a cut from a place of a chunk on
+  pub cut-after : afterAll s (drop from chunk) ≡ afterAll (cutOf s chunk from .splitter) (drop (cutOf s chunk from .next) chunk)
+  unfolding cutOf
+  cut-after = after-cut s (drop from chunk) ∙ rw drop-drop
+
+  pub cut-found : from < length chunk →
+      foundIn s (drop from chunk) ≡ foundNow (cutOf s chunk from .splitter) ++ foundIn (cutOf s chunk from .splitter) (drop (cutOf s chunk from .next) chunk)
+  unfolding cutOf
+  cut-found h = found-cut s (drop from chunk) (omega (arith, length-drop from chunk)) ∙ rw drop-drop
+
+  -- a cut gets ahead, and not past the chunk's end
+  pub cut-ahead : from < length chunk → (from < cutOf s chunk from .next) × (cutOf s chunk from .next ≤ length chunk)
+  unfolding cutOf
+  cut-ahead h =
+      let l : length (drop from chunk) ≡ length chunk - from = length-drop from chunk in
+      omega (arith, used-some (drop from chunk) (omega arith), used-within (drop from chunk))
