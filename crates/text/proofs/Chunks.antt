@@ -99,3 +99,37 @@ module _ (s : Splitter) (chunk : List ℕ) (from : ℕ) where
   cut-ahead h =
       let l : length (drop from chunk) ≡ length chunk - from = length-drop from chunk in
       omega (arith, used-some (drop from chunk) (omega arith), used-within (drop from chunk))
+
+-- where nothing is left of the chunk the splitter stays
+after-end : (s : Splitter) (chunk : List ℕ) (from : ℕ) → length chunk ≤ from → afterAll s (drop from chunk) ≡ s
+unfolding afterAll
+after-end s chunk from h = rw (drop-of-length-le chunk h)
+
+-- and no line ends
+found-end : (s : Splitter) (chunk : List ℕ) (from : ℕ) → length chunk ≤ from → foundIn s (drop from chunk) ≡ []
+unfolding foundIn
+found-end s chunk from h = rw (drop-of-length-le chunk h)
+
+-- cuts from place to place until nothing is left, of which one for each byte is enough, lead where the bytes lead
+pub cuts-after : (n : ℕ) (s : Splitter) (chunk : List ℕ) (from : ℕ) → length chunk ≤ from + n → afterCuts n s chunk from ≡ afterAll s (drop from chunk)
+unfolding afterCuts
+cuts-after zero s chunk from h = sym (after-end s chunk from (omega arith))
+cuts-after (suc n) s chunk from h =
+    by-test (ltb from (length chunk))
+    (λ e.
+    let p = cut-ahead s chunk from (ltb-true from (length chunk) e) in
+    rw e (cuts-after n (cutOf s chunk from .splitter) chunk (cutOf s chunk from .next) (omega arith) ∙ sym (cut-after s chunk from)))
+    (λ e. rw e (sym (after-end s chunk from (ltb-false from (length chunk) e))))
+
+-- and find exactly the lines that end in the chunk from the place on
+pub cuts-find : (n : ℕ) (s : Splitter) (chunk : List ℕ) (from : ℕ) → length chunk ≤ from + n → foundCuts n s chunk from ≡ foundIn s (drop from chunk)
+unfolding foundCuts
+cuts-find zero s chunk from h = sym (found-end s chunk from (omega arith))
+cuts-find (suc n) s chunk from h =
+    by-test (ltb from (length chunk))
+    (λ e.
+    let l : from < length chunk = ltb-true from (length chunk) e in
+    let p = cut-ahead s chunk from l in
+    let q = cuts-find n (cutOf s chunk from .splitter) chunk (cutOf s chunk from .next) (omega arith) in
+    rw e (ap (λ (r : List Found). foundNow (cutOf s chunk from .splitter) ++ r) q ∙ sym (cut-found s chunk from l)))
+    (λ e. rw e (sym (found-end s chunk from (ltb-false from (length chunk) e))))

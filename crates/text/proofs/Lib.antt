@@ -4,4 +4,5 @@ pub mod Cutting
 pub mod SplitterUnique
 pub mod TextLines
 pub mod Chunks
+pub mod Held
 pub mod Found

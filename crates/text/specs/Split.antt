@@ -1,5 +1,6 @@
 -- The lines of a text, and the splitter that finds them, byte by byte (01, Lines).
-use Prim.Native.Nat.{ℕ, zero, suc, _+_, _-_, _^_}
+use Prim.Native.Nat.{ℕ, zero, suc, _+_, _-_, _^_, _≤_}
+use mathlib.Core.Path.{_≡_}
 use mathlib.Core.Bool.{Bool, true, false, not, _&&_}
 use mathlib.Core.List.{List, [], _∷_, _++_}
 use lib.Dec.{eqb, ltb}
@@ -67,6 +68,11 @@ joined (l ∷ ls) = l ++ joined ls
 unfoldable pub afterAll : Splitter → List ℕ → Splitter
 afterAll s [] = s
 afterAll s (b ∷ t) = afterAll (taken s b) t
+
+-- what a caller may count on: no more bytes are kept than there is room for, and the room is as large as it was
+pub record Sized (s : Splitter) : Type 0 where
+  pub within : s .len ≤ kept
+  pub room : length (s .kept) ≡ kept
 
 -- a line as a caller finds it in the splitter: its number, and the bytes kept of it
 pub record Found : Type 0 where
