@@ -12,7 +12,7 @@ use lib.Seq.{drop-drop}
 use Rattle.laws.specs.Choice.{pick, by-test}
 use Rattle.terms.specs.Words.{newline}
 use Rattle.text.specs.declared.splitter.Splitter.{Splitter}
-use Rattle.text.specs.Split.{kept, taken, through, used, cutOf, joined, afterAll, Found, foundNow, foundLast, foundIn, foundOver, afterCuts, foundCuts}
+use Rattle.text.specs.Split.{kept, taken, through, used, cutOf, joined, afterAll, Found, foundNow, foundLast, foundIn, foundOver, afterCuts, foundCuts, foundByCuts}
 use Rattle.text.proofs.Cutting.{used-some, used-within}
 
 -- going through one run and then another is going through both as one
@@ -133,3 +133,11 @@ cuts-find (suc n) s chunk from h =
     let q = cuts-find n (cutOf s chunk from .splitter) chunk (cutOf s chunk from .next) (omega arith) in
     rw e (ap (λ (r : List Found). foundNow (cutOf s chunk from .splitter) ++ r) q ∙ sym (cut-found s chunk from l)))
     (λ e. rw e (sym (found-end s chunk from (ltb-false from (length chunk) e))))
+
+-- so a caller who cuts every chunk finds what is found byte by byte
+pub cuts-do-not-matter : (s : Splitter) (chunks : List (List ℕ)) → foundByCuts s chunks ≡ foundOver s chunks
+unfolding foundByCuts foundOver
+cuts-do-not-matter s [] = refl
+cuts-do-not-matter s (c ∷ cs) =
+    rw (cuts-find (length c) s c 0 (omega arith), cuts-after (length c) s c 0 (omega arith))
+    (ap (λ (r : List Found). foundIn s c ++ r) (cuts-do-not-matter (afterAll s c) cs))

@@ -11,8 +11,8 @@ use lib.ListN.{length, take}
 use Rattle.laws.specs.Choice.{pick, by-test}
 use Rattle.terms.specs.Words.{newline}
 use Rattle.text.specs.declared.splitter.Splitter.{Splitter}
-use Rattle.text.specs.Split.{inFront, linesOf, kept, following, fresh, taken, joined, afterAll, Sized, Found, foundAt, foundNow, foundLast, foundIn, foundOver, numbered}
-use Rattle.text.proofs.Chunks.{chunks-do-not-matter, taken-ended}
+use Rattle.text.specs.Split.{inFront, linesOf, kept, following, fresh, taken, joined, afterAll, Sized, Found, foundAt, foundNow, foundLast, foundIn, foundOver, numbered, foundByCuts}
+use Rattle.text.proofs.Chunks.{chunks-do-not-matter, cuts-do-not-matter, taken-ended}
 use Rattle.text.proofs.Held.{Holds, holds-first, holds-more, fresh-sized}
 
 -- no line is under way, and n lines have come
@@ -178,3 +178,7 @@ fresh-between = record { over = refl; count = refl; room = refl }
 -- THE SPLITTER FINDS THE LINES: whatever the chunks, the lines found are those of the text, in order, numbered from 1, with their first 16 bytes
 pub finds-lines : (chunks : List (List ℕ)) → length (linesOf (joined chunks)) < 2 ^ 64 → foundOver fresh chunks ≡ numbered 1 (linesOf (joined chunks))
 finds-lines chunks h = chunks-do-not-matter fresh chunks ∙ over (joined chunks) ∙ finds (joined chunks) .0 fresh 0 fresh-between (omega arith)
+
+-- and so are those that a caller finds who cuts every chunk
+pub cuts-find-lines : (chunks : List (List ℕ)) → length (linesOf (joined chunks)) < 2 ^ 64 → foundByCuts fresh chunks ≡ numbered 1 (linesOf (joined chunks))
+cuts-find-lines chunks h = cuts-do-not-matter fresh chunks ∙ finds-lines chunks h

@@ -120,6 +120,11 @@ foundCuts (suc n) s chunk from =
     (foundNow (cutOf s chunk from .splitter) ++ foundCuts n (cutOf s chunk from .splitter) chunk (cutOf s chunk from .next))
     []
 
+-- the lines of an input that comes in chunks, for a caller who cuts every chunk from its first byte on
+unfoldable pub foundByCuts : Splitter → List (List ℕ) → List Found
+foundByCuts s [] = foundLast s
+foundByCuts s (c ∷ cs) = foundCuts (length c) s c 0 ++ foundByCuts (afterCuts (length c) s c 0) cs
+
 -- whether bytes are one line: there is a byte, and no newline before the last
 unfoldable pub oneLine : List ℕ → Bool
 oneLine [] = false
