@@ -60,6 +60,10 @@ going : (s : Splitter) → s .ended ≡ false → s ≡ underWay (s .kept) (s .l
 unfolding underWay
 going s e = λ i. record { kept = s .kept; len = s .len; ended = e i; line = s .line }
 
+-- the bytes from a place to another
+abbrev part : List ℕ → ℕ → ℕ → List ℕ
+part t from next = take (next - from) (drop from t)
+
 module _ (t : List ℕ) (from next : ℕ) (h : next ≡ from + used (drop from t)) where
   -- nothing is left of the chunk
   pub cut-none : (s : Splitter) → next ≡ from → _≡_ {A = Cut} (record { splitter = s; next = next }) (cutOf s t from)
@@ -74,19 +78,19 @@ module _ (t : List ℕ) (from next : ℕ) (h : next ≡ from + used (drop from t
     cut-within = omega (arith, used-within (drop from t), length-drop from t)
 
     -- the part from the place to the line's end is the line's bytes
-    part-is : take (next - from) (drop from t) ≡ take (used (drop from t)) (drop from t)
+    part-is : part t from next ≡ take (used (drop from t)) (drop from t)
     part-is = let e : next - from ≡ used (drop from t) = omega arith in rw e
 
     -- how many these are
-    part-long : length (take (next - from) (drop from t)) ≡ used (drop from t)
+    part-long : length (part t from next) ≡ used (drop from t)
     part-long = ap length part-is ∙ length-take-le (used (drop from t)) (drop from t) (used-within (drop from t))
 
     -- they are bytes, and have no newline before the last
-    pub cut-part : (0 < length (take (next - from) (drop from t))) × (used (take (next - from) (drop from t)) ≡ length (take (next - from) (drop from t)))
+    pub cut-part : (0 < length (part t from next)) × (used (part t from next) ≡ length (part t from next))
     cut-part = (omega (arith, part-long), ap used part-is ∙ line-alone (drop from t) ∙ sym part-long)
 
     -- a line goes on in the chunk
-    pub cut-on : (s : Splitter) (g : Splitter) → s .ended ≡ false → g ≡ through (underWay (s .kept) (s .len) (s .line)) (take (next - from) (drop from t)) →
+    pub cut-on : (s : Splitter) (g : Splitter) → s .ended ≡ false → g ≡ through (underWay (s .kept) (s .len) (s .line)) (part t from next) →
         _≡_ {A = Cut} (record { splitter = g; next = next }) (cutOf s t from)
     unfolding cutOf
     cut-on s g e q =
@@ -94,9 +98,10 @@ module _ (t : List ℕ) (from next : ℕ) (h : next ≡ from + used (drop from t
         λ i. record { splitter = r i; next = h i }
 
     -- a line begins in the chunk
-    pub cut-new : (s : Splitter) (g : Splitter) (l : ℕ) → s .ended ≡ true → l ≡ following (s .line) → g ≡ through (underWay (s .kept) 0 l) (take (next - from) (drop from t)) →
+    pub cut-new : (s : Splitter) (g : Splitter) (l : ℕ) → s .ended ≡ true → l ≡ following (s .line) → g ≡ through (underWay (s .kept) 0 l) (part t from next) →
         _≡_ {A = Cut} (record { splitter = g; next = next }) (cutOf s t from)
     unfolding cutOf
     cut-new s g l e f q =
-        let r : g ≡ through s (drop from t) = q ∙ ap (λ (n : ℕ). through (underWay (s .kept) 0 n) (take (next - from) (drop from t))) f ∙ begun s (take (next - from) (drop from t)) e (cut-part .0) ∙ ap (through s) part-is ∙ through-line s (drop from t) in
-        λ i. record { splitter = r i; next = h i }
+        let r : through (underWay (s .kept) 0 l) (part t from next) ≡ through s (part t from next) = rw f (begun s (part t from next) e (cut-part .0)) in
+        let w : g ≡ through s (drop from t) = q ∙ r ∙ ap (through s) part-is ∙ through-line s (drop from t) in
+        λ i. record { splitter = w i; next = h i }

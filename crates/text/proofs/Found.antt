@@ -12,8 +12,9 @@ use Rattle.laws.specs.Choice.{pick, by-test}
 use Rattle.terms.specs.Words.{newline}
 use Rattle.text.specs.declared.splitter.Splitter.{Splitter}
 use Rattle.text.specs.Split.{inFront, linesOf, kept, following, fresh, taken, joined, afterAll, Sized, Found, foundAt, foundNow, foundLast, foundIn, foundOver, numbered, foundByCuts}
-use Rattle.text.proofs.Chunks.{chunks-do-not-matter, cuts-do-not-matter, taken-ended}
-use Rattle.text.proofs.Held.{Holds, holds-first, holds-more, fresh-sized}
+use Rattle.text.proofs.Chunks.{chunks-do-not-matter}
+use Rattle.text.proofs.Cuts.{cuts-do-not-matter, taken-ended}
+use Rattle.text.proofs.Held.{Holds, holds-first, holds-more}
 
 -- no line is under way, and n lines have come
 record Between (s : Splitter) (n : ℕ) : Type 0 where

@@ -13,7 +13,7 @@ use lib.Seq.{take-all, take-append-le, take-suc-set}
 use Rattle.laws.specs.Choice.{pick, by-test}
 use Rattle.text.specs.declared.splitter.Splitter.{Splitter}
 use Rattle.text.specs.Split.{kept, fresh, following, taken, through, used, cutOf, afterAll, Sized}
-use Rattle.text.proofs.Chunks.{through-all}
+use Rattle.text.proofs.Cuts.{through-all}
 
 -- a splitter that has seen no byte is sized so
 pub fresh-sized : Sized fresh

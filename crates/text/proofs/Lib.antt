@@ -4,5 +4,6 @@ pub mod Cutting
 pub mod SplitterUnique
 pub mod TextLines
 pub mod Chunks
+pub mod Cuts
 pub mod Held
 pub mod Found

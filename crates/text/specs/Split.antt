@@ -83,7 +83,7 @@ pub record Found : Type 0 where
 unfoldable pub foundAt : Splitter → Found
 foundAt s = record { number = s .line; bytes = take (s .len) (s .kept) }
 
--- after a byte a caller finds the line that is in the splitter if it has its newline, and else none
+-- after a byte, or a cut, a caller finds the line that is in the splitter if it has its newline, and else none
 unfoldable pub foundNow : Splitter → List Found
 foundNow s = pick (s .ended) (foundAt s ∷ []) []
 
