@@ -2,14 +2,14 @@
 -- Assumes nothing.
 use Prim.Native.Nat.{ℕ, zero, suc, _+_, _-_, _≤_, _<_}
 use mathlib.Core.Path.{_≡_, refl, sym, ap, _∙_}
-use mathlib.Core.Bool.{Bool, true, false}
+use mathlib.Core.Bool.{false}
 use mathlib.Core.List.{List, [], _∷_, _++_}
 use native.Mathlib.Omega.{arith}
 use borrow.Author.Tests.{ltb-true, ltb-false}
 use lib.Dec.{eqb, ltb}
 use lib.ListN.{length, take, drop, length-drop, take-append-drop, drop-of-length-le}
 use lib.Seq.{drop-drop}
-use Rattle.laws.specs.Choice.{pick, by-test}
+use Rattle.laws.specs.Choice.{by-test}
 use Rattle.terms.specs.Words.{newline}
 use Rattle.text.specs.declared.splitter.Splitter.{Splitter}
 use Rattle.text.specs.Split.{kept, taken, through, used, cutOf, afterAll, Found, foundNow, foundIn, foundOver, afterCuts, foundCuts, foundByCuts}
@@ -77,6 +77,7 @@ module _ (s : Splitter) (chunk : List ℕ) (from : ℕ) where
   unfolding cutOf
   cut-after = after-cut s (drop from chunk) ∙ rw drop-drop
 
+  -- and of the lines that it finds
   pub cut-found : from < length chunk →
       foundIn s (drop from chunk) ≡ foundNow (cutOf s chunk from .splitter) ++ foundIn (cutOf s chunk from .splitter) (drop (cutOf s chunk from .next) chunk)
   unfolding cutOf

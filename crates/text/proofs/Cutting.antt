@@ -1,15 +1,14 @@
 -- What one cut goes through: the bytes up to and with the next newline, which are a part of the chunk by themselves.
 -- Assumes nothing.
-use Prim.Native.Nat.{ℕ, suc, _+_, _-_, _≤_, _<_}
+use Prim.Native.Nat.{ℕ, _+_, _-_, _≤_, _<_}
 use mathlib.Core.Path.{_≡_, refl, sym, ap, ap₂, _∙_}
-use mathlib.Core.Bool.{Bool, true, false}
+use mathlib.Core.Bool.{true, false}
 use mathlib.Core.List.{List, [], _∷_}
-use native.Mathlib.Nat.{add-zero}
 use native.Mathlib.Omega.{arith}
 use lib.Dec.{eqb}
 use lib.ListN.{length, take, drop, length-drop}
 use lib.Seq.{length-take-le}
-use Rattle.laws.specs.Choice.{pick, by-test}
+use Rattle.laws.specs.Choice.{by-test}
 use Rattle.terms.specs.Words.{newline}
 use Rattle.text.specs.declared.splitter.Splitter.{Splitter}
 use Rattle.text.specs.declared.splitter.Cut.{Cut}

@@ -2,16 +2,16 @@
 -- Assumes nothing.
 use Prim.Native.Nat.{ℕ, suc, _+_, _-_, _^_, _≤_, _<_}
 use mathlib.Core.Path.{_≡_, refl, sym, ap, ap₂, _∙_}
-use mathlib.Core.Bool.{Bool, true, false}
+use mathlib.Core.Bool.{true, false}
 use mathlib.Core.List.{List, [], _∷_, _++_, append-assoc}
 use native.Mathlib.Omega.{arith}
 use borrow.Author.Tests.{lt-ltb}
 use lib.Dec.{eqb, ltb}
 use lib.ListN.{length, take}
-use Rattle.laws.specs.Choice.{pick, by-test}
+use Rattle.laws.specs.Choice.{by-test}
 use Rattle.terms.specs.Words.{newline}
 use Rattle.text.specs.declared.splitter.Splitter.{Splitter}
-use Rattle.text.specs.Split.{inFront, linesOf, kept, following, fresh, taken, joined, afterAll, Sized, Found, foundAt, foundNow, foundLast, foundIn, foundOver, numbered, foundByCuts}
+use Rattle.text.specs.Split.{inFront, linesOf, kept, following, fresh, taken, joined, afterAll, Found, foundAt, foundNow, foundLast, foundIn, foundOver, numbered, foundByCuts}
 use Rattle.text.proofs.Chunks.{chunks-do-not-matter}
 use Rattle.text.proofs.Cuts.{cuts-do-not-matter, taken-ended}
 use Rattle.text.proofs.Held.{Holds, holds-first, holds-more}

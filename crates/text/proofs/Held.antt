@@ -1,18 +1,18 @@
 -- What the splitter holds after some bytes: room for 16 and no more than 16 kept, and of the line under way its first bytes.
 -- Assumes nothing.
-use Prim.Native.Nat.{ℕ, suc, _+_, _≤_, _<_, min}
-use mathlib.Core.Path.{_≡_, refl, sym, ap, _∙_, subst}
-use mathlib.Core.Bool.{Bool, true, false}
+use Prim.Native.Nat.{ℕ, _+_, _≤_, _<_, min}
+use mathlib.Core.Path.{_≡_, refl, sym, _∙_}
+use mathlib.Core.Bool.{true, false}
 use mathlib.Core.List.{List, [], _∷_, _++_}
 use native.Mathlib.Numerals.{add-one}
 use native.Mathlib.Omega.{arith}
 use borrow.Author.Tests.{ltb-true, ltb-false}
-use lib.Dec.{eqb, ltb}
+use lib.Dec.{ltb}
 use lib.ListN.{length, take, drop, set, length-set, length-append}
 use lib.Seq.{take-all, take-append-le, take-suc-set}
-use Rattle.laws.specs.Choice.{pick, by-test}
+use Rattle.laws.specs.Choice.{by-test}
 use Rattle.text.specs.declared.splitter.Splitter.{Splitter}
-use Rattle.text.specs.Split.{kept, fresh, following, taken, through, used, cutOf, afterAll, Sized}
+use Rattle.text.specs.Split.{kept, fresh, taken, used, cutOf, afterAll, Sized}
 use Rattle.text.proofs.Cuts.{through-all}
 
 -- a splitter that has seen no byte is sized so
@@ -37,7 +37,11 @@ unfolding afterAll
 after-sized s [] h = h
 after-sized s (b ∷ t) h = after-sized (taken s b) t (taken-sized s b h)
 
--- and a cut
+-- so from the start on, whatever bytes have come
+pub fits : (t : List ℕ) → Sized (afterAll fresh t)
+fits t = after-sized fresh t fresh-sized
+
+-- a cut leaves it so too
 pub cut-sized : (s : Splitter) (chunk : List ℕ) (from : ℕ) → Sized s → Sized (cutOf s chunk from .splitter)
 unfolding cutOf
 cut-sized s chunk from h = rw (through-all s (drop from chunk)) (after-sized s (take (used (drop from chunk)) (drop from chunk)) h)

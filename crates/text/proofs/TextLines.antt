@@ -1,7 +1,7 @@
 -- The lines of a text are what they should be: joined they are the text, each is one line, all but the last have a newline; and no other lines are.
 -- Assumes nothing.
-use Prim.Native.Nat.{ℕ, suc, _+_, _<_}
-use mathlib.Core.Path.{_≡_, refl, sym, ap, _∙_}
+use Prim.Native.Nat.{ℕ, _+_, _<_}
+use mathlib.Core.Path.{_≡_, refl, ap, _∙_}
 use mathlib.Core.Bool.{Bool, true, false, not, _&&_}
 use mathlib.Core.List.{List, [], _∷_, _++_, dropLast}
 use native.Mathlib.Omega.{arith}
@@ -9,7 +9,7 @@ use borrow.Author.Tests.{not-true}
 use lib.Dec.{eqb}
 use lib.ListN.{length, take, drop, length-drop}
 use lib.Seq.{drop-drop}
-use Rattle.laws.specs.Choice.{pick, by-test, not-both}
+use Rattle.laws.specs.Choice.{by-test, not-both}
 use Rattle.terms.specs.Words.{newline}
 use Rattle.text.specs.Split.{inFront, linesOf, used, joined, oneLine, hasNewline, every}
 
