@@ -23,7 +23,7 @@ pub struct Cut {
     pub next: usize,
 }
 
-// The place after the line that starts at a place of a text: after its newline, or the text's end where none is left.
+// The place after the line that starts at a place of a text: after its newline, or the text's end where it has none. A place past the end stays.
 pub fn line_end(text: &[u8], from: usize) -> usize
     ensures { λ r. ⌜ r ≡ from + used (drop from (now (text .entry))) ⌝ }
 {
