@@ -1,0 +1,9 @@
+pub mod Scan
+pub mod Keeping
+pub mod Cutting
+pub mod SplitterUnique
+pub mod TextLines
+pub mod Chunks
+pub mod Cuts
+pub mod Held
+pub mod Found
