@@ -1,15 +1,14 @@
 -- Digits read one by one: what is left of them decides as the whole does.
 -- Assumes nothing.
 use Prim.Native.Nat.{ℕ, suc, _+_, _-_, _*_, _<_, _≤_}
-use mathlib.Core.Path.{_≡_, refl, sym, ap, _∙_}
-use mathlib.Core.Bool.{Bool, true, false}
+use mathlib.Core.Path.{_≡_, refl, ap, _∙_}
+use mathlib.Core.Bool.{true, false}
 use mathlib.Core.List.{List, [], _∷_}
 use native.Mathlib.Omega.{arith}
 use lib.ListN.{length, getD, drop, drop-of-length-le}
 use lib.Dec.{leb}
 use borrow.Author.Tests.{le-leb, lt-leb, leb-true}
 use Rattle.laws.specs.Choice.{by-test, not-both}
-use Rattle.text.specs.declared.reader.Numeral.{Numeral}
 use Rattle.text.specs.declared.reader.Numeral.the-variants.{Is, Missing}
 use Rattle.text.specs.Lines.{isDigit, digitsOf, valueFrom}
 use Rattle.text.specs.Fields.{digitAhead, digitsAt}

@@ -1,7 +1,7 @@
 -- A line from a place on: it begins with the byte at that place, or nothing is left of it. So each definition goes by the byte at a place, as the code does.
 -- Assumes nothing.
-use Prim.Native.Nat.{ℕ, suc, _+_, _-_, _<_, _≤_}
-use mathlib.Core.Path.{_≡_, refl, sym, ap, _∙_}
+use Prim.Native.Nat.{ℕ, _+_, _<_}
+use mathlib.Core.Path.{_≡_, sym, ap, _∙_}
 use mathlib.Core.Bool.{Bool, true, false, not}
 use mathlib.Core.List.{List, [], _∷_}
 use native.Mathlib.Numerals.{add-one}
@@ -13,7 +13,7 @@ use Rattle.laws.specs.Choice.{pick, by-test}
 use Rattle.text.specs.declared.reader.Reading.{Reading}
 use Rattle.text.specs.declared.reader.Reading.the-variants.{Bad}
 use Rattle.text.specs.declared.reader.Numeral.{Numeral}
-use Rattle.text.specs.declared.reader.Numeral.the-variants.{Is, Missing}
+use Rattle.text.specs.declared.reader.Numeral.the-variants.{Missing}
 use Rattle.text.specs.Lines.{isDigit, digitsOf, shortest, ending}
 use Rattle.text.specs.Fields.{digitAhead, firstLetter, digitsAt, numberAt}
 use Rattle.terms.specs.Words.{tab, newline}

@@ -1,7 +1,9 @@
 // The line reader: what one line of requests or of a history says (01, Lines).
-use terms::letters::{Letter, Lettered};
+use terms::letters::Letter;
+use terms::letters::Lettered;
 use terms::limits::LAST_NUMBER;
-use terms::words::{NEWLINE, TAB};
+use terms::words::NEWLINE;
+use terms::words::TAB;
 ghost use mathlib.Core.Path.{_≡_};
 ghost use lib.ListN.{drop};
 ghost use Rattle.terms.specs.Letters.{ofRequests, ofHistories};
@@ -34,7 +36,11 @@ fn is_digit(byte: u8) -> bool
 fn digit_ahead(line: &[u8], at: usize) -> bool
     ensures { λ r. ⌜ r ≡ digitAhead (drop at (now (line .entry))) ⌝ }
 {
-    if at < line.len() { is_digit(line[at]) } else { false }
+    if at < line.len() {
+        is_digit(line[at])
+    } else {
+        false
+    }
 }
 
 // Whether the digits from a place on have no leading zero except the single 0, and there is one.

@@ -12,9 +12,6 @@ use Rattle.text.specs.Fields.{digitsAt}
 use Rattle.text.proofs.Digits.{digits-over, more-here, stop-here, stop-past, digit-bounds}
 use Rattle.text.proofs.reader.digits_at.Statement.{statement}
 use Rattle.text.proofs.reader.digits_at.Tie as tie
-use Rattle.text.proofs.reader.digits_at.Reads as reads
-use Rattle.text.proofs.reader.digits_at.Lts as lts
-use Rattle.text.proofs.reader.is_digit.Reads as is-digit-reads
 
 abbrev Inv-loop : tie.InvT-loop
 Inv-loop line from most value₀ next₀ value next = (value ≤ most) × (digitsAt most value next (drop next line) ≡ digitsAt most 0 from (drop from line))
@@ -22,7 +19,6 @@ Inv-loop line from most value₀ next₀ value next = (value ≤ most) × (digit
 abbrev μ-loop : tie.MeasureT-loop
 μ-loop line from most value₀ next₀ value next = length line - next
 
--- src/reader.rt:62:5
 -- the byte of a further turn is a digit
 digit : (c : tie.Else1 Inv-loop μ-loop) → isDigit (getD (c .before .before .before .before .before .before .args .line .now) (c .before .before .before .before .loop .next) 0) ≡ true
 digit c = sym (c .before .is-digit .ensures) ∙ not-false _ (c .if1 .left)
@@ -30,65 +26,51 @@ digit c = sym (c .before .is-digit .ensures) ∙ not-false _ (c .if1 .left)
 loop-holds : tie.Need-loop-holds Inv-loop μ-loop
 loop-holds c = search needs
 
--- src/reader.rt:63:20
 shared-slice-read-byte : tie.Need-shared-slice-read-byte Inv-loop μ-loop
 shared-slice-read-byte c = search needs
 
--- src/reader.rt:64:13
 is-digit-requires : tie.Need-is-digit-requires Inv-loop μ-loop
 is-digit-requires c κs = search needs
 
--- src/reader.rt:65:13
 returns : tie.Need-returns Inv-loop μ-loop
 returns c =
     let l = c .before .before .before .before .loop in
     sym (stop-here _ (l .value) (l .next) _ (c .before .before .before .loop-test .taken) (sym (c .before .is-digit .ensures) ∙ not-true _ (c .if1 .taken)) (l .inv .0)) ∙ l .inv .1
 
--- src/reader.rt:67:21
 cast-more : tie.Need-cast-more Inv-loop μ-loop
 cast-more c = search needs
 
--- src/reader.rt:67:20
 mul-more : tie.Need-mul-more Inv-loop μ-loop
 mul-more c = search needs
 
--- src/reader.rt:67:44
 sub-more : tie.Need-sub-more Inv-loop μ-loop
 sub-more c = omega (arith, digit-bounds _ (digit c))
 
--- src/reader.rt:67:43
 cast-more-2 : tie.Need-cast-more-2 Inv-loop μ-loop
 cast-more-2 c = omega (arith, digit-bounds _ (digit c))
 
--- src/reader.rt:67:20
 add-more : tie.Need-add-more Inv-loop μ-loop
 add-more c = omega (arith, digit-bounds _ (digit c))
 
--- src/reader.rt:69:13
 returns-2 : tie.Need-returns-2 Inv-loop μ-loop
 returns-2 c =
     let l = c .before .before .before .before .before .loop in
     sym (more-here _ (l .value) (l .next) _ (c .before .before .before .before .loop-test .taken) (digit (c .before)) ∙ digits-over _ _ _ _ (c .if2 .taken)) ∙ l .inv .1
 
--- src/reader.rt:71:17
 cast-value : tie.Need-cast-value Inv-loop μ-loop
 cast-value c = search needs
 
--- src/reader.rt:72:9
 add-next : tie.Need-add-next Inv-loop μ-loop
 add-next c = search needs
 
--- src/reader.rt:62:5
 loop-less : tie.Need-loop-less Inv-loop μ-loop
 loop-less c = search needs
 
--- src/reader.rt:62:5
 loop-again : tie.Need-loop-again Inv-loop μ-loop
 loop-again c =
     let l = c .before .before .before .before .before .loop in
     (c .if2 .left, sym (more-here _ (l .value) (l .next) _ (c .before .before .before .before .loop-test .taken) (digit (c .before))) ∙ l .inv .1)
 
--- src/reader.rt:57:1
 returns-3 : tie.Need-returns-3 Inv-loop μ-loop
 returns-3 c =
     let l = c .before .loop in
