@@ -3,3 +3,7 @@ pub mod Digits
 pub mod NumberFields
 pub mod LineParts
 pub mod ReaderUnique
+pub mod DecimalLaws
+pub mod WrittenFields
+pub mod ReadBack
+pub mod GoodLine
