@@ -5,10 +5,10 @@ use mathlib.Core.Path.{_≡_, refl, sym, ap, _∙_}
 use mathlib.Core.Bool.{Bool, true, false, _&&_, not}
 use mathlib.Core.List.{List, [], _∷_, _++_, append-assoc, append-nil}
 use native.Mathlib.Omega.{arith}
-use lib.Dec.{eqb, ltb, leb}
+use lib.Dec.{eqb, ltb}
 use lib.ListN.{length, length-append}
 use borrow.Author.Tests.{ltb-true, ltb-false, lt-ltb, le-ltb, le-leb, eqb-false, ne-eqb, not-true}
-use Rattle.laws.specs.Choice.{pick, by-test, not-both}
+use Rattle.laws.specs.Choice.{by-test, not-both}
 use Rattle.text.specs.Lines.{isDigit, valueFrom, shortest}
 use Rattle.text.specs.Decimal.{digit, digitsIn, decimal}
 use Rattle.text.proofs.Digits.{value-grows, digit-bounds}
@@ -88,7 +88,7 @@ leads-in (suc p) n z h =
 -- a number is written with no leading zero except the single 0
 pub shortest-in : (places n : ℕ) → n < tens (suc places) → shortest (digitsIn (suc places) n) ≡ true
 unfolding digitsIn shortest
-shortest-in p n h = 
+shortest-in p n h =
     by-test (ltb n 10) (λ s. rw s)
     (λ s. rw s (leads-shortest _ (leads-append (digitsIn p (n / 10)) (digit (n % 10) ∷ []) (leads-in p (n / 10) (omega (arith, ltb-false n 10 s)) (omega arith)))))
 

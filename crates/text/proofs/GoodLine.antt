@@ -42,7 +42,8 @@ cell-there l m given job cell t h f =
       job-is = s .1;
       written = rw h (f .written ∙ rw (s .2, g .0));
       small = rw (s .2) at (f .small);
-      unused = λ k. not-both h k }
+      unused = λ k. not-both h k;
+    }
 
 -- a line without a cell ends where its cell would be
 cell-not-there : (l m : Letter) (given job cell : ℕ) (t : List ℕ) → hasCell l ≡ false → ending t (Good l given 0) ≡ Good m job cell → CellWritten l m given job cell t
@@ -78,7 +79,8 @@ job-there l m job cell t h f =
       jobs = rw (w .job-is) at (f .small);
       cells = w .small;
       no-job = λ k. not-both h k;
-      no-cell = w .unused }
+      no-cell = w .unused;
+    }
 
 -- a line without a job
 job-not-there : (l m : Letter) (job cell : ℕ) (t : List ℕ) → hasJob l ≡ false → CellWritten l m 0 job cell t → FieldsWritten l m job cell t
@@ -91,7 +93,8 @@ job-not-there l m job cell t h w =
       jobs = omega arith;
       cells = w .small;
       no-job = λ k. sym j;
-      no-cell = w .unused }
+      no-cell = w .unused;
+    }
 
 fields-written : (l m : Letter) (job cell : ℕ) (t : List ℕ) → jobPart l t ≡ Good m job cell → FieldsWritten l m job cell t
 unfolding jobPart
@@ -111,9 +114,9 @@ letter-written which b t Unknown m job cell k e = not-bad e
 letter-written which b t (Known l) m job cell k e =
     by-test (which l)
     (λ w.
-      let f = fields-written l m job cell t (rw w at e) in
-      let line : b ∷ t ≡ lineRecord l job cell = rw (byte-of-letter b l k, append-assoc (field (hasJob l) job) (field (hasCell l) cell) (newline ∷ [])) (ap (λ u. b ∷ u) (f .written)) in
-      rw (← f .letter) (line, w, f .jobs, f .cells, f .no-job, f .no-cell))
+    let f = fields-written l m job cell t (rw w at e) in
+    let line : b ∷ t ≡ lineRecord l job cell = rw (byte-of-letter b l k, append-assoc (field (hasJob l) job) (field (hasCell l) cell) (newline ∷ [])) (ap (λ u. b ∷ u) (f .written)) in
+    rw (← f .letter) (line, w, f .jobs, f .cells, f .no-job, f .no-cell))
     (λ w. not-bad (rw w at e))
 
 -- a good line is the record of its letter and fields

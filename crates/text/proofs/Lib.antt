@@ -7,3 +7,5 @@ pub mod DecimalLaws
 pub mod WrittenFields
 pub mod ReadBack
 pub mod GoodLine
+pub mod ShortLines
+pub mod LineExamples

@@ -8,7 +8,7 @@ use native.Mathlib.Omega.{arith}
 use Rattle.laws.specs.Choice.{by-test}
 use Rattle.terms.specs.declared.letters.Letter.{Letter}
 use Rattle.terms.specs.Letters.{hasJob, hasCell}
-use Rattle.terms.specs.Words.{tab, newline}
+use Rattle.terms.specs.Words.{newline}
 use Rattle.terms.specs.Limits.{lastNumber}
 use Rattle.terms.proofs.Alphabet.{letter-of-byte}
 use Rattle.text.specs.declared.reader.Reading.the-variants.{Good}

@@ -1,13 +1,13 @@
 -- A number field that was written is read back, and one that is read was written.
 -- Assumes nothing.
 use Prim.Native.Nat.{ℕ, _<_, _≤_}
-use mathlib.Core.Path.{_≡_, refl, sym, ap, _∙_}
-use mathlib.Core.Bool.{Bool, true, false, _&&_}
+use mathlib.Core.Path.{_≡_, refl, sym, ap}
+use mathlib.Core.Bool.{true, false}
 use mathlib.Core.List.{List, [], _∷_, _++_}
 use native.Mathlib.Omega.{arith}
 use lib.Dec.{eqb, leb}
 use borrow.Author.Tests.{eqb-true, le-leb, leb-true}
-use Rattle.laws.specs.Choice.{pick, by-test, not-both}
+use Rattle.laws.specs.Choice.{by-test}
 use Rattle.terms.specs.declared.letters.Letter.{Letter}
 use Rattle.terms.specs.Words.{tab, newline}
 use Rattle.text.specs.declared.reader.Reading.{Reading}
@@ -72,7 +72,8 @@ number-written most (b ∷ t) rest l job cell m e =
       left = afterDigits t;
       written = rw (eqb-true b tab k, decimal-unique ds (digits-are t) s (omega (arith, leb-true (valueFrom 0 ds) most v))) (ap (λ u. tab ∷ u) (sym (digits-then t)));
       small = leb-true _ _ v;
-      goes-on = rw (k, s, v) at e })
+      goes-on = rw (k, s, v) at e;
+    })
     (λ v. not-bad (rw (k, s, v) at e)))
     (λ s. not-bad (rw (k, s) at e)))
     (λ k. not-bad (rw k at e))
