@@ -66,11 +66,13 @@ unfoldable pub leads : List ℕ → Bool
 leads [] = false
 leads (d ∷ ds) = not (eqb d 48)
 
+-- further digits do not change the first
 leads-append : (ds es : List ℕ) → leads ds ≡ true → leads (ds ++ es) ≡ true
 unfolding leads
 leads-append [] es h = not-both h refl
 leads-append (d ∷ ds) es h = h
 
+-- with another first digit than zero, digits are shortest
 leads-shortest : (ds : List ℕ) → leads ds ≡ true → shortest ds ≡ true
 unfolding leads shortest
 leads-shortest [] h = h

@@ -3,6 +3,7 @@
 use Prim.Native.Nat.{ℕ, _≤_}
 use mathlib.Core.Path.{_≡_, ap, refl, sym, _∙_}
 use mathlib.Core.Bool.{Bool, true, false}
+use mathlib.Core.Logic.{_↔_}
 use mathlib.Core.List.{List, [], _∷_, _++_, append-assoc}
 use native.Mathlib.Omega.{arith}
 use Rattle.laws.specs.Choice.{by-test, not-both}
@@ -17,6 +18,7 @@ use Rattle.text.specs.declared.reader.Reading.{Reading}
 use Rattle.text.specs.declared.reader.Reading.the-variants.{Good, Bad}
 use Rattle.text.specs.Records.{field, lineRecord}
 use Rattle.text.specs.Lines.{lastCell, ending, cellPart, jobPart, letterPart, readLine}
+use Rattle.text.proofs.ReadBack.{reads-record}
 use Rattle.text.proofs.WrittenFields.{NumberField, number-written, ending-written, not-bad}
 
 -- equal good readings have equal parts
@@ -53,6 +55,7 @@ cell-not-there l m given job cell t h e =
     let s = same-good l m given job 0 cell (g .1) in
     record { letter = s .0; job-is = s .1; written = rw h (g .0); small = omega arith; unused = λ k. sym (s .2) }
 
+-- the rest of a good line after its job was written
 cell-written : (l m : Letter) (given job cell : ℕ) (t : List ℕ) → cellPart l given t ≡ Good m job cell → CellWritten l m given job cell t
 unfolding cellPart
 cell-written l m given job cell t e =
@@ -96,6 +99,7 @@ job-not-there l m job cell t h w =
       no-cell = w .unused;
     }
 
+-- the rest of a good line after its letter was written
 fields-written : (l m : Letter) (job cell : ℕ) (t : List ℕ) → jobPart l t ≡ Good m job cell → FieldsWritten l m job cell t
 unfolding jobPart
 fields-written l m job cell t e =
@@ -124,6 +128,13 @@ pub good-is-record : (which : Letter → Bool) (bytes : List ℕ) (l : Letter) (
 unfolding readLine
 good-is-record which [] l job cell e = not-bad e
 good-is-record which (b ∷ t) l job cell e = letter-written which b t (letterOf b) l job cell refl e
+
+-- and the record of a letter and fields is good: a line is good exactly then
+pub good-exactly : (which : Letter → Bool) (bytes : List ℕ) (l : Letter) (job cell : ℕ) → (readLine which bytes ≡ Good l job cell) ↔ GoodLine which bytes l job cell
+good-exactly which bytes l job cell = (
+  good-is-record which bytes l job cell,
+  λ g. ap (readLine which) (g .0) ∙ reads-record which l job cell (g .1) (g .2) (g .3) (g .4) (g .5),
+)
 
 -- all else is bad
 pub all-else-bad : (which : Letter → Bool) (bytes : List ℕ) → ((l : Letter) (job cell : ℕ) → GoodLine which bytes l job cell → ⊥) → readLine which bytes ≡ Bad

@@ -3,7 +3,7 @@
 use Prim.Native.Nat.{ℕ, suc, _<_, _≤_}
 use mathlib.Core.Path.{_≡_, refl, sym, ap, _∙_}
 use mathlib.Core.Bool.{Bool, true, false, not, _&&_}
-use mathlib.Core.List.{List, [], _∷_, _++_, append-assoc, append-nil}
+use mathlib.Core.List.{List, [], _∷_, _++_, append-assoc, append-nil, map}
 use native.Mathlib.Omega.{arith}
 use lib.Dec.{eqb}
 use lib.ListN.{length, take, drop, length-append, take-append-drop}
@@ -17,7 +17,7 @@ use Rattle.text.specs.declared.reader.Reading.{Reading}
 use Rattle.text.specs.declared.reader.Reading.the-variants.{Good, Bad}
 use Rattle.text.specs.Records.{field, lineRecord}
 use Rattle.text.specs.Lines.{lastCell, readLine}
-use Rattle.text.specs.Split.{kept}
+use Rattle.text.specs.Split.{kept, inFront, linesOf}
 use Rattle.text.proofs.DecimalLaws.{tens, decimal-length}
 use Rattle.text.proofs.GoodLine.{good-is-record}
 
@@ -85,3 +85,33 @@ short-reads which bytes o = go (readLine which (take kept bytes)) (readLine whic
     go (Good l job cell) s e f = ap (readLine which) (good-part which kept bytes l job cell o e)
     go Bad (Good l job cell) e f = ap (readLine which) (take-all kept bytes (good-length which bytes l job cell f))
     go Bad Bad e f = e ∙ sym f
+
+-- whether each of some texts is one line
+unfoldable pub allOne : List (List ℕ) → Bool
+allOne [] = true
+allOne (l ∷ ls) = oneLine l && allOne ls
+
+-- a byte other than a newline in front of the first line leaves lines
+one-in-front : (b : ℕ) (ls : List (List ℕ)) → eqb b newline ≡ false → allOne ls ≡ true → allOne (inFront b ls) ≡ true
+unfolding allOne oneLine inFront
+one-in-front b [] e h = refl
+one-in-front b ([] ∷ ls) e h = h
+one-in-front b ((c ∷ l) ∷ ls) e h = rw e h
+
+-- each line of a text is one line
+pub lines-one : (t : List ℕ) → allOne (linesOf t) ≡ true
+unfolding allOne oneLine linesOf
+lines-one [] = refl
+lines-one (b ∷ t) = by-test (eqb b newline) (λ e. rw e (lines-one t)) (λ e. rw e (one-in-front b (linesOf t) e (lines-one t)))
+
+-- texts that are one line each are decided by their first 16 bytes
+all-short : (which : Letter → Bool) (ls : List (List ℕ)) → allOne ls ≡ true → map (λ l. readLine which (take kept l)) ls ≡ map (readLine which) ls
+unfolding allOne
+all-short which [] h = refl
+all-short which (l ∷ ls) h =
+    by-test (oneLine l) (λ o. rw (short-reads which l o) (ap (λ rs. readLine which l ∷ rs) (all-short which ls (rw o at h))))
+    (λ o. not-both (rw o at h) refl)
+
+-- every line of every text is decided by its first 16 bytes
+pub short-lines : (which : Letter → Bool) (t : List ℕ) → map (λ l. readLine which (take kept l)) (linesOf t) ≡ map (readLine which) (linesOf t)
+short-lines which t = all-short which (linesOf t) (lines-one t)

@@ -46,7 +46,7 @@ reads-number most n t rest small fits stop =
     let e = digits-before (decimal n) t (decimal-digits n) stop in
     rw (e .0, e .1, decimal-shortest n fits, decimal-value n fits, le-leb n most small)
 
--- what a good line's number field is: where it was read, what follows it, and that the rest goes on to the good line
+-- what a good line's number field tells: the number, what is left after it, that the field was written so, and that what is left goes on to the good line
 pub record NumberField (most : ℕ) (t : List ℕ) (rest : ℕ → List ℕ → Reading) (good : Reading) : Type 0 where
   pub number : ℕ
   pub left : List ℕ

@@ -1,6 +1,11 @@
 // The line reader: what one line of requests or of a history says (01, Lines).
 use terms::letters::Letter;
 use terms::letters::Lettered;
+use terms::letters::has_cell;
+use terms::letters::has_job;
+use terms::letters::letter_of;
+use terms::letters::of_histories;
+use terms::letters::of_requests;
 use terms::limits::LAST_NUMBER;
 use terms::words::NEWLINE;
 use terms::words::TAB;
@@ -115,7 +120,7 @@ fn ending_at(line: &[u8], from: usize, good: Reading) -> Reading
 fn cell_part(line: &[u8], from: usize, letter: Letter, job: u32) -> Reading
     ensures { λ r. ⌜ r ≡ cellPart letter job (drop from (now (line .entry))) ⌝ }
 {
-    if terms::letters::has_cell(letter) {
+    if has_cell(letter) {
         match number_at(line, from, LAST_CELL) {
             Numeral::Is { value, next } => ending_at(
                 line,
@@ -145,7 +150,7 @@ fn cell_part(line: &[u8], from: usize, letter: Letter, job: u32) -> Reading
 fn job_part(line: &[u8], letter: Letter) -> Reading
     ensures { λ r. ⌜ r ≡ jobPart letter (drop 1 (now (line .entry))) ⌝ }
 {
-    if terms::letters::has_job(letter) {
+    if has_job(letter) {
         match number_at(line, 1, LAST_NUMBER) {
             Numeral::Is { value, next } => cell_part(line, next, letter, value),
             Numeral::Missing => Reading::Bad,
@@ -160,7 +165,7 @@ fn first_letter(line: &[u8]) -> Lettered
     ensures { λ r. ⌜ r ≡ firstLetter (now (line .entry)) ⌝ }
 {
     if 0 < line.len() {
-        terms::letters::letter_of(line[0])
+        letter_of(line[0])
     } else {
         Lettered::Unknown
     }
@@ -172,7 +177,7 @@ pub fn read_request(line: &[u8]) -> Reading
 {
     match first_letter(line) {
         Lettered::Known(letter) => {
-            if terms::letters::of_requests(letter) {
+            if of_requests(letter) {
                 job_part(line, letter)
             } else {
                 Reading::Bad
@@ -188,7 +193,7 @@ pub fn read_history(line: &[u8]) -> Reading
 {
     match first_letter(line) {
         Lettered::Known(letter) => {
-            if terms::letters::of_histories(letter) {
+            if of_histories(letter) {
                 job_part(line, letter)
             } else {
                 Reading::Bad
