@@ -7,3 +7,14 @@ pub mod Chunks
 pub mod Cuts
 pub mod Held
 pub mod Found
+pub mod Places
+pub mod Digits
+pub mod NumberFields
+pub mod LineParts
+pub mod ReaderUnique
+pub mod DecimalLaws
+pub mod WrittenFields
+pub mod ReadBack
+pub mod GoodLine
+pub mod ShortLines
+pub mod LineExamples

@@ -1,8 +1,204 @@
 // The line reader: what one line of requests or of a history says (01, Lines).
 use terms::letters::Letter;
+use terms::letters::Lettered;
+use terms::letters::has_cell;
+use terms::letters::has_job;
+use terms::letters::letter_of;
+use terms::letters::of_histories;
+use terms::letters::of_requests;
+use terms::limits::LAST_NUMBER;
+use terms::words::NEWLINE;
+use terms::words::TAB;
+ghost use mathlib.Core.Path.{_≡_};
+ghost use lib.ListN.{drop};
+ghost use Rattle.terms.specs.Letters.{ofRequests, ofHistories};
+ghost use Rattle.text.specs.Lines.{isDigit, digitsOf, shortest, ending, cellPart, jobPart, readLine};
+ghost use Rattle.text.specs.Fields.{digitAhead, firstLetter, digitsAt, numberAt};
 
 // A good line with its letter, job and cell, 0 for a field that the letter does not have; or a bad line, which is refusal 9.
 pub enum Reading {
     Good { letter: Letter, job: u32, cell: u32 },
     Bad,
+}
+
+// A number of a line with the place after it, or none.
+enum Numeral {
+    Is { value: u32, next: usize },
+    Missing,
+}
+
+// A cell has one or two digits.
+const LAST_CELL: u32 = 99;
+
+// Whether a byte is a digit.
+fn is_digit(byte: u8) -> bool
+    ensures { λ r. ⌜ r ≡ isDigit byte ⌝ }
+{
+    b'0' <= byte && byte <= b'9'
+}
+
+// Whether a digit stands at a place of a line.
+fn digit_ahead(line: &[u8], at: usize) -> bool
+    ensures { λ r. ⌜ r ≡ digitAhead (drop at (now (line .entry))) ⌝ }
+{
+    if at < line.len() {
+        is_digit(line[at])
+    } else {
+        false
+    }
+}
+
+// Whether the digits from a place on have no leading zero except the single 0, and there is one.
+fn shortest_at(line: &[u8], from: usize) -> bool
+    ensures { λ r. ⌜ r ≡ shortest (digitsOf (drop from (now (line .entry)))) ⌝ }
+{
+    if from < line.len() {
+        let first = line[from];
+        if is_digit(first) {
+            if first == b'0' {
+                return !digit_ahead(line, from + 1);
+            }
+            return true;
+        }
+    }
+    false
+}
+
+// The number of the digits from a place on, read no further than it can still be small enough.
+fn digits_at(line: &[u8], from: usize, most: u32) -> Numeral
+    ensures { λ r. ⌜ r ≡ digitsAt most 0 from (drop from (now (line .entry))) ⌝ }
+{
+    let mut value: u32 = 0;
+    let mut next = from;
+    while next < line.len() {
+        let byte = line[next];
+        if !is_digit(byte) {
+            return Numeral::Is { value, next };
+        }
+        let more = (value as u64) * 10 + ((byte - b'0') as u64);
+        if more > most as u64 {
+            return Numeral::Missing;
+        }
+        value = more as u32;
+        next += 1;
+    }
+    Numeral::Is { value, next }
+}
+
+// The number field at a place of a line: a tab and the digits of a number that is at most so large.
+fn number_at(line: &[u8], from: usize, most: u32) -> Numeral
+    ensures { λ r. ⌜ r ≡ numberAt most from (drop from (now (line .entry))) ⌝ }
+{
+    if from < line.len() {
+        if line[from] == TAB {
+            let start = from + 1;
+            if shortest_at(line, start) {
+                return digits_at(line, start, most);
+            }
+        }
+    }
+    Numeral::Missing
+}
+
+// What is good where one newline and nothing else is left of the line.
+fn ending_at(line: &[u8], from: usize, good: Reading) -> Reading
+    ensures { λ r. ⌜ r ≡ ending (drop from (now (line .entry))) good ⌝ }
+{
+    if from < line.len() {
+        let next = from + 1;
+        if next < line.len() {
+            return Reading::Bad;
+        }
+        if line[from] == NEWLINE {
+            return good;
+        }
+    }
+    Reading::Bad
+}
+
+// The rest of a line from a place on, after letter and job: the cell, where the letter has one, and the end.
+fn cell_part(line: &[u8], from: usize, letter: Letter, job: u32) -> Reading
+    ensures { λ r. ⌜ r ≡ cellPart letter job (drop from (now (line .entry))) ⌝ }
+{
+    if has_cell(letter) {
+        match number_at(line, from, LAST_CELL) {
+            Numeral::Is { value, next } => ending_at(
+                line,
+                next,
+                Reading::Good {
+                    letter,
+                    job,
+                    cell: value,
+                },
+            ),
+            Numeral::Missing => Reading::Bad,
+        }
+    } else {
+        ending_at(
+            line,
+            from,
+            Reading::Good {
+                letter,
+                job,
+                cell: 0,
+            },
+        )
+    }
+}
+
+// The rest of a line after its letter: the job, where the letter has one, and what follows.
+fn job_part(line: &[u8], letter: Letter) -> Reading
+    ensures { λ r. ⌜ r ≡ jobPart letter (drop 1 (now (line .entry))) ⌝ }
+{
+    if has_job(letter) {
+        match number_at(line, 1, LAST_NUMBER) {
+            Numeral::Is { value, next } => cell_part(line, next, letter, value),
+            Numeral::Missing => Reading::Bad,
+        }
+    } else {
+        cell_part(line, 1, letter, 0)
+    }
+}
+
+// The letter that a line begins with.
+fn first_letter(line: &[u8]) -> Lettered
+    ensures { λ r. ⌜ r ≡ firstLetter (now (line .entry)) ⌝ }
+{
+    if 0 < line.len() {
+        letter_of(line[0])
+    } else {
+        Lettered::Unknown
+    }
+}
+
+// What a line of requests says.
+pub fn read_request(line: &[u8]) -> Reading
+    ensures { λ r. ⌜ r ≡ readLine ofRequests (now (line .entry)) ⌝ }
+{
+    match first_letter(line) {
+        Lettered::Known(letter) => {
+            if of_requests(letter) {
+                job_part(line, letter)
+            } else {
+                Reading::Bad
+            }
+        }
+        Lettered::Unknown => Reading::Bad,
+    }
+}
+
+// What a line of a history says.
+pub fn read_history(line: &[u8]) -> Reading
+    ensures { λ r. ⌜ r ≡ readLine ofHistories (now (line .entry)) ⌝ }
+{
+    match first_letter(line) {
+        Lettered::Known(letter) => {
+            if of_histories(letter) {
+                job_part(line, letter)
+            } else {
+                Reading::Bad
+            }
+        }
+        Lettered::Unknown => Reading::Bad,
+    }
 }

@@ -1,0 +1,14 @@
+-- No second result meets the contract of a function of the line reader.
+-- Assumes nothing.
+use mathlib.Core.Path.{sym, _∙_}
+use Rattle.laws.specs.Unique.{Unique}
+use Rattle.text.proofs.reader.read_request.Reads as read-request
+use Rattle.text.proofs.reader.read_request.Kinds as read-requestK
+use Rattle.text.proofs.reader.read_history.Reads as read-history
+use Rattle.text.proofs.reader.read_history.Kinds as read-historyK
+
+pub read-request-unique : Unique read-requestK.ps read-requestK.r read-request.Post
+read-request-unique κs a x y e f p q = p ∙ sym q
+
+pub read-history-unique : Unique read-historyK.ps read-historyK.r read-history.Post
+read-history-unique κs a x y e f p q = p ∙ sym q
