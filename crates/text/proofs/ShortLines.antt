@@ -17,15 +17,10 @@ use Rattle.text.specs.declared.reader.Reading.{Reading}
 use Rattle.text.specs.declared.reader.Reading.the-variants.{Good, Bad}
 use Rattle.text.specs.Records.{field, lineRecord}
 use Rattle.text.specs.Lines.{lastCell, readLine}
-use Rattle.text.specs.Split.{kept, inFront, linesOf}
+use Rattle.text.specs.Split.{kept, linesOf, oneLine, every}
 use Rattle.text.proofs.DecimalLaws.{tens, decimal-length}
 use Rattle.text.proofs.GoodLine.{good-is-record}
-
--- whether a text is one line: no newline stands before its last byte
-unfoldable pub oneLine : List ℕ → Bool
-oneLine [] = true
-oneLine (b ∷ []) = true
-oneLine (b ∷ c ∷ t) = not (eqb b newline) && oneLine (c ∷ t)
+use Rattle.text.proofs.TextLines.{lines-one}
 
 -- what follows a byte of one line is one line
 one-line-tail : (b c : ℕ) (t : List ℕ) → oneLine (b ∷ c ∷ t) ≡ true → oneLine (c ∷ t) ≡ true
@@ -86,27 +81,9 @@ short-reads which bytes o = go (readLine which (take kept bytes)) (readLine whic
     go Bad (Good l job cell) e f = ap (readLine which) (take-all kept bytes (good-length which bytes l job cell f))
     go Bad Bad e f = e ∙ sym f
 
--- whether each of some texts is one line
-unfoldable pub allOne : List (List ℕ) → Bool
-allOne [] = true
-allOne (l ∷ ls) = oneLine l && allOne ls
-
--- a byte other than a newline in front of the first line leaves lines
-one-in-front : (b : ℕ) (ls : List (List ℕ)) → eqb b newline ≡ false → allOne ls ≡ true → allOne (inFront b ls) ≡ true
-unfolding allOne oneLine inFront
-one-in-front b [] e h = refl
-one-in-front b ([] ∷ ls) e h = h
-one-in-front b ((c ∷ l) ∷ ls) e h = rw e h
-
--- each line of a text is one line
-pub lines-one : (t : List ℕ) → allOne (linesOf t) ≡ true
-unfolding allOne oneLine linesOf
-lines-one [] = refl
-lines-one (b ∷ t) = by-test (eqb b newline) (λ e. rw e (lines-one t)) (λ e. rw e (one-in-front b (linesOf t) e (lines-one t)))
-
 -- texts that are one line each are decided by their first 16 bytes
-all-short : (which : Letter → Bool) (ls : List (List ℕ)) → allOne ls ≡ true → map (λ l. readLine which (take kept l)) ls ≡ map (readLine which) ls
-unfolding allOne
+all-short : (which : Letter → Bool) (ls : List (List ℕ)) → every oneLine ls ≡ true → map (λ l. readLine which (take kept l)) ls ≡ map (readLine which) ls
+unfolding every
 all-short which [] h = refl
 all-short which (l ∷ ls) h =
     by-test (oneLine l) (λ o. rw (short-reads which l o) (ap (λ rs. readLine which l ∷ rs) (all-short which ls (rw o at h))))
