@@ -1,0 +1,4 @@
+pub mod DigitLaws
+pub mod FieldLaws
+pub mod WordLaws
+pub mod WroteLaws
