@@ -3,12 +3,16 @@
 use Prim.Native.Nat.{ℕ, zero, suc, _+_, _-_, _≤_, _<_}
 use mathlib.Core.Path.{_≡_, refl, sym, ap, _∙_}
 use mathlib.Core.Bool.{Bool, true, false}
-use mathlib.Core.List.{List, [], _∷_, _++_}
+use mathlib.Core.List.{List, [], _∷_, _++_, append-assoc}
 use native.Mathlib.Omega.{arith}
 use lib.ListN.{length}
-use Rattle.terms.specs.Words.{tab}
+use Rattle.terms.specs.declared.letters.Letter.{Letter}
+use Rattle.terms.specs.declared.words.Word.{Word}
+use Rattle.terms.specs.Letters.{byteOf, hasJob, hasCell}
+use Rattle.terms.specs.Words.{tab, newline, spelt}
 use Rattle.text.specs.Decimal.{decimal}
-use Rattle.text.specs.Records.{field}
+use Rattle.text.proofs.DigitLaws.{decimal-at-most-20}
+use Rattle.text.specs.Records.{field, answerRecord, lineRecord}
 
 -- a field that is there is a tab and its number
 pub field-there : (there : Bool) (n : ℕ) → there ≡ true → field there n ≡ tab ∷ decimal n
@@ -27,3 +31,19 @@ field-length there n e = rw (field-there there n e) (omega arith)
 pub no-field-length : (there : Bool) (n : ℕ) → there ≡ false → length (field there n) ≡ 0
 no-field-length there n e = rw (field-none there n e)
 
+-- no field has more than twenty-one bytes
+pub field-at-most-21 : (there : Bool) (n : ℕ) → length (field there n) ≤ 21
+field-at-most-21 true n = let d = decimal-at-most-20 n in omega (arith, field-length true n refl)
+field-at-most-21 false n = omega (arith, no-field-length false n refl)
+
+-- an answer record: the line number, the word behind its tab, and the last field with the newline
+pub answer-is : (line : ℕ) (word : Word) (number : ℕ) →
+    answerRecord line word number ≡ decimal line ++ tab ∷ spelt word ++ (field true number ++ newline ∷ [])
+unfolding answerRecord field
+answer-is line word number = append-assoc (decimal line ++ tab ∷ spelt word) (tab ∷ decimal number) (newline ∷ [])
+
+-- a letter's line: the letter, the second field where it has one, and the last field with the newline
+pub line-is : (l : Letter) (job cell : ℕ) →
+    lineRecord l job cell ≡ (byteOf l ∷ []) ++ field (hasJob l) job ++ (field (hasCell l) cell ++ newline ∷ [])
+unfolding lineRecord
+line-is l job cell = append-assoc (byteOf l ∷ field (hasJob l) job) (field (hasCell l) cell) (newline ∷ [])

@@ -1,4 +1,6 @@
 pub mod DigitLaws
 pub mod FieldLaws
+pub mod Length
+pub mod RoomLaws
 pub mod WordLaws
 pub mod WroteLaws

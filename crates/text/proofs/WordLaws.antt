@@ -33,6 +33,10 @@ spelling-places Wake = refl
 spelling-places Orderly = refl
 spelling-places Knot = refl
 
+-- a spelling's length is the word's
+pub spelling-length : (s : Spelling) (w : Word) → s ≡ spellingOf w → s .len ≡ length (spelt w)
+spelling-length s w e = ap (λ t. t .len) e
+
 -- what is copied when so many bytes are: len bytes are to be copied out of seven, behind the first place of a list that has room for them
 pub record Copying (before bytes : List ℕ) (len : ℕ) (now : List ℕ) (i : ℕ) : Type 0 where
   pub room : len < length before
@@ -45,7 +49,7 @@ pub record Copying (before bytes : List ℕ) (len : ℕ) (now : List ℕ) (i : �
 -- before the first byte
 pub copying-none : (s : Spelling) (w : Word) (l : List ℕ) → s ≡ spellingOf w → length (spelt w) < length l → Copying l (s .bytes) (s .len) l 0
 copying-none s w l e h =
-    let n : s .len ≡ length (spelt w) = ap (λ t. t .len) e in
+    let n = spelling-length s w e in
     let m = word-at-most-7 w in
     record {
       room = omega arith;
@@ -80,7 +84,7 @@ pub copying-all : (s : Spelling) (w : Word) (l m : List ℕ) (i : ℕ) → s ≡
     Wrote 0 (1 + i) (tab ∷ spelt w) l m
 copying-all s w [] m i e c h = let r = c .room in absurd (omega arith)
 copying-all s w (x ∷ l) m i e c h =
-    let n : s .len ≡ length (spelt w) = ap (λ t. t .len) e in
+    let n = spelling-length s w e in
     let r = c .room in
     let k = c .within in
     let j : i ≡ length (spelt w) = omega arith in

@@ -1,20 +1,22 @@
 // The record writer: one record into a lent buffer, from the place given and not before it (01, Lines).
 // The buffer's later part is lent to one field writer after another, each of which writes from that part's first byte on.
+use terms::letters::Letter;
 use terms::letters::byte_of;
 use terms::letters::has_cell;
 use terms::letters::has_job;
-use terms::letters::Letter;
 use terms::refusals::Refusal;
-use terms::words::spelled;
-use terms::words::Word;
 use terms::words::NEWLINE;
 use terms::words::TAB;
+use terms::words::Word;
+use terms::words::spelled;
 ghost use mathlib.Core.Path.{_≡_};
-ghost use mathlib.Core.List.{[], _∷_};
+ghost use mathlib.Core.Bool.{true};
+ghost use mathlib.Core.List.{[], _∷_, _++_};
 ghost use Prim.Native.Nat.{_+_, _≤_, _<_};
 ghost use lib.Dec.{leb};
 ghost use lib.ListN.{length};
-ghost use Rattle.terms.specs.Words.{tab, spelt};
+ghost use Rattle.terms.specs.Letters.{hasJob, hasCell};
+ghost use Rattle.terms.specs.Words.{tab, newline, spelt};
 ghost use Rattle.text.specs.Decimal.{decimal};
 ghost use Rattle.text.specs.Wrote.{Wrote};
 ghost use Rattle.text.specs.Records.{field, answerRecord, lineRecord, told, left};
@@ -106,39 +108,78 @@ fn put_word(part: &mut [u8], word: Word) -> usize
     1 + i
 }
 
+// The last field, where there is one, and the newline that ends the record.
+fn put_last(part: &mut [u8], there: bool, n: u64, len: usize) -> usize
+    requires { ⌜ (len ≡ length (field there n)) × (len < length (now part)) ⌝ }
+    ensures { λ r. ⌜ Wrote 0 r (field there n ++ newline ∷ []) (now (part .entry)) (now (part .exit)) ⌝ }
+{
+    let end = put_field(part, there, n, len);
+    part[end] = NEWLINE;
+    end + 1
+}
+
+// An answer record, of whose first and third field the lengths are known: each field is written into the part after the one before.
+fn put_answer(
+    part: &mut [u8],
+    line: u64,
+    first: usize,
+    word: Word,
+    number: u64,
+    third: usize,
+) -> usize
+    requires { ⌜ (first ≡ length (decimal line)) × (third ≡ length (field true number)) × (length (answerRecord line word number) ≤ length (now part)) ⌝ }
+    ensures { λ r. ⌜ Wrote 0 r (answerRecord line word number) (now (part .entry)) (now (part .exit)) ⌝ }
+{
+    let a = put_number(part, line, first);
+    let b = a + put_word(&mut part[a..], word);
+    b + put_last(&mut part[b..], true, number, third)
+}
+
+// The line of a letter, of whose second and third field the lengths are known: each field is written into the part after the one before.
+fn put_line(
+    part: &mut [u8],
+    letter: Letter,
+    job: u64,
+    second: usize,
+    cell: u64,
+    third: usize,
+) -> usize
+    requires { ⌜ (second ≡ length (field (hasJob letter) job)) × (third ≡ length (field (hasCell letter) cell)) × (length (lineRecord letter job cell) ≤ length (now part)) ⌝ }
+    ensures { λ r. ⌜ Wrote 0 r (lineRecord letter job cell) (now (part .entry)) (now (part .exit)) ⌝ }
+{
+    let a = put_byte(part, byte_of(letter));
+    let b = a + put_field(&mut part[a..], has_job(letter), job, second);
+    b + put_last(&mut part[b..], has_cell(letter), cell, third)
+}
+
 // An answer record: request line number, word, number.
 pub fn write_answer(buf: &mut [u8], at: usize, line: u64, word: Word, number: u64) -> Written
     ensures { λ r. ⌜ (r ≡ told (now (buf .entry)) at (answerRecord line word number)) × (now (buf .exit) ≡ left (now (buf .entry)) at (answerRecord line word number)) ⌝ }
 {
     let spelling = spelled(word);
+    let second = spelling.len;
     let first = width(line);
     let third = field_width(true, number);
     let room = buf.len();
-    if !has_room(room, at, first + 1 + spelling.len + third + 1) {
-        return Written::Refused(Refusal::NoRoom);
+    if has_room(room, at, first + second + third + 2) {
+        let n = put_answer(&mut buf[at..], line, first, word, number, third);
+        Written::Next(at + n)
+    } else {
+        Written::Refused(Refusal::NoRoom)
     }
-    let a = at + put_number(&mut buf[at..], line, first);
-    let b = a + put_word(&mut buf[a..], word);
-    let c = b + put_field(&mut buf[b..], true, number, third);
-    let end = c + put_byte(&mut buf[c..], NEWLINE);
-    Written::Next(end)
 }
 
 // The line of a letter with the fields that it has: a history record, or a request.
 pub fn write_line(buf: &mut [u8], at: usize, letter: Letter, job: u64, cell: u64) -> Written
     ensures { λ r. ⌜ (r ≡ told (now (buf .entry)) at (lineRecord letter job cell)) × (now (buf .exit) ≡ left (now (buf .entry)) at (lineRecord letter job cell)) ⌝ }
 {
-    let with_job = has_job(letter);
-    let with_cell = has_cell(letter);
-    let second = field_width(with_job, job);
-    let third = field_width(with_cell, cell);
+    let second = field_width(has_job(letter), job);
+    let third = field_width(has_cell(letter), cell);
     let room = buf.len();
-    if !has_room(room, at, 1 + second + third + 1) {
-        return Written::Refused(Refusal::NoRoom);
+    if has_room(room, at, second + third + 2) {
+        let n = put_line(&mut buf[at..], letter, job, second, cell, third);
+        Written::Next(at + n)
+    } else {
+        Written::Refused(Refusal::NoRoom)
     }
-    let a = at + put_byte(&mut buf[at..], byte_of(letter));
-    let b = a + put_field(&mut buf[a..], with_job, job, second);
-    let c = b + put_field(&mut buf[b..], with_cell, cell, third);
-    let end = c + put_byte(&mut buf[c..], NEWLINE);
-    Written::Next(end)
 }

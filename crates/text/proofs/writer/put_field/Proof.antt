@@ -20,7 +20,7 @@ use Rattle.text.proofs.writer.put_field.Tie as tie
 
 -- the tab stands at the first place
 tabbed : (l : List ℕ) (there : Bool) (n len : ℕ) → there ≡ true → len ≡ length (field there n) → len ≤ length l → Wrote 0 1 (tab ∷ []) l (set l 0 tab)
-tabbed l there n len e f g = let h = field-length there n e in wrote-byte tab l (omega arith)
+tabbed l there n len e f g = let h = field-length there n e in wrote-byte tab (wrote-none (search needs)) (omega arith)
 
 -- the number stands after it
 numbered : (c : tie.After-slice-known2) →
@@ -29,7 +29,7 @@ numbered : (c : tie.After-slice-known2) →
     (putMid 1 (length (set l 0 tab) - 1) (set l 0 tab) (c .before .before .put-number .last .0))
 numbered c =
     let s = c .before .before .before .before in
-    wrote-more 0 1 _ (tab ∷ []) _ _ _ _ (tabbed _ _ _ _ (s .if1 .taken) (s .before .before .pre .0) (s .before .before .pre .1)) (c .before .before .put-number .ensures)
+    wrote-more (tabbed _ _ _ _ (s .if1 .taken) (s .before .before .pre .0) (s .before .before .pre .1)) (c .before .before .put-number .ensures)
 
 slice-write-part : tie.Need-slice-write-part
 slice-write-part c = omega (arith, field-length _ (c .before .before .args .n) (c .if1 .taken))
@@ -47,24 +47,24 @@ sub-put-number-2 : tie.Need-sub-put-number-2
 sub-put-number-2 c = omega (arith, field-length _ (c .before .before .before .args .n) (c .before .if1 .taken))
 
 put-number-requires : tie.Need-put-number-requires
-put-number-requires c κs = 
+put-number-requires c κs =
     let s = c .before .before .before in
     let f = field-length _ (s .args .n) (c .before .if1 .taken) in (
       omega arith,
-      lent-fits 0 1 _ _ (s .args .part .now) _ (tabbed _ _ _ _ (c .before .if1 .taken) (s .pre .0) (s .pre .1)) (omega arith),
+      lent-fits {b = s .args .part .now} (tabbed _ _ _ _ (c .before .if1 .taken) (s .pre .0) (s .pre .1)) (omega arith),
     )
 
 add-result : tie.Need-add-result
 add-result c = omega (arith, decimal-at-most-20 (c .before .before .before .before .before .before .args .n), c .before .before .put-number .ensures .ends)
 
 same-length : tie.Need-same-length
-same-length c = wrote-length 0 _ _ _ _ (numbered c)
+same-length c = wrote-length (numbered c)
 
 returns : tie.Need-returns
 returns c = rw (field-there _ _ (c .before .before .before .before .if1 .taken)) (numbered c)
 
 returns-2 : tie.Need-returns-2
-returns-2 c = rw (field-none _ _ (c .if1 .left)) (wrote-none 0 _ (search needs))
+returns-2 c = rw (field-none _ _ (c .if1 .left)) (wrote-none (search needs))
 
 pub put-field-spec : {M : Type 1} → statement M
 put-field-spec =

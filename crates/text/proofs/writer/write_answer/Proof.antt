@@ -1,140 +1,97 @@
+-- `text::writer::write_answer` meets its contract: a record that fits is written into the lent later part, and one that does not is refused.
+-- Assumes nothing.
+use Prim.Native.Nat.{_+_, _≤_, _<_}
+use mathlib.Core.Path.{_≡_}
+use native.Mathlib.Omega.{arith}
 use borrow.Author.Needs.{needs}
+use mathlib.Core.Bool.{true}
+use lib.ListN.{length}
+use Rattle.text.specs.Records.{answerRecord}
+use Rattle.text.proofs.DigitLaws.{decimal-at-most-20}
+use Rattle.text.proofs.FieldLaws.{field-at-most-21}
+use Rattle.text.proofs.WordLaws.{word-at-most-7, spelling-length}
+use Rattle.text.proofs.Length.{answer-length}
+use Rattle.text.proofs.RoomLaws.{room-for, no-room-for, written, refused}
+use Rattle.text.proofs.WroteLaws.{wrote-none, wrote-more, lent-fits}
 use Rattle.text.proofs.writer.write_answer.Statement.{statement}
 use Rattle.text.proofs.writer.write_answer.Tie as tie
-use Rattle.text.proofs.writer.write_answer.Reads as reads
-use Rattle.text.proofs.writer.write_answer.Lts as lts
-use Rattle.terms.proofs.words.spelled.Reads as spelled-reads
-use Rattle.text.proofs.writer.field_width.Reads as field-width-reads
-use Rattle.text.proofs.writer.has_room.Reads as has-room-reads
-use Rattle.text.proofs.writer.put_byte.Reads as put-byte-reads
-use Rattle.text.proofs.writer.put_field.Reads as put-field-reads
-use Rattle.text.proofs.writer.put_number.Reads as put-number-reads
-use Rattle.text.proofs.writer.put_word.Reads as put-word-reads
-use Rattle.text.proofs.writer.width.Reads as width-reads
 
--- src/writer.rt:113:9
+-- how many bytes the record has
+long : (c : tie.After-field-width) →
+    let s = c .before .before .before .before .args in
+    c .before .width .result + c .before .before .spelled .result .len + c .field-width .result + 2 ≡ length (answerRecord (s .line) (s .word) (s .number))
+long c =
+    let s = c .before .before .before .before .args in
+    omega (arith, answer-length (s .line) (s .word) (s .number), spelling-length (c .before .before .spelled .result) (s .word) (c .before .before .spelled .ensures))
+
+-- it is short
+short : (c : tie.After-field-width) → c .before .width .result + c .before .before .spelled .result .len + c .field-width .result + 2 ≤ 50
+short c =
+    let s = c .before .before .before .before .args in
+    omega (
+      arith,
+      decimal-at-most-20 (s .line),
+      field-at-most-21 true (s .number),
+      word-at-most-7 (s .word),
+      spelling-length (c .before .before .spelled .result) (s .word) (c .before .before .spelled .ensures),
+    )
+
+-- where the test holds, the record fits
+fitting : (c : tie.Then1) →
+    let s = c .before .before .before .before .before .before .args in
+    s .at + length (answerRecord (s .line) (s .word) (s .number)) ≤ length (s .buf .now)
+fitting c = room-for _ _ _ _ (c .before .has-room .ensures) (c .if1 .taken) (long (c .before .before))
+
 spelled-requires : tie.Need-spelled-requires
 spelled-requires c κs = search needs
 
--- src/writer.rt:114:9
 width-requires : tie.Need-width-requires
 width-requires c κs = search needs
 
--- src/writer.rt:115:9
 field-width-requires : tie.Need-field-width-requires
 field-width-requires c κs = search needs
 
--- src/writer.rt:117:28
 add-has-room : tie.Need-add-has-room
-add-has-room c = ?
+add-has-room c = omega (arith, short c)
 
--- src/writer.rt:117:28
 add-has-room-2 : tie.Need-add-has-room-2
-add-has-room-2 c = ?
+add-has-room-2 c = omega (arith, short c)
 
--- src/writer.rt:117:28
 add-has-room-3 : tie.Need-add-has-room-3
-add-has-room-3 c = ?
+add-has-room-3 c = omega (arith, short c)
 
--- src/writer.rt:117:28
-add-has-room-4 : tie.Need-add-has-room-4
-add-has-room-4 c = ?
-
--- src/writer.rt:117:9
 has-room-requires : tie.Need-has-room-requires
 has-room-requires c κs = search needs
 
--- src/writer.rt:118:9
-returns : tie.Need-returns
-returns c = ?
+sub-put-answer : tie.Need-sub-put-answer
+sub-put-answer c = omega (arith, fitting c)
 
--- src/writer.rt:120:29
-sub-put-number : tie.Need-sub-put-number
-sub-put-number c = ?
+part-put-answer-start : tie.Need-part-put-answer-start
+part-put-answer-start c = omega (arith, fitting c)
 
--- src/writer.rt:120:29
-part-put-number-start : tie.Need-part-put-number-start
-part-put-number-start c = ?
+part-put-answer-end : tie.Need-part-put-answer-end
+part-put-answer-end c = search needs
 
--- src/writer.rt:120:29
-part-put-number-end : tie.Need-part-put-number-end
-part-put-number-end c = search needs
+put-answer-requires : tie.Need-put-answer-requires
+put-answer-requires c κs =
+    let s = c .before .before .before .before .before .before .before in
+    let f = fitting (c .before) in
+    (c .before .before .before .before .width .ensures, c .before .before .before .field-width .ensures, lent-fits (wrote-none {b = s .args .buf .now} (omega arith)) f)
 
--- src/writer.rt:120:18
-put-number-requires : tie.Need-put-number-requires
-put-number-requires c κs = ?
+add-t18 : tie.Need-add-t18
+add-t18 c = search needs
 
--- src/writer.rt:120:13
-add-a : tie.Need-add-a
-add-a c = search needs
-
--- src/writer.rt:121:26
-sub-put-word : tie.Need-sub-put-word
-sub-put-word c = ?
-
--- src/writer.rt:121:26
-part-put-word-start : tie.Need-part-put-word-start
-part-put-word-start c = ?
-
--- src/writer.rt:121:26
-part-put-word-end : tie.Need-part-put-word-end
-part-put-word-end c = search needs
-
--- src/writer.rt:121:17
-put-word-requires : tie.Need-put-word-requires
-put-word-requires c κs = ?
-
--- src/writer.rt:121:13
-add-b : tie.Need-add-b
-add-b c = search needs
-
--- src/writer.rt:122:27
-sub-put-field : tie.Need-sub-put-field
-sub-put-field c = search needs
-
--- src/writer.rt:122:27
-part-put-field-start : tie.Need-part-put-field-start
-part-put-field-start c = search needs
-
--- src/writer.rt:122:27
-part-put-field-end : tie.Need-part-put-field-end
-part-put-field-end c = search needs
-
--- src/writer.rt:122:17
-put-field-requires : tie.Need-put-field-requires
-put-field-requires c κs = ?
-
--- src/writer.rt:122:13
-add-c : tie.Need-add-c
-add-c c = search needs
-
--- src/writer.rt:123:28
-sub-put-byte : tie.Need-sub-put-byte
-sub-put-byte c = search needs
-
--- src/writer.rt:123:28
-part-put-byte-start : tie.Need-part-put-byte-start
-part-put-byte-start c = search needs
-
--- src/writer.rt:123:28
-part-put-byte-end : tie.Need-part-put-byte-end
-part-put-byte-end c = search needs
-
--- src/writer.rt:123:19
-put-byte-requires : tie.Need-put-byte-requires
-put-byte-requires c κs = ?
-
--- src/writer.rt:123:15
-add-end : tie.Need-add-end
-add-end c = search needs
-
--- src/writer.rt:110:1
 same-length : tie.Need-same-length
 same-length c = search needs
 
--- src/writer.rt:110:1
+returns : tie.Need-returns
+returns c =
+    let s = c .before .before .before .before .before .before .before .before .before .before in
+    let f = fitting (c .before .before .before .before) in
+    written (wrote-more (wrote-none {b = s .args .buf .now} (omega arith)) (c .before .before .put-answer .ensures))
+
 returns-2 : tie.Need-returns-2
-returns-2 c = ?
+returns-2 c = refused _ _ _ (no-room-for _ _ _ _ (c .before .has-room .ensures) (c .if1 .left) (long (c .before .before)))
 
 pub write-answer-spec : {M : Type 1} → statement M
 write-answer-spec =
@@ -146,28 +103,12 @@ write-answer-spec =
     add-has-room
     add-has-room-2
     add-has-room-3
-    add-has-room-4
     has-room-requires
-    returns
-    sub-put-number
-    part-put-number-start
-    part-put-number-end
-    put-number-requires
-    add-a
-    sub-put-word
-    part-put-word-start
-    part-put-word-end
-    put-word-requires
-    add-b
-    sub-put-field
-    part-put-field-start
-    part-put-field-end
-    put-field-requires
-    add-c
-    sub-put-byte
-    part-put-byte-start
-    part-put-byte-end
-    put-byte-requires
-    add-end
+    sub-put-answer
+    part-put-answer-start
+    part-put-answer-end
+    put-answer-requires
+    add-t18
     same-length
+    returns
     returns-2)

@@ -1,177 +1,112 @@
+-- `text::writer::write_line` meets its contract: a line that fits is written into the lent later part, and one that does not is refused.
+-- Assumes nothing.
+use Prim.Native.Nat.{_+_, _≤_}
+use mathlib.Core.Path.{_≡_, ap, _∙_}
+use native.Mathlib.Omega.{arith}
 use borrow.Author.Needs.{needs}
+use lib.ListN.{length}
+use Rattle.terms.specs.Letters.{hasJob, hasCell}
+use Rattle.text.specs.Records.{field, lineRecord}
+use Rattle.text.proofs.FieldLaws.{field-at-most-21}
+use Rattle.text.proofs.Length.{line-length}
+use Rattle.text.proofs.RoomLaws.{room-for, no-room-for, written, refused}
+use Rattle.text.proofs.WroteLaws.{wrote-none, wrote-more, lent-fits}
 use Rattle.text.proofs.writer.write_line.Statement.{statement}
 use Rattle.text.proofs.writer.write_line.Tie as tie
-use Rattle.text.proofs.writer.write_line.Reads as reads
-use Rattle.text.proofs.writer.write_line.Lts as lts
-use Rattle.terms.proofs.letters.byte_of.Reads as byte-of-reads
-use Rattle.terms.proofs.letters.has_cell.Reads as has-cell-reads
-use Rattle.terms.proofs.letters.has_job.Reads as has-job-reads
-use Rattle.text.proofs.writer.field_width.Reads as field-width-reads
-use Rattle.text.proofs.writer.has_room.Reads as has-room-reads
-use Rattle.text.proofs.writer.put_byte.Reads as put-byte-reads
-use Rattle.text.proofs.writer.put_field.Reads as put-field-reads
 
--- src/writer.rt:131:9
+-- how many bytes the second field has
+second : (c : tie.After-field-width) → let s = c .before .before .before .args in c .field-width .result ≡ length (field (hasJob (s .letter)) (s .job))
+second c = c .field-width .ensures ∙ ap (λ b. length (field b (c .before .before .before .args .job))) (c .before .has-job .ensures)
+
+-- how many bytes the third field has
+third : (c : tie.After-field-width2) → let s = c .before .before .before .before .before .args in c .field-width2 .result ≡ length (field (hasCell (s .letter)) (s .cell))
+third c = c .field-width2 .ensures ∙ ap (λ b. length (field b (c .before .before .before .before .before .args .cell))) (c .before .has-cell .ensures)
+
+-- how many bytes the record has
+long : (c : tie.After-field-width2) →
+    let s = c .before .before .before .before .before .args in
+    c .before .before .field-width .result + c .field-width2 .result + 2 ≡ length (lineRecord (s .letter) (s .job) (s .cell))
+long c =
+    let s = c .before .before .before .before .before .args in
+    omega (arith, line-length (s .letter) (s .job) (s .cell), second (c .before .before), third c)
+
+-- it is short
+short : (c : tie.After-field-width2) → c .before .before .field-width .result + c .field-width2 .result + 2 ≤ 44
+short c =
+    let s = c .before .before .before .before .before .args in
+    omega (arith, field-at-most-21 (hasJob (s .letter)) (s .job), field-at-most-21 (hasCell (s .letter)) (s .cell), second (c .before .before), third c)
+
+-- where the test holds, the record fits
+fitting : (c : tie.Then1) → let s = c .before .before .before .before .before .before .before .args in s .at + length (lineRecord (s .letter) (s .job) (s .cell)) ≤ length (s .buf .now)
+fitting c = room-for _ _ _ _ (c .before .has-room .ensures) (c .if1 .taken) (long (c .before .before))
+
 has-job-requires : tie.Need-has-job-requires
 has-job-requires c κs = search needs
 
--- src/writer.rt:132:9
-has-cell-requires : tie.Need-has-cell-requires
-has-cell-requires c κs = search needs
-
--- src/writer.rt:133:9
 field-width-requires : tie.Need-field-width-requires
 field-width-requires c κs = search needs
 
--- src/writer.rt:134:9
+has-cell-requires : tie.Need-has-cell-requires
+has-cell-requires c κs = search needs
+
 field-width-requires-2 : tie.Need-field-width-requires-2
 field-width-requires-2 c κs = search needs
 
--- src/writer.rt:136:28
 add-has-room : tie.Need-add-has-room
-add-has-room c = ?
+add-has-room c = omega (arith, short c)
 
--- src/writer.rt:136:28
 add-has-room-2 : tie.Need-add-has-room-2
-add-has-room-2 c = ?
+add-has-room-2 c = omega (arith, short c)
 
--- src/writer.rt:136:28
-add-has-room-3 : tie.Need-add-has-room-3
-add-has-room-3 c = ?
-
--- src/writer.rt:136:9
 has-room-requires : tie.Need-has-room-requires
 has-room-requires c κs = search needs
 
--- src/writer.rt:137:9
-returns : tie.Need-returns
-returns c = ?
+sub-put-line : tie.Need-sub-put-line
+sub-put-line c = omega (arith, fitting c)
 
--- src/writer.rt:139:27
-sub-put-byte : tie.Need-sub-put-byte
-sub-put-byte c = ?
+part-put-line-start : tie.Need-part-put-line-start
+part-put-line-start c = omega (arith, fitting c)
 
--- src/writer.rt:139:27
-part-put-byte-start : tie.Need-part-put-byte-start
-part-put-byte-start c = ?
+part-put-line-end : tie.Need-part-put-line-end
+part-put-line-end c = search needs
 
--- src/writer.rt:139:27
-part-put-byte-end : tie.Need-part-put-byte-end
-part-put-byte-end c = search needs
+put-line-requires : tie.Need-put-line-requires
+put-line-requires c κs =
+    let s = c .before .before .before .before .before .before .before .before in
+    let f = fitting (c .before) in
+    (second (c .before .before .before .before .before), third (c .before .before .before), lent-fits (wrote-none {b = s .args .buf .now} (omega arith)) f)
 
--- src/writer.rt:139:43
-byte-of-requires : tie.Need-byte-of-requires
-byte-of-requires c κs = search needs
+add-t16 : tie.Need-add-t16
+add-t16 c = search needs
 
--- src/writer.rt:139:18
-put-byte-requires : tie.Need-put-byte-requires
-put-byte-requires c κs = ?
-
--- src/writer.rt:139:13
-add-a : tie.Need-add-a
-add-a c = search needs
-
--- src/writer.rt:140:27
-sub-put-field : tie.Need-sub-put-field
-sub-put-field c = search needs
-
--- src/writer.rt:140:27
-part-put-field-start : tie.Need-part-put-field-start
-part-put-field-start c = search needs
-
--- src/writer.rt:140:27
-part-put-field-end : tie.Need-part-put-field-end
-part-put-field-end c = search needs
-
--- src/writer.rt:140:17
-put-field-requires : tie.Need-put-field-requires
-put-field-requires c κs = ?
-
--- src/writer.rt:140:13
-add-b : tie.Need-add-b
-add-b c = search needs
-
--- src/writer.rt:141:27
-sub-put-field-2 : tie.Need-sub-put-field-2
-sub-put-field-2 c = search needs
-
--- src/writer.rt:141:27
-part-put-field-start-2 : tie.Need-part-put-field-start-2
-part-put-field-start-2 c = search needs
-
--- src/writer.rt:141:27
-part-put-field-end-2 : tie.Need-part-put-field-end-2
-part-put-field-end-2 c = search needs
-
--- src/writer.rt:141:17
-put-field-requires-2 : tie.Need-put-field-requires-2
-put-field-requires-2 c κs = ?
-
--- src/writer.rt:141:13
-add-c : tie.Need-add-c
-add-c c = search needs
-
--- src/writer.rt:142:28
-sub-put-byte-2 : tie.Need-sub-put-byte-2
-sub-put-byte-2 c = search needs
-
--- src/writer.rt:142:28
-part-put-byte-start-2 : tie.Need-part-put-byte-start-2
-part-put-byte-start-2 c = search needs
-
--- src/writer.rt:142:28
-part-put-byte-end-2 : tie.Need-part-put-byte-end-2
-part-put-byte-end-2 c = search needs
-
--- src/writer.rt:142:19
-put-byte-requires-2 : tie.Need-put-byte-requires-2
-put-byte-requires-2 c κs = ?
-
--- src/writer.rt:142:15
-add-end : tie.Need-add-end
-add-end c = search needs
-
--- src/writer.rt:128:1
 same-length : tie.Need-same-length
 same-length c = search needs
 
--- src/writer.rt:128:1
+returns : tie.Need-returns
+returns c =
+    let s = c .before .before .before .before .before .before .before .before .before .before .before in
+    let f = fitting (c .before .before .before .before) in
+    written (wrote-more (wrote-none {b = s .args .buf .now} (omega arith)) (c .before .before .put-line .ensures))
+
 returns-2 : tie.Need-returns-2
-returns-2 c = ?
+returns-2 c = refused _ _ _ (no-room-for _ _ _ _ (c .before .has-room .ensures) (c .if1 .left) (long (c .before .before)))
 
 pub write-line-spec : {M : Type 1} → statement M
 write-line-spec =
     tie.close
     (tie.spec
     has-job-requires
-    has-cell-requires
     field-width-requires
+    has-cell-requires
     field-width-requires-2
     add-has-room
     add-has-room-2
-    add-has-room-3
     has-room-requires
-    returns
-    sub-put-byte
-    part-put-byte-start
-    part-put-byte-end
-    byte-of-requires
-    put-byte-requires
-    add-a
-    sub-put-field
-    part-put-field-start
-    part-put-field-end
-    put-field-requires
-    add-b
-    sub-put-field-2
-    part-put-field-start-2
-    part-put-field-end-2
-    put-field-requires-2
-    add-c
-    sub-put-byte-2
-    part-put-byte-start-2
-    part-put-byte-end-2
-    put-byte-requires-2
-    add-end
+    sub-put-line
+    part-put-line-start
+    part-put-line-end
+    put-line-requires
+    add-t16
     same-length
+    returns
     returns-2)
