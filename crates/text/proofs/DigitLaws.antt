@@ -37,6 +37,20 @@ pub decimal-at-most-20 : (n : ℕ) → length (decimal n) ≤ 20
 unfolding decimal
 decimal-at-most-20 n = places-hold 20 n
 
+-- a number below a power of ten has at most as many digits as the power says
+below-power : (p k n : ℕ) → n < 10 ^ suc k → length (digitsIn p n) ≤ suc k
+unfolding digitsIn
+below-power zero k n h = zero-le
+below-power (suc p) zero n h = rw (lt-ltb n 10 h) (omega arith)
+below-power (suc p) (suc k) n h =
+    let ih = below-power p k (n / 10) (div-lt-iff-lt-mul (zero-lt-suc 9) .1 (rw pow-suc at h)) in
+    by-test (ltb n 10) (λ t. rw t (omega arith)) (λ f. rw f (rw length-append (omega arith)))
+
+-- the same of a number in decimal
+pub digits-at-most : (k n : ℕ) → n < 10 ^ suc k → length (decimal n) ≤ suc k
+unfolding decimal
+digits-at-most k n h = below-power 20 k n h
+
 -- so many digits have been counted of n when the digits of rest are still to be counted, the last of them as one already
 pub record Counting (n w rest : ℕ) : Type 0 where
   pub places : ℕ

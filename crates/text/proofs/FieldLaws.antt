@@ -1,6 +1,6 @@
 -- A further field, where there is one and where there is none, each with its length.
 -- Assumes nothing.
-use Prim.Native.Nat.{ℕ, zero, suc, _+_, _-_, _≤_, _<_}
+use Prim.Native.Nat.{ℕ, zero, suc, _+_, _^_, _≤_, _<_}
 use mathlib.Core.Path.{_≡_, refl, sym, ap, _∙_}
 use mathlib.Core.Bool.{Bool, true, false}
 use mathlib.Core.List.{List, [], _∷_, _++_, append-assoc}
@@ -11,7 +11,7 @@ use Rattle.terms.specs.declared.words.Word.{Word}
 use Rattle.terms.specs.Letters.{byteOf, hasJob, hasCell}
 use Rattle.terms.specs.Words.{tab, newline, spelt}
 use Rattle.text.specs.Decimal.{decimal}
-use Rattle.text.proofs.DigitLaws.{decimal-at-most-20}
+use Rattle.text.proofs.DigitLaws.{decimal-at-most-20, digits-at-most}
 use Rattle.text.specs.Records.{field, answerRecord, lineRecord}
 
 -- a field that is there is a tab and its number
@@ -30,6 +30,11 @@ field-length there n e = rw (field-there there n e) (omega arith)
 
 pub no-field-length : (there : Bool) (n : ℕ) → there ≡ false → length (field there n) ≡ 0
 no-field-length there n e = rw (field-none there n e)
+
+-- a field whose number is below a power of ten has at most one byte more than the power says
+pub field-at-most : (k : ℕ) (there : Bool) (n : ℕ) → n < 10 ^ suc k → length (field there n) ≤ k + 2
+field-at-most k true n h = omega (arith, field-length true n refl, digits-at-most k n h)
+field-at-most k false n h = omega (arith, no-field-length false n refl)
 
 -- no field has more than twenty-one bytes
 pub field-at-most-21 : (there : Bool) (n : ℕ) → length (field there n) ≤ 21

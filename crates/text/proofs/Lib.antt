@@ -3,4 +3,5 @@ pub mod FieldLaws
 pub mod Length
 pub mod RoomLaws
 pub mod WordLaws
+pub mod WriterUnique
 pub mod WroteLaws
