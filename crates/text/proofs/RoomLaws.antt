@@ -1,7 +1,7 @@
 -- Whether a record fits: the test that makes no sum that could wrap, and what is told and left by it.
 -- Assumes nothing.
 use Prim.Native.Nat.{ℕ, _+_, _-_, _≤_, _<_}
-use mathlib.Core.Path.{_≡_, refl, sym, ap, _∙_}
+use mathlib.Core.Path.{_≡_, sym, ap, _∙_}
 use mathlib.Core.Bool.{Bool, true, false}
 use mathlib.Core.List.{List}
 use native.Mathlib.Omega.{arith}
@@ -10,7 +10,6 @@ use lib.Dec.{leb}
 use lib.ListN.{length}
 use Rattle.laws.specs.Choice.{by-test}
 use Rattle.terms.specs.declared.refusals.Refusal.the-variants.{NoRoom}
-use Rattle.text.specs.declared.writer.Written.{Written}
 use Rattle.text.specs.declared.writer.Written.the-variants.{Next, Refused}
 use Rattle.text.specs.Records.{fits, told, left}
 use Rattle.text.specs.Wrote.{Wrote}

@@ -1,7 +1,7 @@
 -- What field writers write, one after another, into the later parts that a buffer lends them.
 -- Assumes nothing.
 use Prim.Native.Nat.{ℕ, suc, _+_, _-_, _≤_, _<_}
-use mathlib.Core.Path.{_≡_, refl, sym, ap, subst, _∙_}
+use mathlib.Core.Path.{_≡_, sym, ap, subst, _∙_}
 use mathlib.Core.List.{List, [], _∷_, _++_, append-assoc, append-nil}
 use native.Mathlib.Numerals.{add-one}
 use native.Mathlib.Omega.{arith}
@@ -25,6 +25,13 @@ before-length {at} {a} {bs} {b} w =
     let e = w .ends in
     let h = w .within in
     length-append (take at b) bs ∙ ap (λ k. k + length bs) (length-take-le at b (omega arith)) ∙ sym (w .ends)
+
+-- in front of the place given, every byte is as it was
+pub wrote-before : {at a : ℕ} {bs b m : List ℕ} → Wrote at a bs b m → take at m ≡ take at b
+wrote-before {at} {a} {bs} {b} w =
+    let e = w .ends in
+    let h = w .within in
+    ap (take at) (w .holds ∙ append-assoc (take at b) bs (drop a b)) ∙ take-at (take at b) (bs ++ drop a b) at (length-take-le at b (omega arith))
 
 -- in front of the place that was reached stand the bytes that were written, behind what stood in front of them
 pub wrote-take : {at a : ℕ} {bs b m : List ℕ} → Wrote at a bs b m → take a m ≡ take at b ++ bs

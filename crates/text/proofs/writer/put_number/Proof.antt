@@ -1,7 +1,7 @@
 -- `text::writer::put_number` meets its contract. The loop's invariant: the digits that are still to be written, and what stands from there on, make the whole.
 -- Assumes nothing.
 use Prim.Native.Nat.{_≤_}
-use mathlib.Core.Path.{_≡_, sym, ap, _∙_}
+use mathlib.Core.Path.{_≡_}
 use mathlib.Core.List.{_++_}
 use native.Mathlib.Omega.{arith}
 use lib.ListN.{length, drop, length-set}

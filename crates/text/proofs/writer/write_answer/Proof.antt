@@ -1,6 +1,6 @@
 -- `text::writer::write_answer` meets its contract: a record that fits is written into the lent later part, and one that does not is refused.
 -- Assumes nothing.
-use Prim.Native.Nat.{_+_, _≤_, _<_}
+use Prim.Native.Nat.{_+_, _≤_}
 use mathlib.Core.Path.{_≡_}
 use native.Mathlib.Omega.{arith}
 use borrow.Author.Needs.{needs}
