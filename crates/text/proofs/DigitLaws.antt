@@ -13,6 +13,21 @@ use lib.Seq.{drop-cons, drop-set-lt, getD-set-same}
 use Rattle.laws.specs.Choice.{by-test}
 use Rattle.text.specs.Decimal.{digit, digitsIn, decimal}
 
+-- the single 0
+pub decimal-0 : decimal 0 ≡ 48 ∷ []
+unfolding decimal digitsIn
+decimal-0 = refl
+
+-- one digit stands alone
+pub decimal-7 : decimal 7 ≡ 55 ∷ []
+unfolding decimal digitsIn
+decimal-7 = refl
+
+-- the largest number of a job, digit by digit
+pub decimal-last : decimal 4_294_967_295 ≡ 52 ∷ 50 ∷ 57 ∷ 52 ∷ 57 ∷ 54 ∷ 55 ∷ 50 ∷ 57 ∷ 53 ∷ []
+unfolding decimal digitsIn
+decimal-last = refl
+
 -- a number below ten is its one digit
 pub one-digit : (p n : ℕ) → n < 10 → digitsIn (suc p) n ≡ digit n ∷ []
 unfolding digitsIn

@@ -24,10 +24,11 @@ pub field-none : (there : Bool) (n : ℕ) → there ≡ false → field there n 
 unfolding field
 field-none there n e = rw e
 
--- their lengths
+-- a field that is there has one byte more than its number has digits
 pub field-length : (there : Bool) (n : ℕ) → there ≡ true → length (field there n) ≡ length (decimal n) + 1
 field-length there n e = rw (field-there there n e) (omega arith)
 
+-- a field that is not there has length 0
 pub no-field-length : (there : Bool) (n : ℕ) → there ≡ false → length (field there n) ≡ 0
 no-field-length there n e = rw (field-none there n e)
 

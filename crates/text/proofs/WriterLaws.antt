@@ -45,10 +45,11 @@ pub too-long : (b : List ℕ) (at : ℕ) (bs : List ℕ) → length b < at + len
 unfolding fits
 too-long b at bs h = told-refused b at bs (lt-leb (at + length bs) (length b) h)
 
--- at the end of the buffer every answer record and every letter's line is refused
+-- at the end of the buffer every answer record is refused
 pub answer-at-the-end : (b : List ℕ) (line : ℕ) (word : Word) (number : ℕ) → told b (length b) (answerRecord line word number) ≡ Refused NoRoom
 answer-at-the-end b line word number = too-long b (length b) (answerRecord line word number) (let n = answer-length line word number in omega arith)
 
+-- and so is every letter's line
 pub line-at-the-end : (b : List ℕ) (l : Letter) (job cell : ℕ) → told b (length b) (lineRecord l job cell) ≡ Refused NoRoom
 line-at-the-end b l job cell = too-long b (length b) (lineRecord l job cell) (let n = line-length l job cell in omega arith)
 
@@ -78,10 +79,11 @@ left-before b at bs = by-test (fits b at bs) (λ t. wrote-before (left-wrote b a
 pub left-after : (b : List ℕ) (at : ℕ) (bs : List ℕ) → drop (at + length bs) (left b at bs) ≡ drop (at + length bs) b
 left-after b at bs = by-test (fits b at bs) (λ t. wrote-drop (left-wrote b at bs t)) (λ f. ap (drop (at + length bs)) (left-refused b at bs f))
 
--- byte by byte: a byte before the place given stays, and so does a byte after the record
+-- byte by byte: each byte before the place given stays
 pub byte-before : (b : List ℕ) (at : ℕ) (bs : List ℕ) (i : ℕ) → i < at → getD (left b at bs) i 0 ≡ getD b i 0
 byte-before b at bs i h = sym (getD-take at (left b at bs) i 0 h) ∙ ap (λ l. getD l i 0) (left-before b at bs) ∙ getD-take at b i 0 h
 
+-- and so does each byte after the record
 pub byte-after : (b : List ℕ) (at : ℕ) (bs : List ℕ) (i : ℕ) → at + length bs ≤ i → getD (left b at bs) i 0 ≡ getD b i 0
 byte-after b at bs i h =
     let n = at + length bs in

@@ -1,5 +1,5 @@
 // The record writer: one record into a lent buffer, from the place given and not before it (01, Lines).
-// The buffer's later part is lent to one field writer after another, each of which writes from that part's first byte on.
+// The buffer's part from that place on is lent, and within it the later part to one field writer after another; each writes from its part's first byte on.
 use terms::letters::Letter;
 use terms::letters::byte_of;
 use terms::letters::has_cell;

@@ -76,10 +76,10 @@ put-answer-requires : tie.Need-put-answer-requires
 put-answer-requires c κs =
     let s = c .before .before .before .before .before .before .before in
     let f = fitting (c .before) in
-    (c .before .before .before .before .width .ensures, c .before .before .before .field-width .ensures, lent-fits (wrote-none {b = s .args .buf .now} (omega arith)) f)
+    (c .before .before .before .before .width .ensures, c .before .before .before .field-width .ensures, lent-fits (wrote-none {b = s .args .buf .now} (omega arith)) (omega arith))
 
 add-t18 : tie.Need-add-t18
-add-t18 c = search needs
+add-t18 c = omega (arith, fitting (c .before .before .before .before), c .before .before .put-answer .ensures .ends)
 
 same-length : tie.Need-same-length
 same-length c = search needs

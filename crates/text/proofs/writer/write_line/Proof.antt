@@ -74,10 +74,10 @@ put-line-requires : tie.Need-put-line-requires
 put-line-requires c κs =
     let s = c .before .before .before .before .before .before .before .before in
     let f = fitting (c .before) in
-    (second (c .before .before .before .before .before), third (c .before .before .before), lent-fits (wrote-none {b = s .args .buf .now} (omega arith)) f)
+    (second (c .before .before .before .before .before), third (c .before .before .before), lent-fits (wrote-none {b = s .args .buf .now} (omega arith)) (omega arith))
 
 add-t16 : tie.Need-add-t16
-add-t16 c = search needs
+add-t16 c = omega (arith, fitting (c .before .before .before .before), c .before .before .put-line .ensures .ends)
 
 same-length : tie.Need-same-length
 same-length c = search needs
