@@ -10,3 +10,9 @@ use contract.Lifetimes.{Lfts}
 -- any two results that meet the contract on the same arguments are equal
 abbrev pub Unique : {n : ℕ} (ps : List (PK n)) (r : RK n) → Out n ps r → Type 0
 Unique {n} ps r post = (κs : Lfts n) (a : Dens κs ps) (x y : resT r κs .Denot) (e f : AtExit (endedOf n ps r) κs) → post κs a x e → post κs a y f → x ≡ y
+
+-- any two results that meet the contract on the same arguments are equal, and so is what a lent buffer holds at the exit;
+-- `lent` says which buffer: `λ κs e. now (e .0)` for the first parameter, `λ κs e. now (e .1 .0)` for the second
+abbrev pub UniqueLent : {n : ℕ} (ps : List (PK n)) (r : RK n) → Out n ps r → {B : Type 0} → ((κs : Lfts n) → AtExit (endedOf n ps r) κs → B) → Type 0
+UniqueLent {n} ps r post lent =
+    (κs : Lfts n) (a : Dens κs ps) (x y : resT r κs .Denot) (e f : AtExit (endedOf n ps r) κs) → post κs a x e → post κs a y f → (x ≡ y) × (lent κs e ≡ lent κs f)

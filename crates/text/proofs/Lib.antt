@@ -18,3 +18,11 @@ pub mod ReadBack
 pub mod GoodLine
 pub mod ShortLines
 pub mod LineExamples
+pub mod DigitLaws
+pub mod FieldLaws
+pub mod Length
+pub mod RoomLaws
+pub mod WordLaws
+pub mod WriterLaws
+pub mod WriterUnique
+pub mod WroteLaws

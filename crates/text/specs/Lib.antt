@@ -1,4 +1,5 @@
 pub mod Decimal
+pub mod Wrote
 pub mod Records
 pub mod Lines
 pub mod Fields

@@ -1,8 +1,185 @@
 // The record writer: one record into a lent buffer, from the place given and not before it (01, Lines).
+// The buffer's part from that place on is lent, and within it the later part to one field writer after another; each writes from its part's first byte on.
+use terms::letters::Letter;
+use terms::letters::byte_of;
+use terms::letters::has_cell;
+use terms::letters::has_job;
 use terms::refusals::Refusal;
+use terms::words::NEWLINE;
+use terms::words::TAB;
+use terms::words::Word;
+use terms::words::spelled;
+ghost use mathlib.Core.Path.{_≡_};
+ghost use mathlib.Core.Bool.{true};
+ghost use mathlib.Core.List.{[], _∷_, _++_};
+ghost use Prim.Native.Nat.{_+_, _≤_, _<_};
+ghost use lib.Dec.{leb};
+ghost use lib.ListN.{length};
+ghost use Rattle.terms.specs.Letters.{hasJob, hasCell};
+ghost use Rattle.terms.specs.Words.{tab, newline, spelt};
+ghost use Rattle.text.specs.Decimal.{decimal};
+ghost use Rattle.text.specs.Wrote.{Wrote};
+ghost use Rattle.text.specs.Records.{field, answerRecord, lineRecord, told, left};
 
 // The place after the record, or the refusal of a record that does not fit.
 pub enum Written {
     Next(usize),
     Refused(Refusal),
+}
+
+// How many digits a number has in shortest decimal.
+fn width(n: u64) -> usize
+    ensures { λ r. ⌜ r ≡ length (decimal n) ⌝ }
+{
+    let mut w: usize = 1;
+    let mut rest = n;
+    while rest >= 10 {
+        rest = rest / 10;
+        w += 1;
+    }
+    w
+}
+
+// How many bytes a further field has: a tab and the number, where there is one.
+fn field_width(there: bool, n: u64) -> usize
+    ensures { λ r. ⌜ r ≡ length (field there n) ⌝ }
+{
+    if there { width(n) + 1 } else { 0 }
+}
+
+// Whether so many bytes fit from a place on; no sum is made that could wrap.
+fn has_room(room: usize, at: usize, len: usize) -> bool
+    ensures { λ r. ⌜ r ≡ leb (at + len) room ⌝ }
+{
+    if at <= room { len <= room - at } else { false }
+}
+
+// One byte.
+fn put_byte(part: &mut [u8], byte: u8) -> usize
+    requires { ⌜ 1 ≤ length (now part) ⌝ }
+    ensures { λ r. ⌜ Wrote 0 r (byte ∷ []) (now (part .entry)) (now (part .exit)) ⌝ }
+{
+    part[0] = byte;
+    1
+}
+
+// A number of so many digits, from its last digit to its first.
+fn put_number(part: &mut [u8], n: u64, digits: usize) -> usize
+    requires { ⌜ (digits ≡ length (decimal n)) × (digits ≤ length (now part)) ⌝ }
+    ensures { λ r. ⌜ Wrote 0 r (decimal n) (now (part .entry)) (now (part .exit)) ⌝ }
+{
+    let mut i = digits;
+    let mut rest = n;
+    while 0 < i {
+        i -= 1;
+        part[i] = b'0' + (rest % 10) as u8;
+        rest = rest / 10;
+    }
+    digits
+}
+
+// A further field: a tab and the number, where there is one; it has so many bytes.
+fn put_field(part: &mut [u8], there: bool, n: u64, len: usize) -> usize
+    requires { ⌜ (len ≡ length (field there n)) × (len ≤ length (now part)) ⌝ }
+    ensures { λ r. ⌜ Wrote 0 r (field there n) (now (part .entry)) (now (part .exit)) ⌝ }
+{
+    if there {
+        part[0] = TAB;
+        1 + put_number(&mut part[1..], n, len - 1)
+    } else {
+        0
+    }
+}
+
+// A word as a further field: a tab and the word.
+fn put_word(part: &mut [u8], word: Word) -> usize
+    requires { ⌜ length (spelt word) < length (now part) ⌝ }
+    ensures { λ r. ⌜ Wrote 0 r (tab ∷ spelt word) (now (part .entry)) (now (part .exit)) ⌝ }
+{
+    let spelling = spelled(word);
+    let bytes = spelling.bytes;
+    let len = spelling.len;
+    part[0] = TAB;
+    let mut i: usize = 0;
+    while i < len {
+        part[1 + i] = bytes[i];
+        i += 1;
+    }
+    1 + i
+}
+
+// The last field, where there is one, and the newline that ends the record.
+fn put_last(part: &mut [u8], there: bool, n: u64, len: usize) -> usize
+    requires { ⌜ (len ≡ length (field there n)) × (len < length (now part)) ⌝ }
+    ensures { λ r. ⌜ Wrote 0 r (field there n ++ newline ∷ []) (now (part .entry)) (now (part .exit)) ⌝ }
+{
+    let end = put_field(part, there, n, len);
+    part[end] = NEWLINE;
+    end + 1
+}
+
+// An answer record, of whose first and third field the lengths are known: each field is written into the part after the one before.
+fn put_answer(
+    part: &mut [u8],
+    line: u64,
+    first: usize,
+    word: Word,
+    number: u64,
+    third: usize,
+) -> usize
+    requires { ⌜ (first ≡ length (decimal line)) × (third ≡ length (field true number)) × (length (answerRecord line word number) ≤ length (now part)) ⌝ }
+    ensures { λ r. ⌜ Wrote 0 r (answerRecord line word number) (now (part .entry)) (now (part .exit)) ⌝ }
+{
+    let a = put_number(part, line, first);
+    let b = a + put_word(&mut part[a..], word);
+    b + put_last(&mut part[b..], true, number, third)
+}
+
+// The line of a letter, of whose second and third field the lengths are known: each field is written into the part after the one before.
+fn put_line(
+    part: &mut [u8],
+    letter: Letter,
+    job: u64,
+    second: usize,
+    cell: u64,
+    third: usize,
+) -> usize
+    requires { ⌜ (second ≡ length (field (hasJob letter) job)) × (third ≡ length (field (hasCell letter) cell)) × (length (lineRecord letter job cell) ≤ length (now part)) ⌝ }
+    ensures { λ r. ⌜ Wrote 0 r (lineRecord letter job cell) (now (part .entry)) (now (part .exit)) ⌝ }
+{
+    let a = put_byte(part, byte_of(letter));
+    let b = a + put_field(&mut part[a..], has_job(letter), job, second);
+    b + put_last(&mut part[b..], has_cell(letter), cell, third)
+}
+
+// An answer record: request line number, word, number.
+pub fn write_answer(buf: &mut [u8], at: usize, line: u64, word: Word, number: u64) -> Written
+    ensures { λ r. ⌜ (r ≡ told (now (buf .entry)) at (answerRecord line word number)) × (now (buf .exit) ≡ left (now (buf .entry)) at (answerRecord line word number)) ⌝ }
+{
+    let spelling = spelled(word);
+    let second = spelling.len;
+    let first = width(line);
+    let third = field_width(true, number);
+    let room = buf.len();
+    if has_room(room, at, first + second + third + 2) {
+        let n = put_answer(&mut buf[at..], line, first, word, number, third);
+        Written::Next(at + n)
+    } else {
+        Written::Refused(Refusal::NoRoom)
+    }
+}
+
+// The line of a letter with the fields that it has: a history record, or a request.
+pub fn write_line(buf: &mut [u8], at: usize, letter: Letter, job: u64, cell: u64) -> Written
+    ensures { λ r. ⌜ (r ≡ told (now (buf .entry)) at (lineRecord letter job cell)) × (now (buf .exit) ≡ left (now (buf .entry)) at (lineRecord letter job cell)) ⌝ }
+{
+    let second = field_width(has_job(letter), job);
+    let third = field_width(has_cell(letter), cell);
+    let room = buf.len();
+    if has_room(room, at, second + third + 2) {
+        let n = put_line(&mut buf[at..], letter, job, second, cell, third);
+        Written::Next(at + n)
+    } else {
+        Written::Refused(Refusal::NoRoom)
+    }
 }

@@ -1,0 +1,78 @@
+-- `text::writer::put_answer` meets its contract: each field is written into the part after the one before.
+-- Assumes nothing.
+use native.Mathlib.Omega.{arith}
+use borrow.Author.Needs.{needs}
+use Rattle.text.proofs.FieldLaws.{answer-is}
+use Rattle.text.proofs.Length.{answer-length}
+use Rattle.text.proofs.WroteLaws.{wrote-more, lent-fits}
+use Rattle.text.proofs.writer.put_answer.Statement.{statement}
+use Rattle.text.proofs.writer.put_answer.Tie as tie
+
+put-number-requires : tie.Need-put-number-requires
+put-number-requires c κs =
+    let a = c .before .before .args in
+    (c .before .before .pre .0, omega (arith, answer-length (a .line) (a .word) (a .number)))
+
+sub-put-word : tie.Need-sub-put-word
+sub-put-word c = search needs
+
+part-put-word-start : tie.Need-part-put-word-start
+part-put-word-start c = search needs
+
+part-put-word-end : tie.Need-part-put-word-end
+part-put-word-end c = search needs
+
+put-word-requires : tie.Need-put-word-requires
+put-word-requires c κs =
+    let s = c .before .before .before .before .before .before in
+    let n = answer-length (s .args .line) (s .args .word) (s .args .number) in
+    let w = c .before .before .before .put-number .ensures in
+    lent-fits {b = s .args .part .now} w (omega (arith, w .ends))
+
+add-b : tie.Need-add-b
+add-b c = search needs
+
+sub-put-last : tie.Need-sub-put-last
+sub-put-last c = search needs
+
+part-put-last-start : tie.Need-part-put-last-start
+part-put-last-start c = search needs
+
+part-put-last-end : tie.Need-part-put-last-end
+part-put-last-end c = search needs
+
+put-last-requires : tie.Need-put-last-requires
+put-last-requires c κs =
+    let s = c .before .before .before .before .before .before .before .before .before .before in
+    let n = answer-length (s .args .line) (s .args .word) (s .args .number) in
+    let w = wrote-more (c .before .before .before .before .before .before .before .put-number .ensures) (c .before .before .before .put-word .ensures) in
+    (s .pre .1, lent-fits {b = s .args .part .now} w (omega (arith, w .ends)))
+
+add-result : tie.Need-add-result
+add-result c = search needs
+
+same-length : tie.Need-same-length
+same-length c = search needs
+
+returns : tie.Need-returns
+returns c =
+    let w = wrote-more (c .before .before .before .before .before .before .before .before .before .before .put-number .ensures) (c .before .before .before .before .before .before .put-word .ensures) in
+    rw (answer-is _ _ _) (wrote-more w (c .before .before .put-last .ensures))
+
+pub put-answer-spec : {M : Type 1} → statement M
+put-answer-spec =
+    tie.close
+    (tie.spec
+    put-number-requires
+    sub-put-word
+    part-put-word-start
+    part-put-word-end
+    put-word-requires
+    add-b
+    sub-put-last
+    part-put-last-start
+    part-put-last-end
+    put-last-requires
+    add-result
+    same-length
+    returns)
