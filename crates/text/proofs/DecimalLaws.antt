@@ -153,15 +153,6 @@ digits-of-value p (d ∷ e ∷ ds) o s h =
     let z : 0 < 0 * 10 + (d - 48) = omega arith in
     further p (0 * 10 + (d - 48)) (e ∷ ds) z (only-parts d (e ∷ ds) o .1) h ∙ ap (λ es. es ++ e ∷ ds) (first-digit p d k)
 
--- a number below so many places has at most so many digits
-pub digits-length : (places k n : ℕ) → n < tens (suc k) → length (digitsIn places n) ≤ suc k
-unfolding digitsIn
-digits-length zero k n h = omega arith
-digits-length (suc p) zero n h = rw (lt-ltb n 10 (omega arith)) (omega arith)
-digits-length (suc p) (suc k) n h =
-    by-test (ltb n 10) (λ s. rw s (omega arith))
-    (λ s. rw (s, length-append (digitsIn p (n / 10)) (digit (n % 10) ∷ [])) (omega (arith, digits-length p k (n / 10) (omega arith))))
-
 -- twenty places hold what is below the twentieth power of ten
 pub twenty-places : tens 20 ≡ 10 ^ 20
 twenty-places = refl
@@ -185,8 +176,3 @@ decimal-value n h = value-in 20 n h
 pub decimal-unique : (ds : List ℕ) → digitsOnly ds ≡ true → shortest ds ≡ true → valueFrom 0 ds < tens 20 → decimal (valueFrom 0 ds) ≡ ds
 unfolding decimal
 decimal-unique ds o s h = digits-of-value 19 ds o s h
-
--- a number below a power of ten has at most so many digits
-pub decimal-length : (k n : ℕ) → n < tens (suc k) → length (decimal n) ≤ suc k
-unfolding decimal
-decimal-length k n h = digits-length 20 k n h

@@ -18,7 +18,7 @@ use Rattle.text.specs.declared.reader.Reading.the-variants.{Good, Bad}
 use Rattle.text.specs.Records.{field, lineRecord}
 use Rattle.text.specs.Lines.{lastCell, readLine}
 use Rattle.text.specs.Split.{kept, linesOf, oneLine, every}
-use Rattle.text.proofs.DecimalLaws.{tens, decimal-length}
+use Rattle.text.proofs.Length.{line-at-most-16}
 use Rattle.text.proofs.GoodLine.{good-is-record}
 use Rattle.text.proofs.TextLines.{lines-one}
 
@@ -35,25 +35,11 @@ newline-ends [] (c ∷ ys) h = not-both h refl
 newline-ends (x ∷ []) ys h = newline-ends [] ys (one-line-tail x newline ys h)
 newline-ends (x ∷ y ∷ xs) ys h = newline-ends (y ∷ xs) ys (one-line-tail x y (xs ++ newline ∷ ys) h)
 
--- a field has a tab and its digits at most
-field-length : (there : Bool) (k n : ℕ) → n < tens (suc k) → length (field there n) ≤ suc (suc k)
-unfolding field
-field-length true k n h = omega (arith, decimal-length k n h)
-field-length false k n h = omega arith
-
--- a record of a line has at most 16 bytes
-pub record-length : (l : Letter) (job cell : ℕ) → job ≤ lastNumber → cell ≤ lastCell → length (lineRecord l job cell) ≤ kept
-unfolding lineRecord
-record-length l job cell jobs cells =
-    let a = field (hasJob l) job in
-    let b = field (hasCell l) cell in
-    omega (arith, length-append (a ++ b) (newline ∷ []), length-append a b, field-length (hasJob l) 9 job (omega arith), field-length (hasCell l) 1 cell (omega arith))
-
 -- a good line has at most 16 bytes
 pub good-length : (which : Letter → Bool) (bytes : List ℕ) (l : Letter) (job cell : ℕ) → readLine which bytes ≡ Good l job cell → length bytes ≤ kept
 good-length which bytes l job cell e =
     let g = good-is-record which bytes l job cell e in
-    rw (g .0) (record-length l job cell (g .2) (g .3))
+    rw (g .0) (line-at-most-16 l job cell (g .2) (g .3))
 
 -- nothing follows a part of one line that ends in a newline
 part-ends : (xs p q : List ℕ) → p ≡ xs ++ newline ∷ [] → oneLine (p ++ q) ≡ true → q ≡ []
