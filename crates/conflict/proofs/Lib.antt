@@ -16,3 +16,8 @@ pub mod Appended
 pub mod Calm
 pub mod Strict
 pub mod LockMachine
+pub mod MoreModeLaws
+pub mod OneEvent
+pub mod StillHeld
+pub mod Ways
+pub mod CommittedJobs

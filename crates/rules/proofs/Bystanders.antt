@@ -1,0 +1,73 @@
+-- In a step nobody's status or place changes but the job's that the answer names and the wakes' (01, The desk's rules).
+-- Assumes nothing.
+use Prim.Native.Nat.{ℕ}
+use mathlib.Core.Path.{_≡_, refl, _∙_}
+use mathlib.Core.Logic.{_≢_}
+use mathlib.Core.Bool.{false}
+use mathlib.Core.List.{List}
+use Rattle.terms.specs.declared.letters.Letter.{Letter}
+use Rattle.terms.specs.declared.letters.Letter.the-variants.{Begin}
+use Rattle.terms.specs.declared.letters.Lettered.the-variants.{Known}
+use Rattle.terms.specs.Letters.{letterOf}
+use Rattle.conflict.specs.Jobs.{member}
+use Rattle.rules.specs.declared.Answer.{Answer}
+use Rattle.rules.specs.declared.Answer.the-variants.{Go, Back}
+use Rattle.rules.specs.Desk.{Status, closed, running, sentback, waiting, Desk, Request, at, vacated}
+use Rattle.rules.specs.Rules.{Outcome, refused, withRow, withStatus, isWoken, rule4, close, sendBack, grant, queued, rule1, retry, begin}
+use Rattle.rules.specs.Step.{step}
+use Rattle.rules.specs.Table.{isBegin, named}
+use Rattle.rules.proofs.Moved.{Moved, refuses, begins, commits, gives-up, retries, has-it, promotes, waits-in-front, enters, waits-last, goes-back, step-moved}
+use Rattle.rules.proofs.Tests.{at-other}
+use Rattle.rules.proofs.Places.{seated-others, vacated-others}
+use Rattle.rules.proofs.Wakes.{others-stay}
+use Rattle.rules.proofs.RunEnd.{wakesAfter}
+
+-- at the end of a job's run another that is not woken stays as it was
+ended-others : (d : Desk) (j : ℕ) (s : Status) (js : List ℕ) (said : Answer) (i : ℕ) → i ≢ j → isWoken i (rule4 d j s js said .wakes) ≡ false → rule4 d j s js said .desk .stat i ≡ d .stat i
+unfolding rule4
+ended-others d j s js said i n f = others-stay (at (d .stat) j s) (wakesAfter d j) i f ∙ at-other (d .stat) j s i n
+
+module _ (d : Desk) (r : Request) (i : ℕ) (n : i ≢ named d r) where
+  -- a job that the answer does not name is not the request's, unless that is a begin
+  not-job : {l : Letter} → letterOf (r .kind) ≡ Known l → isBegin l ≡ false → i ≢ r .job
+  unfolding named
+  not-job e f q = n (q ∙ rw (e, f))
+
+  -- nor the new one, where it is
+  not-next : letterOf (r .kind) ≡ Known Begin → i ≢ d .next
+  unfolding named
+  not-next e q = n (q ∙ rw e)
+
+  -- a job that the answer does not name and that is not among the wakes stays as it was
+  pub bystander : isWoken i (step d r .wakes) ≡ false → step d r .desk .stat i ≡ d .stat i
+  bystander = by-move (step-moved d r)
+    where
+      by-move : {o : Outcome} → Moved d r o → isWoken i (o .wakes) ≡ false → o .desk .stat i ≡ d .stat i
+      by-move (refuses why) h = unfold refused in refl
+      by-move (begins l m k) h = unfold begin in at-other (d .stat) (d .next) running i (not-next l)
+      by-move (commits l s) h = unfold close in ended-others d (r .job) closed (vacated (r .job) (d .jobs)) (Go (r .job)) i (not-job l refl) h
+      by-move (gives-up l s) h = unfold close in ended-others d (r .job) closed (vacated (r .job) (d .jobs)) (Go (r .job)) i (not-job l refl) h
+      by-move (retries l s) h = unfold retry withStatus in at-other (d .stat) (r .job) running i (not-job l refl)
+      by-move (has-it b k x) h = unfold rule1 in refl
+      by-move (promotes b k x f z) h = unfold grant withRow in refl
+      by-move (waits-in-front b k x f z w) h = unfold queued withStatus withRow in at-other (d .stat) (r .job) (waiting (r .cell) b) i (not-job (k .letter) refl)
+      by-move (enters b k f z w) h = unfold grant withRow in refl
+      by-move (waits-last b k f z w u) h = unfold queued withStatus withRow in at-other (d .stat) (r .job) (waiting (r .cell) b) i (not-job (k .letter) refl)
+      by-move (goes-back b k x) h = unfold sendBack in ended-others d (r .job) sentback (d .jobs) (Back (r .job)) i (not-job (k .letter) refl) h
+
+  -- and keeps its place
+  pub bystander-place : i ≢ 0 → member i (step d r .desk .jobs) ≡ member i (d .jobs)
+  bystander-place z = by-move (step-moved d r)
+    where
+      by-move : {o : Outcome} → Moved d r o → member i (o .desk .jobs) ≡ member i (d .jobs)
+      by-move (refuses why) = unfold refused in refl
+      by-move (begins l m k) = unfold begin in seated-others (d .next) (d .jobs) i (not-next l) z
+      by-move (commits l s) = unfold close rule4 in vacated-others (r .job) (d .jobs) i (not-job l refl) z
+      by-move (gives-up l s) = unfold close rule4 in vacated-others (r .job) (d .jobs) i (not-job l refl) z
+      by-move (retries l s) = unfold retry withStatus in refl
+      by-move (has-it b k x) = unfold rule1 in refl
+      by-move (promotes b k x f y) = unfold grant withRow in refl
+      by-move (waits-in-front b k x f y w) = unfold queued withStatus withRow in refl
+      by-move (enters b k f y w) = unfold grant withRow in refl
+      by-move (waits-last b k f y w u) = unfold queued withStatus withRow in refl
+      by-move (goes-back b k x) = unfold sendBack rule4 in refl

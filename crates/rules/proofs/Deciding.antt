@@ -1,0 +1,168 @@
+-- Rules 2 and 3 in the paper's words, over all jobs and not over places: when a job that asks goes, waits or is sent back. What then happens is told by the answer (01, rules 2 and 3).
+-- Assumes nothing.
+use Prim.Native.Nat.{ℕ, _<_}
+use mathlib.Core.Path.{_≡_, refl, ap, _∙_}
+use mathlib.Core.Logic.{_≢_}
+use mathlib.Core.Bool.{Bool, true, false, _&&_}
+use mathlib.Core.List.{List, []}
+use native.Mathlib.Omega.{arith}
+use Rattle.laws.specs.Choice.{pick, by-test, not-both}
+use Rattle.terms.specs.declared.letters.Ask.{Ask}
+use Rattle.conflict.specs.declared.modes.Mode.{Mode}
+use Rattle.conflict.specs.Modes.{needed, covers, grants, isFree}
+use Rattle.conflict.proofs.ModeLaws.{covers-free, is-free, grants-free}
+use Rattle.conflict.proofs.Parts.{and-both}
+use Rattle.conflict.specs.History.{History}
+use Rattle.rules.specs.declared.Answer.the-variants.{Go, Wait, Back}
+use Rattle.rules.specs.Desk.{Waiter, Desk, Request}
+use Rattle.rules.specs.Locks.{agrees, alone, olderThanHolders, olderThanWaiters, isEmpty}
+use Rattle.rules.specs.Rules.{rule2, rule3, rule4, grant, queued, sendBack, ask}
+use Rattle.rules.specs.Step.{step, Started}
+use Rattle.rules.proofs.Kept.{started-inv}
+use Rattle.rules.proofs.Invariant.{In, first, later}
+use Rattle.rules.proofs.Moved.{Asking}
+use Rattle.rules.proofs.Tests.{Seated, each-agrees, not-agrees, each-alone, alone-each, each-older, older-holders, each-older-waiters, older-waiters}
+use Rattle.rules.proofs.RunEnd.{row-ready}
+use Rattle.rules.proofs.Granting.{asking-step}
+
+-- what each job holds of the cell that a request names
+abbrev pub heldThere : Desk → Request → ℕ → Mode
+heldThere d r = d .row (r .cell) .held
+
+-- who waits there
+abbrev pub queueThere : Desk → Request → List Waiter
+queueThere d r = d .row (r .cell) .queue
+
+-- a holder of the cell other than the request's job
+pub record OtherHolder (d : Desk) (r : Request) (i : ℕ) : Type 0 where
+  pub other : i ≢ r .job
+  pub holds : isFree (heldThere d r i) ≡ false
+
+-- the job asks for a promotion: it holds the cell, and not in a mode that covers its need
+pub record Promotes (d : Desk) (r : Request) (a : Ask) : Type 0 where
+  pub asking : Asking d r a
+  pub holds : isFree (heldThere d r (r .job)) ≡ false
+  pub not-covered : covers (heldThere d r (r .job)) (needed a) ≡ false
+
+-- the job does not hold the cell
+pub record Enters (d : Desk) (r : Request) (a : Ask) : Type 0 where
+  pub asking : Asking d r a
+  pub holds-nothing : isFree (heldThere d r (r .job)) ≡ true
+
+-- a job new to the cell cannot have it at once: somebody waits for it, or somebody holds it in a mode that does not agree
+pub data Hindered (d : Desk) (r : Request) (a : Ask) : Type 0 where
+  waits-already : (w : Waiter) → In w (queueThere d r) → Hindered d r a
+  disagrees : (i : ℕ) → OtherHolder d r i → grants (heldThere d r i) (needed a) ≡ false → Hindered d r a
+
+-- rule 2 decides a promotion
+by-rule2 : {d : Desk} {r : Request} {a : Ask} → Promotes d r a → step d r ≡ rule2 d (r .job) (r .cell) a
+unfolding ask
+by-rule2 {d} {r} {a} p = asking-step d r a (p .asking) ∙ rw (p .not-covered, p .holds)
+
+-- rule 3 decides for a job new to the cell
+by-rule3 : {d : Desk} {r : Request} {a : Ask} → Enters d r a → step d r ≡ rule3 d (r .job) (r .cell) a
+unfolding ask
+by-rule3 {d} {r} {a} p =
+    asking-step d r a (p .asking) ∙ rw (ap (λ m. covers m (needed a)) (is-free _ (p .holds-nothing)) ∙ covers-free a, p .holds-nothing)
+
+-- the tests of rule 2 and its answers
+rule2-said : (d : Desk) (j c : ℕ) (a : Ask) → rule2 d j c a .said ≡ pick (alone (d .jobs) (d .row c .held) j) (Go j) (pick (olderThanHolders (d .jobs) (d .row c .held) j) (Wait j) (Back j))
+unfolding rule2 grant queued sendBack rule4
+rule2-said d j c a = by-test (alone (d .jobs) (d .row c .held) j) (λ t. rw t) (λ f. by-test (olderThanHolders (d .jobs) (d .row c .held) j) (λ t. rw (f, t)) (λ g. rw (f, g)))
+
+-- the tests of rule 3 and its answers
+rule3-said : (d : Desk) (j c : ℕ) (a : Ask) → rule3 d j c a .said ≡ pick (isEmpty (d .row c .queue) && agrees (d .jobs) (d .row c .held) j (needed a)) (Go j) (pick (olderThanHolders (d .jobs) (d .row c .held) j && olderThanWaiters (d .row c .queue) j) (Wait j) (Back j))
+unfolding rule3 grant queued sendBack rule4
+rule3-said d j c a =
+    by-test (isEmpty (d .row c .queue) && agrees (d .jobs) (d .row c .held) j (needed a)) (λ t. rw t)
+    (λ f. by-test (olderThanHolders (d .jobs) (d .row c .held) j && olderThanWaiters (d .row c .queue) j) (λ t. rw (f, t)) (λ g. rw (f, g)))
+
+-- a queue in which somebody stands is not empty
+not-empty : {w : Waiter} {q : List Waiter} → In w q → isEmpty q ≡ false
+unfolding isEmpty
+not-empty first = refl
+not-empty (later h) = refl
+
+-- two tests do not both hold where the first fails
+not-first : (a b : Bool) → a ≡ false → (a && b) ≡ false
+not-first a b e = rw e
+
+-- nor where the second fails
+not-second : (a b : Bool) → b ≡ false → (a && b) ≡ false
+not-second true b e = e
+not-second false b e = refl
+
+module _ {d : Desk} {h : History} (started : Started d h) (r : Request) (a : Ask) where
+  -- every holder has a place
+  seats : Seated (d .jobs) (heldThere d r)
+  seats = row-ready (started-inv started) (r .cell) .seats
+
+  -- where another job holds the cell, the job is not alone
+  not-alone : (i : ℕ) → OtherHolder d r i → alone (d .jobs) (heldThere d r) (r .job) ≡ false
+  not-alone i o = by-test (alone (d .jobs) (heldThere d r) (r .job)) (λ t. not-both (alone-each (d .jobs) (heldThere d r) (r .job) seats t i (o .other)) (o .holds)) (λ f. f)
+
+  -- where another holder is older, the job is not older than every holder
+  not-older : (i : ℕ) → OtherHolder d r i → i < r .job → olderThanHolders (d .jobs) (heldThere d r) (r .job) ≡ false
+  not-older i o l =
+      by-test (olderThanHolders (d .jobs) (heldThere d r) (r .job))
+      (λ t. let g : r .job < i = older-holders (d .jobs) (heldThere d r) (r .job) seats t i (o .other) (o .holds) in absurd (omega arith)) (λ f. f)
+
+  -- where every other holder is younger, it is
+  is-older : ((i : ℕ) → OtherHolder d r i → r .job < i) → olderThanHolders (d .jobs) (heldThere d r) (r .job) ≡ true
+  is-older h = each-older (d .jobs) (heldThere d r) (r .job) (λ i n f. h i (record { other = n; holds = f }))
+
+  -- a hindered job cannot have the cell at once
+  not-at-once : Hindered d r a → (isEmpty (queueThere d r) && agrees (d .jobs) (heldThere d r) (r .job) (needed a)) ≡ false
+  not-at-once (waits-already w s) = not-first (isEmpty (queueThere d r)) (agrees (d .jobs) (heldThere d r) (r .job) (needed a)) (not-empty s)
+  not-at-once (disagrees i o f) =
+      not-second (isEmpty (queueThere d r)) (agrees (d .jobs) (heldThere d r) (r .job) (needed a))
+      (not-agrees (d .jobs) (heldThere d r) (r .job) (needed a) seats i (o .other) f)
+
+  -- a promotion with no other holder: go
+  pub promotion-goes : Promotes d r a → ((i : ℕ) → OtherHolder d r i → ⊥) → step d r .said ≡ Go (r .job)
+  promotion-goes p h =
+      ap (λ o. o .said) (by-rule2 p) ∙ rule2-said d (r .job) (r .cell) a
+      ∙ rw (each-alone (d .jobs) (heldThere d r) (r .job) (λ i n. by-test (isFree (heldThere d r i)) (λ t. t) (λ f. absurd (h i (record { other = n; holds = f })))))
+
+  -- otherwise, older than every other holder: wait
+  pub promotion-waits : Promotes d r a → (i : ℕ) → OtherHolder d r i → ((i : ℕ) → OtherHolder d r i → r .job < i) → step d r .said ≡ Wait (r .job)
+  promotion-waits p i o h =
+      ap (λ o. o .said) (by-rule2 p) ∙ rule2-said d (r .job) (r .cell) a ∙ rw (not-alone i o, is-older h)
+
+  -- otherwise: back
+  pub promotion-back : Promotes d r a → (i : ℕ) → OtherHolder d r i → i < r .job → step d r .said ≡ Back (r .job)
+  promotion-back p i o l =
+      ap (λ o. o .said) (by-rule2 p) ∙ rule2-said d (r .job) (r .cell) a ∙ rw (not-alone i o, not-older i o l)
+
+  -- a job new to the cell, with nobody waiting and every holder agreeing: go
+  pub entry-goes : Enters d r a → queueThere d r ≡ [] → ((i : ℕ) → OtherHolder d r i → grants (heldThere d r i) (needed a) ≡ true) → step d r .said ≡ Go (r .job)
+  entry-goes p e h =
+      ap (λ o. o .said) (by-rule3 p) ∙ rule3-said d (r .job) (r .cell) a
+      ∙ rw (and-both (isEmpty (queueThere d r)) (agrees (d .jobs) (heldThere d r) (r .job) (needed a)) (unfold isEmpty in rw e) agreeing)
+    where
+      agreeing : agrees (d .jobs) (heldThere d r) (r .job) (needed a) ≡ true
+      agreeing = each-agrees (d .jobs) (heldThere d r) (r .job) (needed a)
+          (λ i n. by-test (isFree (heldThere d r i)) (λ t. rw (is-free (heldThere d r i) t) (grants-free (needed a))) (λ f. h i (record { other = n; holds = f })))
+
+  -- otherwise, older than every holder and every waiter: wait
+  pub entry-waits : Enters d r a → Hindered d r a → ((i : ℕ) → OtherHolder d r i → r .job < i) → ((w : Waiter) → In w (queueThere d r) → r .job < w .job) → step d r .said ≡ Wait (r .job)
+  entry-waits p x h w =
+      ap (λ o. o .said) (by-rule3 p) ∙ rule3-said d (r .job) (r .cell) a
+      ∙ rw (not-at-once x, and-both (olderThanHolders (d .jobs) (heldThere d r) (r .job)) (olderThanWaiters (queueThere d r) (r .job)) (is-older h) (each-older-waiters (queueThere d r) (r .job) w))
+
+  -- otherwise back: behind an older holder
+  pub entry-back : Enters d r a → Hindered d r a → (i : ℕ) → OtherHolder d r i → i < r .job → step d r .said ≡ Back (r .job)
+  entry-back p x i o l =
+      ap (λ o. o .said) (by-rule3 p) ∙ rule3-said d (r .job) (r .cell) a
+      ∙ rw (not-at-once x, not-first (olderThanHolders (d .jobs) (heldThere d r) (r .job)) (olderThanWaiters (queueThere d r) (r .job)) (not-older i o l))
+
+  -- or behind an older waiter
+  pub entry-back-waiter : Enters d r a → (w : Waiter) → In w (queueThere d r) → w .job < r .job → step d r .said ≡ Back (r .job)
+  entry-back-waiter p w s l =
+      ap (λ o. o .said) (by-rule3 p) ∙ rule3-said d (r .job) (r .cell) a
+      ∙ rw (not-at-once (waits-already w s), not-second (olderThanHolders (d .jobs) (heldThere d r) (r .job)) (olderThanWaiters (queueThere d r) (r .job)) behind)
+    where
+      behind : olderThanWaiters (queueThere d r) (r .job) ≡ false
+      behind =
+          by-test (olderThanWaiters (queueThere d r) (r .job))
+          (λ t. let g : r .job < w .job = older-waiters (queueThere d r) (r .job) t w s in absurd (omega arith)) (λ f. f)

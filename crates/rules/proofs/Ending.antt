@@ -1,0 +1,88 @@
+-- A run's end. Commit and give-up close a job and free its place; a sent back job keeps its number and its place; both drop all locks and every place in a queue (01, Jobs and their numbers; 01, rule 4).
+-- Assumes nothing.
+use Prim.Native.Nat.{ℕ}
+use mathlib.Core.Path.{_≡_, refl, sym, _∙_}
+use mathlib.Core.Logic.{_≢_, _⊎_, inl, inr}
+use mathlib.Core.Bool.{true, false}
+use mathlib.Core.List.{List, [], _∷_}
+use Rattle.laws.specs.Choice.{by-test}
+use Rattle.terms.specs.declared.letters.Letter.the-variants.{Commit, GiveUp}
+use Rattle.terms.specs.declared.letters.Lettered.the-variants.{Known}
+use Rattle.terms.specs.Letters.{letterOf}
+use Rattle.conflict.specs.Jobs.{same, member}
+use Rattle.conflict.proofs.JobLists.{member-first, member-later, member-more}
+use Rattle.conflict.specs.History.{History}
+use Rattle.rules.specs.declared.Answer.the-variants.{Go, Back}
+use Rattle.rules.specs.Desk.{closed, sentback, Desk, Request, isOpen, vacated}
+use Rattle.rules.specs.Rules.{rule4, close, sendBack}
+use Rattle.rules.specs.Step.{step, Started}
+use Rattle.rules.proofs.Kept.{started-inv}
+use Rattle.rules.proofs.Invariant.{Inv}
+use Rattle.rules.proofs.Statuses.{running-open}
+use Rattle.rules.proofs.Places.{vacated-others, vacated-gone}
+use Rattle.rules.proofs.OpenJobs.{open-not-zero}
+use Rattle.rules.proofs.Away.{Away, ended-away, ended-status}
+use Rattle.rules.proofs.Courses.{commit-went, give-up-went, ask-back}
+
+-- from desk d to desk e job j was closed: it is closed and has no part in any cell, its place is free, and every other job keeps its place
+pub record Closes (d e : Desk) (j : ℕ) : Type 0 where
+  pub status : e .stat j ≡ closed
+  pub away : Away e j
+  pub gone : member j (e .jobs) ≡ false
+  pub free : member 0 (e .jobs) ≡ true
+  pub others : (i : ℕ) → i ≢ j → i ≢ 0 → member i (e .jobs) ≡ member i (d .jobs)
+  pub next : e .next ≡ d .next
+
+-- from desk d to desk e job j was sent back: it has that status and no part in any cell, and keeps its number and its place among the 32
+pub record SendsBack (d e : Desk) (j : ℕ) : Type 0 where
+  pub status : e .stat j ≡ sentback
+  pub away : Away e j
+  pub place : member j (e .jobs) ≡ true
+  pub places : e .jobs ≡ d .jobs
+  pub next : e .next ≡ d .next
+
+-- a place that is freed is free
+vacated-free : (j : ℕ) (ks : List ℕ) → member j ks ≡ true → member 0 (vacated j ks) ≡ true
+unfolding vacated
+vacated-free j [] m = unfold member in m
+vacated-free j (k ∷ ks) m =
+    by-test (same k j) (λ t. rw t (member-first 0 (vacated j ks)))
+    (λ f. rw f (member-more k (vacated j ks) 0 (vacated-free j ks (sym (member-later k ks j f) ∙ m))))
+
+-- closing an open job
+close-closes : {d : Desk} → Inv d → (j : ℕ) → isOpen (d .stat j) ≡ true → Closes d (close d j .desk) j
+unfolding close
+close-closes {d} v j o = record {
+  status = ended-status v j closed (vacated j (d .jobs)) (Go j);
+  away = ended-away v j closed (vacated j (d .jobs)) (Go j);
+  gone = unfold rule4 in vacated-gone j (d .jobs) (open-not-zero v j o);
+  free = unfold rule4 in vacated-free j (d .jobs) (v .seats j o);
+  others = unfold rule4 in vacated-others j (d .jobs);
+  next = unfold rule4 in refl;
+}
+
+-- sending an open job back
+back-sends : {d : Desk} → Inv d → (j : ℕ) → isOpen (d .stat j) ≡ true → SendsBack d (sendBack d j .desk) j
+unfolding sendBack
+back-sends {d} v j o = record {
+  status = ended-status v j sentback (d .jobs) (Back j);
+  away = ended-away v j sentback (d .jobs) (Back j);
+  place = unfold rule4 in v .seats j o;
+  places = unfold rule4 in refl;
+  next = unfold rule4 in refl;
+}
+
+-- a commit or a give-up that is answered go closes the job
+pub closes : {d : Desk} {h : History} → Started d h → (r : Request) (j : ℕ) → (letterOf (r .kind) ≡ Known Commit) ⊎ (letterOf (r .kind) ≡ Known GiveUp) → step d r .said ≡ Go j → Closes d (step d r .desk) j
+closes {d} s r j (inl e) g =
+    let c = commit-went d r j e g in
+    rw (c .job, c .outcome) (close-closes (started-inv s) (r .job) (running-open (c .was)))
+closes {d} s r j (inr e) g =
+    let c = give-up-went d r j e g in
+    rw (c .job, c .outcome) (close-closes (started-inv s) (r .job) (c .was))
+
+-- a step that answers back sends the job back
+pub sends-back : {d : Desk} {h : History} → Started d h → (r : Request) (j : ℕ) → step d r .said ≡ Back j → SendsBack d (step d r .desk) j
+sends-back {d} s r j g =
+    let c = ask-back d r j g in
+    rw (c .job, c .outcome) (back-sends (started-inv s) (r .job) (running-open (c .was .1 .runs)))

@@ -1,0 +1,96 @@
+-- Nothing is released before the run ends: in a step a job's mode at a cell only grows, or the step ends that job's run (01, The desk's rules).
+-- Assumes nothing.
+use Prim.Native.Nat.{ℕ}
+use mathlib.Core.Path.{_≡_, refl, ap, _∙_}
+use mathlib.Core.Logic.{_≢_, _⊎_, inl, inr}
+use mathlib.Core.Bool.{true}
+use mathlib.Core.List.{List, _∷_}
+use borrow.Author.Tests.{eqb-false}
+use Rattle.laws.specs.Choice.{by-test}
+use Rattle.terms.specs.declared.letters.Ask.{Ask}
+use Rattle.conflict.specs.declared.modes.Mode.{Mode}
+use Rattle.conflict.specs.declared.action.Mark.{Mark}
+use Rattle.conflict.specs.declared.action.Mark.the-variants.{Commit, GiveUp, Back}
+use Rattle.conflict.specs.declared.action.Event.the-variants.{Ends}
+use Rattle.conflict.specs.Modes.{needed, covers}
+use Rattle.conflict.specs.Jobs.{same}
+use Rattle.conflict.specs.History.{History, marked}
+use Rattle.conflict.proofs.ModeLaws.{covers-refl, asked-grows}
+use Rattle.conflict.proofs.JobLists.{same-sym}
+use Rattle.rules.specs.declared.Answer.{Answer}
+use Rattle.rules.specs.declared.Answer.the-variants.{Go, Back as sent-back}
+use Rattle.rules.specs.Desk.{Status, closed, sentback, vacated, Waiter, Desk, Request, at}
+use Rattle.rules.specs.Rules.{Outcome, refused, withRow, withStatus, rule4, close, sendBack, grant, queued, rule1, retry, begin}
+use Rattle.rules.specs.Step.{step, events, Started}
+use Rattle.conflict.specs.Runs.{isEnd, ended}
+use Rattle.rules.proofs.Kept.{started-inv}
+use Rattle.rules.proofs.Invariant.{Inv}
+use Rattle.rules.proofs.Moved.{Moved, refuses, begins, commits, gives-up, retries, has-it, promotes, waits-in-front, enters, waits-last, goes-back, step-moved}
+use Rattle.rules.proofs.Tests.{at-each}
+use Rattle.rules.proofs.RunEnd.{row-releases}
+use Rattle.rules.proofs.Records.{commit-records, give-up-records, back-records}
+use Rattle.rules.proofs.Courses.{covers-none}
+
+-- what job i holds at cell c in desk e covers what it held there in desk d
+abbrev pub Keeps : Desk → Desk → ℕ → ℕ → Type 0
+Keeps d e i c = covers (e .row c .held i) (d .row c .held i) ≡ true
+
+-- a history that begins with a mark of a job ends a run of it
+first-ends : (m : Mark) (j i : ℕ) (h : History) → same i j ≡ true → ended i (Ends m j ∷ h) ≡ true
+unfolding isEnd ended marked
+first-ends m j i h t = rw (same-sym j i ∙ t)
+
+-- the end of another job's run
+rule4-keeps : {d : Desk} → Inv d → (j : ℕ) (s : Status) (js : List ℕ) (said : Answer) (i c : ℕ) → i ≢ j → Keeps d (rule4 d j s js said .desk) i c
+unfolding rule4
+rule4-keeps v j s js said i c n = row-releases v j c .grown i n
+
+-- a mode that covers what the job held is granted
+grant-keeps : (d : Desk) (j b : ℕ) (m : Mode) → covers m (d .row b .held j) ≡ true → (i c : ℕ) → Keeps d (grant d j b m .desk) i c
+unfolding grant withRow
+grant-keeps d j b m h i c =
+    at-each (λ x. covers (x .held i) (d .row c .held i) ≡ true) (d .row) b (record { held = at (d .row b .held) j m; queue = d .row b .queue }) c
+    (λ e. at-each (λ x. covers x (d .row c .held i) ≡ true) (d .row b .held) j m i
+    (λ q. rw (e, q) h) (λ _. rw e (covers-refl (d .row b .held i))))
+    (λ _. covers-refl (d .row c .held i))
+
+-- a job waits
+queued-keeps : (d : Desk) (j b : ℕ) (a : Ask) (q : List Waiter) (i c : ℕ) → Keeps d (queued d j b a q .desk) i c
+unfolding queued withStatus withRow
+queued-keeps d j b a q i c =
+    at-each (λ x. covers (x .held i) (d .row c .held i) ≡ true) (d .row) b (record { held = d .row b .held; queue = q }) c
+    (λ e. rw e (covers-refl (d .row b .held i))) (λ _. covers-refl (d .row c .held i))
+
+-- a job's own run ends, or another's does
+either-way : (d e : Desk) (h rest : History) (m : Mark) (j i c : ℕ) → h ≡ Ends m j ∷ rest → (i ≢ j → Keeps d e i c) → Keeps d e i c ⊎ (ended i h ≡ true)
+either-way d e h rest m j i c q f =
+    by-test (same i j) (λ t. inr (rw q (first-ends m j i rest t))) (λ n. inl (f (eqb-false i j n)))
+
+-- in every step, what a job holds at a cell only grows, or the step ends that job's run
+pub held-till-end : {d : Desk} {h : History} → Started d h → (r : Request) (i c : ℕ) → Keeps d (step d r .desk) i c ⊎ (ended i (events d r) ≡ true)
+held-till-end {d} s r i c = by-move (step-moved d r) refl
+  where
+    closed-says : step d r ≡ close d (r .job) → step d r .said ≡ Go (r .job)
+    closed-says h = unfold close rule4 in ap (λ o. o .said) h
+
+    closed-keeps : i ≢ r .job → Keeps d (close d (r .job) .desk) i c
+    closed-keeps n = unfold close in rule4-keeps (started-inv s) (r .job) closed (vacated (r .job) (d .jobs)) (Go (r .job)) i c n
+
+    back-says : step d r ≡ sendBack d (r .job) → step d r .said ≡ sent-back (r .job)
+    back-says h = unfold sendBack rule4 in ap (λ o. o .said) h
+
+    back-keeps : i ≢ r .job → Keeps d (sendBack d (r .job) .desk) i c
+    back-keeps n = unfold sendBack in rule4-keeps (started-inv s) (r .job) sentback (d .jobs) (sent-back (r .job)) i c n
+
+    by-move : {o : Outcome} → Moved d r o → step d r ≡ o → Keeps d (step d r .desk) i c ⊎ (ended i (events d r) ≡ true)
+    by-move (refuses why) h = inl (rw h (unfold refused in covers-refl (d .row c .held i)))
+    by-move (begins l n m) h = inl (rw h (unfold begin in covers-refl (d .row c .held i)))
+    by-move (commits l q) h = either-way d (step d r .desk) (events d r) _ Commit (r .job) i c (commit-records d r (r .job) l (closed-says h)) (λ n. rw h (closed-keeps n))
+    by-move (gives-up l q) h = either-way d (step d r .desk) (events d r) _ GiveUp (r .job) i c (give-up-records d r (r .job) l (closed-says h)) (λ n. rw h (closed-keeps n))
+    by-move (retries l q) h = inl (rw h (unfold retry withStatus in covers-refl (d .row c .held i)))
+    by-move (has-it b k x) h = inl (rw h (unfold rule1 in covers-refl (d .row c .held i)))
+    by-move (promotes b k x f z) h = inl (rw h (grant-keeps d (r .job) (r .cell) _ (asked-grows _ (needed b)) i c))
+    by-move (waits-in-front b k x f z w) h = inl (rw h (queued-keeps d (r .job) (r .cell) b _ i c))
+    by-move (enters b k f z w) h = inl (rw h (grant-keeps d (r .job) (r .cell) _ (covers-none (needed b) _ f) i c))
+    by-move (waits-last b k f z w u) h = inl (rw h (queued-keeps d (r .job) (r .cell) b _ i c))
+    by-move (goes-back b k x) h = either-way d (step d r .desk) (events d r) _ Back (r .job) i c (back-records d r (r .job) (back-says h)) (λ n. rw h (back-keeps n))

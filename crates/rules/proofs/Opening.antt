@@ -1,0 +1,101 @@
+-- Begin opens a running job that holds nothing, under the next number; retry makes a sent back job running again, holding nothing (01, The desk's rules; 01, rule 5).
+-- Assumes nothing.
+use Prim.Native.Nat.{ℕ, suc}
+use mathlib.Core.Path.{_≡_, refl}
+use mathlib.Core.Logic.{_≢_}
+use mathlib.Core.Bool.{true, false}
+use Rattle.laws.specs.Choice.{not-both}
+use Rattle.terms.specs.declared.letters.Letter.the-variants.{Begin, Retry}
+use Rattle.terms.specs.declared.letters.Lettered.the-variants.{Known}
+use Rattle.terms.specs.Letters.{letterOf}
+use Rattle.conflict.specs.Jobs.{member}
+use Rattle.conflict.specs.History.{History}
+use Rattle.rules.specs.declared.Answer.the-variants.{Go}
+use Rattle.rules.specs.Desk.{Status, closed, running, waiting, sentback, Desk, Request, isOpen, isLive}
+use Rattle.rules.specs.Rules.{begin, retry, withStatus}
+use Rattle.rules.specs.Step.{step, Started}
+use Rattle.rules.proofs.Kept.{started-inv}
+use Rattle.rules.proofs.Invariant.{Inv}
+use Rattle.rules.proofs.Tests.{at-same, at-other}
+use Rattle.rules.proofs.Places.{seated-others, seated-there}
+use Rattle.rules.proofs.KeptBegin.{next-not-open}
+use Rattle.rules.proofs.Away.{Away, not-live-away}
+use Rattle.rules.proofs.Courses.{begin-went, retry-went}
+
+-- from desk d to desk e job j was begun: it has the number that was next, was closed before, runs, has a place, and has no part in any cell; every other job and every cell is as before
+pub record Begins (d e : Desk) (j : ℕ) : Type 0 where
+  pub number : j ≡ d .next
+  pub next : e .next ≡ suc (d .next)
+  pub new : d .stat j ≡ closed
+  pub status : e .stat j ≡ running
+  pub away : Away e j
+  pub place : member j (e .jobs) ≡ true
+  pub statuses : (i : ℕ) → i ≢ j → e .stat i ≡ d .stat i
+  pub places : (i : ℕ) → i ≢ j → i ≢ 0 → member i (e .jobs) ≡ member i (d .jobs)
+  pub rows : e .row ≡ d .row
+
+-- from desk d to desk e job j was retried: it was sent back and runs again with no part in any cell; its number and its place, every other job and every cell are as before
+pub record Retries (d e : Desk) (j : ℕ) : Type 0 where
+  pub was : d .stat j ≡ sentback
+  pub status : e .stat j ≡ running
+  pub away : Away e j
+  pub statuses : (i : ℕ) → i ≢ j → e .stat i ≡ d .stat i
+  pub places : e .jobs ≡ d .jobs
+  pub next : e .next ≡ d .next
+  pub rows : e .row ≡ d .row
+
+-- who is not open is closed
+not-open-closed : (s : Status) → isOpen s ≡ false → s ≡ closed
+unfolding isOpen
+not-open-closed closed f = refl
+not-open-closed running f = not-both refl f
+not-open-closed (waiting c a) f = not-both refl f
+not-open-closed sentback f = not-both refl f
+
+-- the next number's job is not open yet
+next-closed : {d : Desk} → Inv d → d .stat (d .next) ≡ closed
+next-closed {d} v = not-open-closed (d .stat (d .next)) (next-not-open v)
+
+-- opening the next job
+begin-begins : {d : Desk} → Inv d → member 0 (d .jobs) ≡ true → Begins d (begin d .desk) (d .next)
+unfolding begin
+begin-begins {d} v m =
+    let a : Away d (d .next) = not-live-away v (d .next) (unfold isLive in rw (next-closed v)) in
+    record {
+      number = refl;
+      next = refl;
+      new = next-closed v;
+      status = at-same (d .stat) (d .next) running;
+      away = record { holds-nothing = a .holds-nothing; waits-nowhere = a .waits-nowhere };
+      place = seated-there (d .next) (d .jobs) m;
+      statuses = at-other (d .stat) (d .next) running;
+      places = seated-others (d .next) (d .jobs);
+      rows = refl;
+    }
+
+-- retrying a sent back job
+retry-retries : {d : Desk} → Inv d → (j : ℕ) → d .stat j ≡ sentback → Retries d (retry d j .desk) j
+unfolding retry withStatus
+retry-retries {d} v j s =
+    let a : Away d j = not-live-away v j (unfold isLive in rw s) in
+    record {
+      was = s;
+      status = at-same (d .stat) j running;
+      away = record { holds-nothing = a .holds-nothing; waits-nowhere = a .waits-nowhere };
+      statuses = at-other (d .stat) j running;
+      places = refl;
+      next = refl;
+      rows = refl;
+    }
+
+-- a begin that is answered go opens the next job
+pub begins : {d : Desk} {h : History} → Started d h → (r : Request) (j : ℕ) → letterOf (r .kind) ≡ Known Begin → step d r .said ≡ Go j → Begins d (step d r .desk) j
+begins {d} s r j e g =
+    let c = begin-went d r j e g in
+    rw (c .job, c .outcome) (begin-begins (started-inv s) (c .was .1))
+
+-- a retry that is answered go makes the job run again
+pub retries : {d : Desk} {h : History} → Started d h → (r : Request) (j : ℕ) → letterOf (r .kind) ≡ Known Retry → step d r .said ≡ Go j → Retries d (step d r .desk) j
+retries {d} s r j e g =
+    let c = retry-went d r j e g in
+    rw (c .job, c .outcome) (retry-retries (started-inv s) (r .job) (c .was))

@@ -1,0 +1,124 @@
+-- One row after a run has ended: the job drops its lock and its place in the queue, and the row is settled. All that holds of it, told of the row as it was before.
+-- Assumes nothing.
+use Prim.Native.Nat.{ℕ, _<_}
+use mathlib.Core.Path.{_≡_, refl, sym, ap, subst, _∙_, fun-ext}
+use mathlib.Core.Logic.{_≢_}
+use mathlib.Core.Bool.{true, false}
+use mathlib.Core.List.{List, [], _++_}
+use native.Mathlib.Omega.{arith}
+use Rattle.laws.specs.Choice.{not-both}
+use Rattle.conflict.specs.declared.modes.Mode.{Mode}
+use Rattle.conflict.specs.declared.modes.Mode.the-variants.{Free}
+use Rattle.conflict.specs.Modes.{needed, covers, beside, isFree}
+use Rattle.conflict.specs.Jobs.{member}
+use Rattle.conflict.proofs.ModeLaws.{free-beside, beside-free, is-free}
+use Rattle.conflict.proofs.MoreModeLaws.{free-is-free}
+use Rattle.rules.specs.Desk.{Waiter, Row, at}
+use Rattle.rules.specs.Locks.{wants, without, Settled, settle, released}
+use Rattle.rules.proofs.Invariant.{In, Falling, FirstBlocked}
+use Rattle.rules.proofs.Queue.{in-left, in-right, in-either, falling-across, without-in, without-other, in-without, without-falling, without-none, by-place}
+use Rattle.rules.proofs.Tests.{at-same, at-other, at-each, Seated}
+use Rattle.rules.proofs.Settle.{Ready, Settles, settle-settles, settle-stays, wants-same, wants-covers}
+
+-- a row after job j's run has ended
+pub record Releases (js : List ℕ) (j : ℕ) (r : Row) (s : Settled) : Type 0 where
+  -- the job holds nothing
+  pub dropped : s .row .held j ≡ Free
+  -- what is woken stands ahead of what is left, without the job's place
+  pub parted : without j (r .queue) ≡ s .woken ++ s .row .queue
+  -- another job that is not woken holds what it held
+  pub kept : (i : ℕ) → i ≢ j → ((w : Waiter) → In w (s .woken) → w .job ≢ i) → s .row .held i ≡ r .held i
+  -- a woken job holds what it wanted
+  pub takes : (w : Waiter) → In w (s .woken) → s .row .held (w .job) ≡ wants (r .held) w
+  -- the others' locks only grow
+  pub grown : (i : ℕ) → i ≢ j → covers (s .row .held i) (r .held i) ≡ true
+  -- who is woken is another job, and waited
+  pub woken-was : (w : Waiter) → In w (s .woken) → In w (r .queue)
+  pub woken-other : (w : Waiter) → In w (s .woken) → w .job ≢ j
+  -- so did who is left
+  pub left-was : (w : Waiter) → In w (s .row .queue) → In w (r .queue)
+  pub left-other : (w : Waiter) → In w (s .row .queue) → w .job ≢ j
+  -- who is left is older than who is woken
+  pub across : (v w : Waiter) → In v (s .woken) → In w (s .row .queue) → w .job < v .job
+  -- holders are listed, beside each other and younger than the waiters left, the queue falls, and whoever is first in it is blocked
+  pub seats : Seated js (s .row .held)
+  pub pairs : (i k : ℕ) → i ≢ k → beside (s .row .held i) (s .row .held k) ≡ true
+  pub elder : (w : Waiter) (i : ℕ) → In w (s .row .queue) → i ≢ w .job → isFree (s .row .held i) ≡ false → w .job < i
+  pub down : Falling (s .row .queue)
+  pub blocked : FirstBlocked (s .row .held) (s .row .queue)
+
+module _ (js : List ℕ) (j : ℕ) (held : ℕ → Mode) (q : List Waiter) where
+  -- a job that drops its lock and its place leaves a row that can be settled
+  dropped-ready : Ready js held q → Ready js (at held j Free) (without j q)
+  dropped-ready r = record {
+    seats = λ i. at-each (λ x. isFree x ≡ false → member i js ≡ true) held j Free i (λ _ f. not-both free-is-free f) (λ _. r .seats i);
+    waits = λ w h. r .waits w (without-in j q h);
+    pairs = λ i k n. at-each (λ x. beside x (at held j Free k) ≡ true) held j Free i (λ _. free-beside (at held j Free k))
+        (λ _. at-each (λ x. beside (held i) x ≡ true) held j Free k (λ _. beside-free (held i)) (λ _. r .pairs i k n));
+    elder = λ w i h n. at-each (λ x. isFree x ≡ false → w .job < i) held j Free i (λ _ f. not-both free-is-free f) (λ _. r .elder w i (without-in j q h) n);
+    down = without-falling j q (r .down);
+  }
+
+  -- what holds of the row so settled, told of the row before
+  settled-releases : Ready js held q → (s : Settled) → Settles js (at held j Free) (without j q) s → Releases js j (record { held = held; queue = q }) s
+  settled-releases r s t = record {
+    dropped = t .kept j (λ w h. woken-other w h) ∙ at-same held j Free;
+    parted = t .parted;
+    kept = λ i n k. t .kept i k ∙ at-other held j Free i n;
+    takes = λ w h. t .takes w h ∙ wants-same (at held j Free) held w (at-other held j Free (w .job) (woken-other w h));
+    grown = λ i n. subst (λ m. covers (s .row .held i) m ≡ true) (at-other held j Free i n) (t .grown i);
+    woken-was = λ w h. without-in j q (woken w h);
+    woken-other = woken-other;
+    left-was = λ w h. without-in j q (left w h);
+    left-other = λ w h. without-other j q (left w h);
+    across = falling-across (s .woken) (s .row .queue) (subst Falling (t .parted) (without-falling j q (r .down)));
+    seats = t .seats;
+    pairs = t .pairs;
+    elder = t .elder;
+    down = t .down;
+    blocked = t .blocked;
+  }
+    where
+      woken : (w : Waiter) → In w (s .woken) → In w (without j q)
+      woken w h = subst (In w) (sym (t .parted)) (in-left (s .row .queue) h)
+
+      left : (w : Waiter) → In w (s .row .queue) → In w (without j q)
+      left w h = subst (In w) (sym (t .parted)) (in-right (s .woken) h)
+
+      woken-other : (w : Waiter) → In w (s .woken) → w .job ≢ j
+      woken-other w h = without-other j q (woken w h)
+
+-- a row after a run has ended
+pub released-releases : (js : List ℕ) (j : ℕ) (r : Row) → Ready js (r .held) (r .queue) → Releases js j r (released js j r)
+unfolding released
+released-releases js j r h =
+    settled-releases js j (r .held) (r .queue) h (settle js (at (r .held) j Free) (without j (r .queue)))
+    (settle-settles js (at (r .held) j Free) (without j (r .queue)) (dropped-ready js j (r .held) (r .queue) h))
+
+module _ {js : List ℕ} {j : ℕ} {r : Row} {s : Settled} (t : Releases js j r s) where
+  -- another job that waited is woken or left
+  pub woken-or-left : {P : Type 0} (w : Waiter) → In w (r .queue) → w .job ≢ j → (In w (s .woken) → P) → (In w (s .row .queue) → P) → P
+  woken-or-left w h n = in-either (s .woken) (s .row .queue) (subst (In w) (t .parted) (in-without j h n))
+
+  -- who holds the cell is another job, and held it before or is woken
+  pub holder-was : {P : Type 0} (i : ℕ) → isFree (s .row .held i) ≡ false → (i ≢ j → isFree (r .held i) ≡ false → P) → ((w : Waiter) → In w (s .woken) → w .job ≡ i → P) → P
+  holder-was i f g h =
+      by-place i (s .woken) h
+      (λ n. let d : i ≢ j = λ e. not-both (ap isFree (ap (s .row .held) e ∙ t .dropped) ∙ free-is-free) f in g d (sym (ap isFree (t .kept i d n)) ∙ f))
+
+  -- a woken job holds what covers its need
+  pub woken-covers : (w : Waiter) → In w (s .woken) → covers (s .row .held (w .job)) (needed (w .ask)) ≡ true
+  woken-covers w h = rw (t .takes w h) (wants-covers (r .held) w)
+
+  -- a waiter that is left holds what it held
+  pub left-kept : (w : Waiter) → In w (s .row .queue) → s .row .held (w .job) ≡ r .held (w .job)
+  left-kept w h = t .kept (w .job) (t .left-other w h) (λ v k e. let l : w .job < v .job = t .across v w k h in omega arith)
+
+-- where the job neither holds the cell nor waits for it, the row stays as it is and nobody is woken
+pub released-stays : (js : List ℕ) (j : ℕ) (r : Row) → Seated js (r .held) → FirstBlocked (r .held) (r .queue) → isFree (r .held j) ≡ true → ((w : Waiter) → In w (r .queue) → w .job ≢ j) → released js j r ≡ record { row = r; woken = [] }
+unfolding released
+released-stays js j r seats b f n =
+    rw (without-none j (r .queue) n, nothing-dropped) (settle-stays js (r .held) (r .queue) seats b)
+  where
+    nothing-dropped : at (r .held) j Free ≡ r .held
+    nothing-dropped = fun-ext (λ i. at-each (λ x. x ≡ r .held i) (r .held) j Free i (λ e. sym (ap (r .held) e ∙ is-free (r .held j) f)) (λ _. refl))

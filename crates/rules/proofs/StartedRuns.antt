@@ -1,0 +1,56 @@
+-- The started desks are those after any requests from a fresh desk, with the history that these write (01, How much a contract says).
+-- Assumes nothing.
+use Prim.Native.Nat.{ℕ, _<_, _≤_}
+use mathlib.Core.Path.{_≡_, refl, sym, ap, ap₂, _∙_, subst, subst₂}
+use mathlib.Core.List.{List, [], _∷_, _++_, append-nil, append-assoc}
+use Rattle.terms.specs.Limits.{lastNumber}
+use Rattle.conflict.specs.History.{History}
+use Rattle.rules.specs.Desk.{Desk, Request, freshDesk}
+use Rattle.rules.specs.Step.{Started, fresh, after as one-more, step, events}
+use Rattle.rules.specs.Runs.{after, written}
+
+-- a desk and a history that requests from a fresh desk lead to
+pub record Reached (d : Desk) (h : History) : Type 0 where
+  pub first : ℕ
+  pub least : 0 < first
+  pub most : first ≤ lastNumber
+  pub requests : List Request
+  pub desk : d ≡ after (freshDesk first) requests
+  pub history : h ≡ written (freshDesk first) requests
+
+-- after any requests a started desk is a started one, and has written what they write
+pub run-started : {d : Desk} {h : History} → Started d h → (rs : List Request) → Started (after d rs) (h ++ written d rs)
+unfolding after written
+run-started {d} {h} s [] = rw (append-nil h) s
+run-started {d} {h} s (r ∷ rs) = subst (Started (after (step d r .desk) rs)) (append-assoc h (events d r) (written (step d r .desk) rs)) (run-started (one-more s r) rs)
+
+-- the desk after one more request at the end
+after-last : (d : Desk) (rs : List Request) (r : Request) → after d (rs ++ r ∷ []) ≡ step (after d rs) r .desk
+unfolding after
+after-last d [] r = refl
+after-last d (x ∷ rs) r = after-last (step d x .desk) rs r
+
+-- and the history
+written-last : (d : Desk) (rs : List Request) (r : Request) → written d (rs ++ r ∷ []) ≡ written d rs ++ events (after d rs) r
+unfolding after written
+written-last d [] r = append-nil (events d r)
+written-last d (x ∷ rs) r = ap (λ h. events d x ++ h) (written-last (step d x .desk) rs r) ∙ sym (append-assoc (events d x) (written (step d x .desk) rs) (events (after (step d x .desk) rs) r))
+
+-- every started desk is so reached
+pub started-reached : {d : Desk} {h : History} → Started d h → Reached d h
+started-reached (fresh n l u) = record { first = n; least = l; most = u; requests = []; desk = unfold after in refl; history = unfold written in refl }
+started-reached (one-more {d = d} {h = h} s r) = more (started-reached s)
+  where
+    more : Reached d h → Reached (step d r .desk) (h ++ events d r)
+    more q = record {
+      first = q .first;
+      least = q .least;
+      most = q .most;
+      requests = q .requests ++ r ∷ [];
+      desk = ap (λ x. step x r .desk) (q .desk) ∙ sym (after-last (freshDesk (q .first)) (q .requests) r);
+      history = ap₂ (λ x y. x ++ events y r) (q .history) (q .desk) ∙ sym (written-last (freshDesk (q .first)) (q .requests) r);
+    }
+
+-- and every desk so reached is started
+pub reached-started : {d : Desk} {h : History} → Reached d h → Started d h
+reached-started q = subst₂ Started (sym (q .desk)) (sym (q .history)) (run-started (fresh (q .first) (q .least) (q .most)) (q .requests))

@@ -1,0 +1,87 @@
+-- Each action that the desk writes is done under a mode that covers it and may stand beside every other holder's, and stays under one until its run ends (01, The desk's rules).
+-- Assumes nothing.
+use Prim.Native.Nat.{ℕ}
+use mathlib.Core.Path.{_≡_, refl, sym, subst}
+use mathlib.Core.Bool.{true, false}
+use mathlib.Core.List.{_∷_, _++_}
+use native.Mathlib.Omega.{arith}
+use Rattle.terms.specs.declared.letters.Ask.{Ask}
+use Rattle.terms.specs.Limits.{cells}
+use Rattle.conflict.specs.declared.action.Action.{Action}
+use Rattle.conflict.specs.declared.action.Mark.{Mark}
+use Rattle.conflict.specs.declared.action.Event.the-variants.{Does, Ends}
+use Rattle.conflict.specs.Modes.{lets}
+use Rattle.conflict.specs.History.{History}
+use Rattle.conflict.specs.Runs.{ended}
+use Rattle.conflict.proofs.ModeLaws.{covers-lets}
+use Rattle.conflict.proofs.StillHeld.{machine-still}
+use Rattle.rules.specs.Desk.{Desk, Request}
+use Rattle.rules.specs.Rules.{Outcome, wake, rowsAfter, rule4}
+use Rattle.rules.specs.Step.{step, events, Started}
+use Rattle.rules.specs.Histories.{Has, AskedBy, request, waiter, UnderLock}
+use Rattle.rules.proofs.Invariant.{Inv}
+use Rattle.rules.proofs.Release.{woken-covers}
+use Rattle.rules.proofs.RunEnd.{row-releases}
+use Rattle.rules.proofs.Kept.{started-inv}
+use Rattle.rules.proofs.Written.{asking, Wrote, nothing, action, mark, step-wrote}
+use Rattle.rules.proofs.Machine.{started-machine}
+use Rattle.rules.proofs.WakeRecords.{has-none, has-split, WakeOf, record-of}
+
+-- an action is one other action only if they are the same
+same-action : {x y : Action} → Does x ≡ Does y → x ≡ y
+same-action e = cc
+
+-- an action is no mark
+no-mark : {P : Type 0} {x : Action} {m : Mark} {j : ℕ} → Does x ≡ Ends m j → P
+no-mark e = let z : _≡_ {A = ℕ} 0 1 = cc in absurd (omega arith)
+
+-- what an action of a step was asked by, and the lock that it is under after the step
+abbrev Locked : Desk → Request → Desk → Action → Type 0
+Locked d r e x = (a : Ask) × AskedBy d r x a × UnderLock e x a
+
+module _ {d : Desk} (v : Inv d) {r : Request} where
+  -- an action that is woken when a run ends
+  woken-locked : (e : Desk) (x : Action) → ((c : ℕ) → e .row c ≡ rowsAfter d (r .job) c .row) → WakeOf (rowsAfter d (r .job)) x → Locked d r e x
+  unfolding wake
+  woken-locked e x q k =
+      let c = k .cell in
+      let w = k .waiter in
+      let rows = row-releases v (r .job) c in
+      subst (Locked d r e) (sym (k .is)) (
+        w .ask,
+        waiter (v .rows c .stands w (rows .woken-was w (k .granted))),
+        record {
+          kind = refl;
+          covered = rw (q c) (woken-covers rows w (k .granted));
+          lawful = rw (q c) (covers-lets (rowsAfter d (r .job) c .row .held (w .job)) (w .ask) (woken-covers rows w (k .granted)));
+          besides = λ i n. rw (q c) (rows .pairs i (w .job) n);
+        },
+      )
+
+  -- every action that a step writes
+  wrote-locked : {o : Outcome} {g : History} → Wrote d r o g → (x : Action) → Has (Does x) g → Locked d r (o .desk) x
+  unfolding asking rule4
+  wrote-locked (nothing w) x h = has-none h
+  wrote-locked {o} (action a k w c) x h =
+      has-split h
+      (λ e. subst (Locked d r (o .desk)) (sym (same-action e)) (
+        a,
+        request (k .letter) refl refl,
+        record {
+          kind = refl;
+          covered = c;
+          lawful = covers-lets (o .desk .row (r .cell) .held (r .job)) a c;
+          besides = λ i n. w .pairs (r .cell) i (r .job) n;
+        },
+      ))
+      has-none
+  wrote-locked {o} (mark m s js said open′ last′) x h =
+      has-split h no-mark (λ k. woken-locked (o .desk) x (λ c. refl) (record-of (rowsAfter d (r .job)) x cells k))
+
+-- every action that a step of a started desk writes, its own or a wake's, is under a lock after that step: its job holds a mode that covers what was asked, and every other job's mode on that cell may stand beside it (01, rules 1 to 4)
+pub under-lock : {d : Desk} {h : History} → Started d h → (r : Request) (x : Action) → Has (Does x) (events d r) → (a : Ask) × AskedBy d r x a × UnderLock (step d r .desk) x a
+under-lock {d} s r x k = wrote-locked (started-inv s) (step-wrote d r (started-inv s)) x k
+
+-- an action whose run has not ended is still under a mode that lets it: nothing is released before the run ends (01, The desk's rules)
+pub still-under-lock : {d : Desk} (h g : History) (x : Action) → Started d (h ++ Does x ∷ g) → ended (x .job) g ≡ false → lets (d .row (x .cell) .held (x .job)) (x .kind) ≡ true
+still-under-lock h g x s f = machine-still h g x (started-machine s) f

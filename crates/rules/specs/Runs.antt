@@ -1,0 +1,52 @@
+-- Several requests one after another: the desk they leave, the numbers they give and the history they write (01, Jobs and their numbers).
+use Prim.Native.Nat.{ℕ, _<_}
+use mathlib.Core.Path.{_≡_}
+use mathlib.Core.Bool.{Bool, true, false}
+use mathlib.Core.List.{List, [], _∷_, _++_}
+use Rattle.laws.specs.Choice.{pick}
+use Rattle.terms.specs.Letters.{letterOf}
+use Rattle.conflict.specs.declared.action.Event.the-variants.{Does, Ends}
+use Rattle.conflict.specs.Jobs.{member}
+use Rattle.conflict.specs.History.{History}
+use Rattle.rules.specs.declared.Answer.{Answer}
+use Rattle.rules.specs.declared.Answer.the-variants.{Go, Wait, Back as sent-back, No}
+use Rattle.rules.specs.Desk.{Desk, Request}
+use Rattle.rules.specs.Step.{step, events}
+use Rattle.rules.specs.Table.{isBegin, letterIs}
+
+-- the desk after the requests, in their order
+unfoldable pub after : Desk → List Request → Desk
+after d [] = d
+after d (r ∷ rs) = after (step d r .desk) rs
+
+-- the number in an answer go
+unfoldable pub numberIn : Answer → List ℕ
+numberIn (Go j) = j ∷ []
+numberIn (Wait j) = []
+numberIn (sent-back j) = []
+numberIn (No why) = []
+
+-- the number that a request gives: a begin that goes gives one (01, Jobs and their numbers)
+unfoldable pub givenBy : Request → Answer → List ℕ
+givenBy r said = pick (letterIs isBegin (letterOf (r .kind))) (numberIn said) []
+
+-- the numbers that the requests give, in their order
+unfoldable pub given : Desk → List Request → List ℕ
+given d [] = []
+given d (r ∷ rs) = givenBy r (step d r .said) ++ given (step d r .desk) rs
+
+-- strictly increasing: each number is smaller than all that come after it
+abbrev pub Rising : List ℕ → Type 0
+Rising [] = Unit {0}
+Rising (n ∷ ns) = ((m : ℕ) → member m ns ≡ true → n < m) × Rising ns
+
+-- the history that the requests write, in their order
+unfoldable pub written : Desk → List Request → History
+written d [] = []
+written d (r ∷ rs) = events d r ++ written (step d r .desk) rs
+
+-- the history has actions alone, and no mark
+unfoldable pub onlyActions : History → Bool
+onlyActions [] = true
+onlyActions (Does a ∷ h) = onlyActions h
+onlyActions (Ends m j ∷ h) = false
