@@ -13,11 +13,7 @@ use Rattle.conflict.specs.Modes.{beside, grants, isFree}
 use Rattle.conflict.specs.Jobs.{member}
 use Rattle.rules.specs.Desk.{Status, closed, waiting, Waiter, Row, Desk, isOpen, isLive}
 use Rattle.rules.specs.Locks.{wants}
-
--- the waiter stands in the queue
-pub data In (w : Waiter) : List Waiter → Type 0 where
-  first : {q : List Waiter} → In w (w ∷ q)
-  later : {v : Waiter} {q : List Waiter} → In w q → In w (v ∷ q)
+pub use Rattle.rules.specs.Waiting.{In, first, later}
 
 -- the queue runs from younger to older
 abbrev pub Falling : List Waiter → Type 0

@@ -42,3 +42,16 @@ pub mod NoEventAfterEnd
 pub mod UnderLock
 pub mod StrictHistory
 pub mod Serial
+pub mod AheadLaws
+pub mod Answers
+pub mod AtMost31
+pub mod InTheWay
+pub mod JustAsked
+pub mod NotForgotten
+pub mod Oldest
+pub mod Pigeonhole
+pub mod SentBack
+pub mod ServedInTime
+pub mod SomebodyRuns
+pub mod WaiterSees
+pub mod WaiterStep

@@ -30,7 +30,7 @@ use Rattle.rules.proofs.ClosedForGood.{closed-stays}
 use Rattle.rules.proofs.Numbers.{next-rises}
 
 -- the records of wakes have no marks
-wakes-unmarked : (f : Mark → Bool) (j : ℕ) (xs : List Action) → marked f j (wakeRecords xs) ≡ false
+pub wakes-unmarked : (f : Mark → Bool) (j : ℕ) (xs : List Action) → marked f j (wakeRecords xs) ≡ false
 unfolding wakeRecords
 wakes-unmarked f j [] = marked-none f j
 wakes-unmarked f j (a ∷ xs) = marked-does f j a (wakeRecords xs) ∙ wakes-unmarked f j xs

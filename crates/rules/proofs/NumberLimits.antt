@@ -15,7 +15,7 @@ use Rattle.conflict.specs.History.{History}
 use Rattle.rules.specs.Desk.{Desk, Request, freshDesk, isOpen}
 use Rattle.rules.specs.Step.{Started, fresh, after as one-more}
 use Rattle.rules.specs.Table.{letterIs, isBegin, noNumberLeft}
-use Rattle.rules.specs.Runs.{after, given}
+use Rattle.rules.specs.Runs.{deskAfter, given}
 use Rattle.rules.proofs.Kept.{started-inv}
 use Rattle.rules.proofs.OpenJobs.{open-not-zero}
 use Rattle.rules.proofs.Numbers.{Gives, none-given, one-given, step-gives, given-within, given-all}
@@ -41,8 +41,8 @@ pub given-from : (n : ℕ) (rs : List Request) (m : ℕ) → member m (given (fr
 given-from n rs m h = let w = given-within (freshDesk n) rs m h in (unfold freshDesk in w .0, w .2)
 
 -- row 7 of the table as printed: the next number is above 4,294,967,295 exactly where that number was given
-pub row-7 : (n : ℕ) (rs : List Request) → n ≤ lastNumber → (l : Lettered) → noNumberLeft l (after (freshDesk n) rs .next) ≡ (letterIs isBegin l && member lastNumber (given (freshDesk n) rs))
+pub row-7 : (n : ℕ) (rs : List Request) → n ≤ lastNumber → (l : Lettered) → noNumberLeft l (deskAfter (freshDesk n) rs .next) ≡ (letterIs isBegin l && member lastNumber (given (freshDesk n) rs))
 row-7 n rs le l = ap (λ b. letterIs isBegin l && b) (by-test (member lastNumber (given (freshDesk n) rs)) (λ t. lt-ltb _ _ (given-within (freshDesk n) rs lastNumber t .1) ∙ sym t) (λ f. le-ltb _ _ (below f) ∙ sym f))
   where
-    below : member lastNumber (given (freshDesk n) rs) ≡ false → after (freshDesk n) rs .next ≤ lastNumber
-    below f = by-test (ltb lastNumber (after (freshDesk n) rs .next)) (λ t. not-both (given-all (freshDesk n) rs lastNumber (unfold freshDesk in le) (ltb-true lastNumber _ t)) f) (ltb-false lastNumber _)
+    below : member lastNumber (given (freshDesk n) rs) ≡ false → deskAfter (freshDesk n) rs .next ≤ lastNumber
+    below f = by-test (ltb lastNumber (deskAfter (freshDesk n) rs .next)) (λ t. not-both (given-all (freshDesk n) rs lastNumber (unfold freshDesk in le) (ltb-true lastNumber _ t)) f) (ltb-false lastNumber _)

@@ -22,7 +22,7 @@ use Rattle.rules.specs.Desk.{Desk, Request}
 use Rattle.rules.specs.Rules.{Outcome, refused, withRow, withStatus, rule4, close, sendBack, grant, queued, rule1, retry, begin}
 use Rattle.rules.specs.Step.{step}
 use Rattle.rules.specs.Table.{isBegin, letterIs}
-use Rattle.rules.specs.Runs.{after, numberIn, givenBy, given, Rising}
+use Rattle.rules.specs.Runs.{deskAfter, numberIn, givenBy, given, Rising}
 use Rattle.rules.proofs.Courses.{begin-went}
 use Rattle.rules.proofs.Moved.{Moved, refuses, begins, commits, gives-up, retries, has-it, promotes, waits-in-front, enters, waits-last, goes-back, step-moved}
 
@@ -74,12 +74,12 @@ next-rises d r = by-gives (step-gives d r)
     by-gives (one-given n l e) = omega (arith, e)
 
 -- nor over several requests
-pub next-rises-on : (d : Desk) (rs : List Request) → d .next ≤ after d rs .next
-unfolding after
+pub next-rises-on : (d : Desk) (rs : List Request) → d .next ≤ deskAfter d rs .next
+unfolding deskAfter
 next-rises-on d [] = omega arith
 next-rises-on d (r ∷ rs) =
     let a : d .next ≤ step d r .desk .next = next-rises d r in
-    let b : step d r .desk .next ≤ after (step d r .desk) rs .next = next-rises-on (step d r .desk) rs in
+    let b : step d r .desk .next ≤ deskAfter (step d r .desk) rs .next = next-rises-on (step d r .desk) rs in
     omega arith
 
 -- a begin that goes gives the next number
@@ -87,24 +87,24 @@ pub begin-gives : (d : Desk) (r : Request) (j : ℕ) → letterOf (r .kind) ≡ 
 begin-gives d r j e g = let c = begin-went d r j e g in (c .job, unfold begin in ap (λ o. o .desk .next) (c .outcome) ∙ ap suc (sym (c .job)))
 
 -- a number given by the requests is not below the next number before them, below the next number after them, and not above 4,294,967,295
-pub given-within : (d : Desk) (rs : List Request) (m : ℕ) → member m (given d rs) ≡ true → (d .next ≤ m) × (m < after d rs .next) × (m ≤ lastNumber)
-unfolding given after
+pub given-within : (d : Desk) (rs : List Request) (m : ℕ) → member m (given d rs) ≡ true → (d .next ≤ m) × (m < deskAfter d rs .next) × (m ≤ lastNumber)
+unfolding given deskAfter
 given-within d [] m h = unfold member in not-both h refl
 given-within d (r ∷ rs) m h = by-gives (step-gives d r) (given-within (step d r .desk) rs m)
   where
     Within : Desk → Type 0
-    Within e = (e .next ≤ m) × (m < after (step d r .desk) rs .next) × (m ≤ lastNumber)
+    Within e = (e .next ≤ m) × (m < deskAfter (step d r .desk) rs .next) × (m ≤ lastNumber)
 
     by-gives : Gives d (givenBy r (step d r .said)) (step d r .desk) → (member m (given (step d r .desk) rs) ≡ true → Within (step d r .desk)) → Within d
     by-gives (none-given q e) f = let w = f (rw q at h) in (omega (arith, e, w .0), w .1, w .2)
     by-gives (one-given q l e) f =
         unfold member in or-either (same (d .next) m) (member m (given (step d r .desk) rs)) (rw q at h)
-        (λ t. let p : d .next ≡ m = eqb-true (d .next) m t in let b : step d r .desk .next ≤ after (step d r .desk) rs .next = next-rises-on (step d r .desk) rs in (omega arith, omega (arith, e), omega arith))
+        (λ t. let p : d .next ≡ m = eqb-true (d .next) m t in let b : step d r .desk .next ≤ deskAfter (step d r .desk) rs .next = next-rises-on (step d r .desk) rs in (omega arith, omega (arith, e), omega arith))
         (λ k. let w = f k in (omega (arith, e, w .0), w .1, w .2))
 
 -- and every number between the two was given
-pub given-all : (d : Desk) (rs : List Request) (m : ℕ) → d .next ≤ m → m < after d rs .next → member m (given d rs) ≡ true
-unfolding given after
+pub given-all : (d : Desk) (rs : List Request) (m : ℕ) → d .next ≤ m → m < deskAfter d rs .next → member m (given d rs) ≡ true
+unfolding given deskAfter
 given-all d [] m l u = absurd (omega arith)
 given-all d (r ∷ rs) m l u = by-gives (step-gives d r) (λ k. given-all (step d r .desk) rs m k u)
   where
@@ -132,5 +132,5 @@ pub given-once : (d : Desk) (rs : List Request) → distinct (given d rs) ≡ tr
 given-once d rs = rising-distinct (given d rs) (given-rises d rs)
 
 -- a begin that goes after some requests gives a number larger than all that they gave: no job begun later is older
-pub later-larger : (d : Desk) (rs : List Request) (r : Request) (j : ℕ) → letterOf (r .kind) ≡ Known Begin → step (after d rs) r .said ≡ Go j → (m : ℕ) → member m (given d rs) ≡ true → m < j
-later-larger d rs r j e g m h = omega (arith, given-within d rs m h .1, begin-gives (after d rs) r j e g .0)
+pub later-larger : (d : Desk) (rs : List Request) (r : Request) (j : ℕ) → letterOf (r .kind) ≡ Known Begin → step (deskAfter d rs) r .said ≡ Go j → (m : ℕ) → member m (given d rs) ≡ true → m < j
+later-larger d rs r j e g m h = omega (arith, given-within d rs m h .1, begin-gives (deskAfter d rs) r j e g .0)

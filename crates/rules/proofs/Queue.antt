@@ -26,13 +26,13 @@ in-split (later h) f g = g h
 pub is-first : {w v : Waiter} {q : List Waiter} → w ≡ v → In w (v ∷ q)
 is-first {w} {q = q} e = subst (λ x. In w (x ∷ q)) e first
 
--- who stands in the first of two queues stands in both put together
-pub in-left : {w : Waiter} {p : List Waiter} (q : List Waiter) → In w p → In w (p ++ q)
+-- who stands in the first of two lists stands in both put together
+pub in-left : {A : Type 0} {w : A} {p : List A} (q : List A) → In w p → In w (p ++ q)
 in-left q first = first
 in-left q (later h) = later (in-left q h)
 
 -- and who stands in the second
-pub in-right : {w : Waiter} (p : List Waiter) {q : List Waiter} → In w q → In w (p ++ q)
+pub in-right : {A : Type 0} {w : A} (p : List A) {q : List A} → In w q → In w (p ++ q)
 in-right [] h = h
 in-right (v ∷ p) h = later (in-right p h)
 

@@ -14,7 +14,7 @@ use Rattle.conflict.proofs.LockMachine.{machine-serial}
 use Rattle.conflict.proofs.Backward.{refuted}
 use Rattle.rules.specs.Desk.{Desk, Request, freshDesk}
 use Rattle.rules.specs.Step.{Started, fresh}
-use Rattle.rules.specs.Runs.{after, written}
+use Rattle.rules.specs.Runs.{deskAfter, historyOf}
 use Rattle.rules.proofs.Machine.{started-machine}
 use Rattle.rules.proofs.NoEventAfterEnd.{no-event-after-end}
 use Rattle.rules.proofs.StrictHistory.{history-strict}
@@ -38,13 +38,13 @@ never-a-knot {h = h} s js k = refuted (committedPart h) js k (committed-jobs-ser
 
 module _ (n : ℕ) (some : 0 < n) (last : n ≤ lastNumber) (rs : List Request) where
   -- what any requests to a fresh desk write is the history of a started desk
-  pub started-from-fresh : Started (after (freshDesk n) rs) (written (freshDesk n) rs)
+  pub started-from-fresh : Started (deskAfter (freshDesk n) rs) (historyOf (freshDesk n) rs)
   started-from-fresh = run-started (fresh n some last) rs
 
   -- so whatever is requested of a fresh desk, the committed jobs in order of commit are a conflict-equivalent serial order (demand 2)
-  pub serial-from-fresh : Equivalent (committedPart (written (freshDesk n) rs)) (serial (commitOrder (written (freshDesk n) rs)) (committedPart (written (freshDesk n) rs)))
+  pub serial-from-fresh : Equivalent (committedPart (historyOf (freshDesk n) rs)) (serial (commitOrder (historyOf (freshDesk n) rs)) (committedPart (historyOf (freshDesk n) rs)))
   serial-from-fresh = serial-by-commits started-from-fresh
 
   -- and it names no job twice
-  pub commits-once-from-fresh : distinct (commitOrder (written (freshDesk n) rs)) ≡ true
+  pub commits-once-from-fresh : distinct (commitOrder (historyOf (freshDesk n) rs)) ≡ true
   commits-once-from-fresh = commits-once started-from-fresh

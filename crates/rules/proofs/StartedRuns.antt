@@ -7,7 +7,7 @@ use Rattle.terms.specs.Limits.{lastNumber}
 use Rattle.conflict.specs.History.{History}
 use Rattle.rules.specs.Desk.{Desk, Request, freshDesk}
 use Rattle.rules.specs.Step.{Started, fresh, after as one-more, step, events}
-use Rattle.rules.specs.Runs.{after, written}
+use Rattle.rules.specs.Runs.{deskAfter, historyOf}
 
 -- a desk and a history that requests from a fresh desk lead to
 pub record Reached (d : Desk) (h : History) : Type 0 where
@@ -15,30 +15,30 @@ pub record Reached (d : Desk) (h : History) : Type 0 where
   pub least : 0 < first
   pub most : first ≤ lastNumber
   pub requests : List Request
-  pub desk : d ≡ after (freshDesk first) requests
-  pub history : h ≡ written (freshDesk first) requests
+  pub desk : d ≡ deskAfter (freshDesk first) requests
+  pub history : h ≡ historyOf (freshDesk first) requests
 
 -- after any requests a started desk is a started one, and has written what they write
-pub run-started : {d : Desk} {h : History} → Started d h → (rs : List Request) → Started (after d rs) (h ++ written d rs)
-unfolding after written
+pub run-started : {d : Desk} {h : History} → Started d h → (rs : List Request) → Started (deskAfter d rs) (h ++ historyOf d rs)
+unfolding deskAfter historyOf
 run-started {d} {h} s [] = rw (append-nil h) s
-run-started {d} {h} s (r ∷ rs) = subst (Started (after (step d r .desk) rs)) (append-assoc h (events d r) (written (step d r .desk) rs)) (run-started (one-more s r) rs)
+run-started {d} {h} s (r ∷ rs) = subst (Started (deskAfter (step d r .desk) rs)) (append-assoc h (events d r) (historyOf (step d r .desk) rs)) (run-started (one-more s r) rs)
 
 -- the desk after one more request at the end
-after-last : (d : Desk) (rs : List Request) (r : Request) → after d (rs ++ r ∷ []) ≡ step (after d rs) r .desk
-unfolding after
+after-last : (d : Desk) (rs : List Request) (r : Request) → deskAfter d (rs ++ r ∷ []) ≡ step (deskAfter d rs) r .desk
+unfolding deskAfter
 after-last d [] r = refl
 after-last d (x ∷ rs) r = after-last (step d x .desk) rs r
 
 -- and the history
-written-last : (d : Desk) (rs : List Request) (r : Request) → written d (rs ++ r ∷ []) ≡ written d rs ++ events (after d rs) r
-unfolding after written
+written-last : (d : Desk) (rs : List Request) (r : Request) → historyOf d (rs ++ r ∷ []) ≡ historyOf d rs ++ events (deskAfter d rs) r
+unfolding deskAfter historyOf
 written-last d [] r = append-nil (events d r)
-written-last d (x ∷ rs) r = ap (λ h. events d x ++ h) (written-last (step d x .desk) rs r) ∙ sym (append-assoc (events d x) (written (step d x .desk) rs) (events (after (step d x .desk) rs) r))
+written-last d (x ∷ rs) r = ap (λ h. events d x ++ h) (written-last (step d x .desk) rs r) ∙ sym (append-assoc (events d x) (historyOf (step d x .desk) rs) (events (deskAfter (step d x .desk) rs) r))
 
 -- every started desk is so reached
 pub started-reached : {d : Desk} {h : History} → Started d h → Reached d h
-started-reached (fresh n l u) = record { first = n; least = l; most = u; requests = []; desk = unfold after in refl; history = unfold written in refl }
+started-reached (fresh n l u) = record { first = n; least = l; most = u; requests = []; desk = unfold deskAfter in refl; history = unfold historyOf in refl }
 started-reached (one-more {d = d} {h = h} s r) = more (started-reached s)
   where
     more : Reached d h → Reached (step d r .desk) (h ++ events d r)

@@ -6,3 +6,4 @@ pub mod Table
 pub mod Start
 pub mod Runs
 pub mod Histories
+pub mod Waiting

@@ -15,9 +15,9 @@ use Rattle.rules.specs.Step.{step, events}
 use Rattle.rules.specs.Table.{isBegin, letterIs}
 
 -- the desk after the requests, in their order
-unfoldable pub after : Desk → List Request → Desk
-after d [] = d
-after d (r ∷ rs) = after (step d r .desk) rs
+unfoldable pub deskAfter : Desk → List Request → Desk
+deskAfter d [] = d
+deskAfter d (r ∷ rs) = deskAfter (step d r .desk) rs
 
 -- the number in an answer go
 unfoldable pub numberIn : Answer → List ℕ
@@ -41,9 +41,9 @@ Rising [] = Unit {0}
 Rising (n ∷ ns) = ((m : ℕ) → member m ns ≡ true → n < m) × Rising ns
 
 -- the history that the requests write, in their order
-unfoldable pub written : Desk → List Request → History
-written d [] = []
-written d (r ∷ rs) = events d r ++ written (step d r .desk) rs
+unfoldable pub historyOf : Desk → List Request → History
+historyOf d [] = []
+historyOf d (r ∷ rs) = events d r ++ historyOf (step d r .desk) rs
 
 -- the history has actions alone, and no mark
 unfoldable pub onlyActions : History → Bool

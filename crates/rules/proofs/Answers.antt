@@ -1,0 +1,21 @@
+-- Answers of different words are not equal.
+-- Assumes nothing.
+use Prim.Native.Nat.{ℕ}
+use mathlib.Core.Path.{_≡_}
+use mathlib.Core.Bool.{false}
+use Rattle.laws.specs.Choice.{not-both}
+use Rattle.conflict.specs.Jobs.{same}
+use Rattle.conflict.proofs.JobLists.{same-refl}
+use Rattle.rules.specs.declared.Answer.{Answer}
+use Rattle.rules.specs.declared.Answer.the-variants.{Go, Wait, Back, No}
+
+-- a number for the word of an answer
+abbrev pub wordOf : Answer → ℕ
+wordOf (Go j) = 0
+wordOf (Wait j) = 1
+wordOf (Back j) = 2
+wordOf (No why) = 3
+
+-- an answer has one word
+pub other-answer : {P : Type 0} {x y : Answer} → x ≡ y → same (wordOf x) (wordOf y) ≡ false → P
+other-answer {y = y} e n = not-both (rw e (same-refl (wordOf y))) n
