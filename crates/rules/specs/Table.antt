@@ -3,7 +3,7 @@ use Prim.Native.Nat.{ℕ}
 use mathlib.Core.Path.{_≡_}
 use mathlib.Core.Bool.{Bool, true, false, not, _&&_}
 use mathlib.Core.List.{List, [], _∷_}
-use lib.Dec.{ltb}
+use lib.Dec.{ltb, leb}
 use Rattle.laws.specs.Choice.{pick}
 use Rattle.terms.specs.declared.letters.Letter.{Letter}
 use Rattle.terms.specs.declared.letters.Letter.the-variants.{Begin, Commit, GiveUp, Retry, Back, Asks}
@@ -12,7 +12,7 @@ use Rattle.terms.specs.declared.letters.Lettered.the-variants.{Known, Unknown}
 use Rattle.terms.specs.declared.refusals.Refusal.{Refusal}
 use Rattle.terms.specs.declared.refusals.Refusal.the-variants.{UnknownKind, CellAbove, NotOpen, Waiting, SentBack, AllOpen, NoNumberLeft, Running, BadLine, StartedAtZero, TooManyLines, JobOutside, Ended, ShortOrder, NoRoom, TooLong}
 use Rattle.terms.specs.Letters.{letterOf, ofRequests, hasCell}
-use Rattle.terms.specs.Limits.{lastNumber}
+use Rattle.terms.specs.Limits.{cells, lastNumber}
 use Rattle.conflict.specs.Jobs.{member}
 use Rattle.rules.specs.declared.Answer.{Answer}
 use Rattle.rules.specs.declared.Answer.the-variants.{Go, Wait, Back as sent-back}
@@ -86,7 +86,7 @@ otherKind l = not (letterIs ofRequests l)
 
 -- 2: cell above 63; r, w and i have a cell
 abbrev pub cellAbove : Lettered → ℕ → Bool
-cellAbove l c = letterIs hasCell l && ltb 63 c
+cellAbove l c = letterIs hasCell l && leb cells c
 
 -- 3: job is not open
 abbrev pub notOpen : Status → Bool
