@@ -21,3 +21,4 @@ pub mod OneEvent
 pub mod StillHeld
 pub mod Ways
 pub mod CommittedJobs
+pub mod CodeLaws

@@ -25,7 +25,7 @@ pub record WokenAt (s : ℕ → Settled) (n j : ℕ) : Type 0 where
   pub is : waiter .job ≡ j
 
 -- among two lists of wakes is among the first or among the second
-woken-either : (j : ℕ) (a b : List Action) → isWoken j (a ++ b) ≡ (isWoken j a || isWoken j b)
+pub woken-either : (j : ℕ) (a b : List Action) → isWoken j (a ++ b) ≡ (isWoken j a || isWoken j b)
 unfolding isWoken
 woken-either j [] b = refl
 woken-either j (x ∷ a) b = by-test (same (x .job) j) (λ t. rw t) (λ f. rw f (woken-either j a b))

@@ -1,0 +1,105 @@
+-- Begin over the arrays, at the first free place, is the paper's begin: 7, then 6, else the next number.
+-- Assumes nothing.
+use Prim.Native.Nat.{ℕ, _<_}
+use mathlib.Core.Path.{_≡_, refl, sym, ap, subst, _∙_}
+use mathlib.Core.Logic.{_≢_}
+use mathlib.Core.Bool.{true, false}
+use mathlib.Core.List.{List}
+use native.Mathlib.Omega.{arith}
+use native.Mathlib.Numerals.{add-one}
+use lib.Dec.{ltb}
+use lib.ListN.{getD, set, length-set}
+use lib.Seq.{getD-set-same, getD-set-other}
+use Rattle.laws.specs.Choice.{by-test}
+use Rattle.terms.specs.Limits.{places, lastNumber}
+use Rattle.conflict.specs.declared.modes.Mode.the-variants.{Free}
+use Rattle.conflict.specs.Jobs.{member, pos}
+use Rattle.rules.specs.declared.Answer.the-variants.{Go}
+use Rattle.rules.specs.Desk.{closed, running, Waiter, at}
+use Rattle.rules.specs.Rules.{begin}
+use Rattle.rules.specs.Step.{stepBegin}
+use Rattle.rules.proofs.Invariant.{Inv}
+use Rattle.rules.proofs.Tests.{at-same, at-other, at-each}
+use Rattle.board.specs.declared.state.Desk.{Desk}
+use Rattle.board.specs.Codes.{runningCode}
+use Rattle.board.specs.Places.{modeAt}
+use Rattle.board.specs.Steps.{quiet, begun, beginning}
+use Rattle.board.specs.Stands.{byNumber, statusFor, statusAt, statusBy, modeBy, Plain, Stands, Tied}
+use Rattle.board.proofs.Seats.{pos-below, pos-holds, free-place, seated-member}
+use Rattle.board.proofs.ByNumber.{nobody-has}
+use Rattle.board.proofs.SeatsChanged.{seated-set, taken-number}
+use Rattle.board.proofs.StatusCodes.{set-status}
+use Rattle.board.proofs.Reading.{paperOf, plain-stands, quiet-tied, refusing-tied}
+
+module _ {d : Desk} {q : ℕ → List Waiter} (plain : Plain d) (v : Inv (paperOf d q)) where
+  -- the next number is not 0
+  next-real : d .next ≢ 0
+  next-real e = let l : 0 < d .next = v .some in omega arith
+
+  -- and no place has it
+  next-new : member (d .next) (d .number) ≡ false
+  next-new =
+      by-test (member (d .next) (d .number))
+      (λ t. let l : d .next < d .next = v .below (d .next) (v .opens (d .next) next-real t) in absurd (omega arith)) (λ f. f)
+
+  module _ (room : member 0 (d .number) ≡ true) where
+    -- the first free place is one of the 32
+    below : pos (d .number) 0 < places
+    below = subst (λ n. pos (d .number) 0 < n) (plain .numbers) (pos-below (d .number) 0 room)
+
+    -- the new job is the only one of which anything changes
+    begun-stands : Stands (begun d (pos (d .number) 0)) (begin (paperOf d q) .desk)
+    unfolding begun begin statusBy modeBy
+    begun-stands = record {
+      next = add-one (d .next);
+      jobs = sym (seated-set (d .next) (d .number) room);
+      stat = λ i. sym (taken-number (d .number) (d .next) room next-new (v .once) closed running
+          (statusAt (d .status) (d .cell) (d .ask)) (statusAt (set (d .status) (pos (d .number) 0) runningCode) (d .cell) (d .ask)) next-real here′ there′ i);
+      held = λ c i. sym (taken-number (d .number) (d .next) room next-new (v .once) Free Free (modeAt (d .held) c) (modeAt (d .held) c) next-real
+          (plain .free-held (pos (d .number) 0) below (pos-holds (d .number) 0 room) c) (λ r _. refl) i ∙ nothing c i);
+      plain = record {
+        numbers = length-set (d .number) (pos (d .number) 0) (d .next) ∙ plain .numbers;
+        statuses = length-set (d .status) (pos (d .number) 0) runningCode ∙ plain .statuses;
+        cells = plain .cells;
+        asks = plain .asks;
+        modes = plain .modes;
+        free-status = λ r l e. getD-set-other (d .status) (pos (d .number) 0) r runningCode 0 (other r e) ∙ plain .free-status r l (was r e);
+        free-held = λ r l e. plain .free-held r l (was r e);
+      };
+    }
+      where
+        p : ℕ
+        p = pos (d .number) 0
+
+        changed : (r : ℕ) → statusAt (set (d .status) p runningCode) (d .cell) (d .ask) r ≡ at (statusAt (d .status) (d .cell) (d .ask)) p running r
+        changed r = unfold statusFor in set-status (d .status) (d .cell) (d .ask) p runningCode (subst (λ n. p < n) (sym (plain .statuses)) below) r
+
+        here′ : statusAt (set (d .status) p runningCode) (d .cell) (d .ask) p ≡ running
+        here′ = changed p ∙ at-same (statusAt (d .status) (d .cell) (d .ask)) p running
+
+        there′ : (r : ℕ) → r ≢ p → statusAt (set (d .status) p runningCode) (d .cell) (d .ask) r ≡ statusAt (d .status) (d .cell) (d .ask) r
+        there′ r n = changed r ∙ at-other (statusAt (d .status) (d .cell) (d .ask)) p running r n
+
+        nothing : (c i : ℕ) → at (byNumber Free (d .number) (modeAt (d .held) c)) (d .next) Free i ≡ byNumber Free (d .number) (modeAt (d .held) c) i
+        nothing c i =
+            at-each (λ x. x ≡ byNumber Free (d .number) (modeAt (d .held) c) i) (byNumber Free (d .number) (modeAt (d .held) c)) (d .next) Free i
+            (λ e. sym (ap (byNumber Free (d .number) (modeAt (d .held) c)) e ∙ nobody-has Free (d .number) (modeAt (d .held) c) (d .next) (seated-member (d .number) (d .next) next-real ∙ next-new))) (λ _. refl)
+
+        other : (r : ℕ) → getD (set (d .number) p (d .next)) r 0 ≡ 0 → r ≢ p
+        other r e c = next-real (sym (getD-set-same (d .number) p (d .next) 0 (pos-below (d .number) 0 room)) ∙ ap (λ x. getD (set (d .number) p (d .next)) x 0) (sym c) ∙ e)
+
+        was : (r : ℕ) → getD (set (d .number) p (d .next)) r 0 ≡ 0 → getD (d .number) r 0 ≡ 0
+        was r e = sym (getD-set-other (d .number) p r (d .next) 0 (other r e)) ∙ e
+
+    -- so where a place is free, begin is tied
+    begun-tied : Tied (record { desk = begun d (pos (d .number) 0); said = quiet (Go (d .next)) }) (begin (paperOf d q))
+    unfolding begin
+    begun-tied = quiet-tied (Go (d .next)) begun-stands
+
+  -- begin: 7, then 6, else the next number at the first free place
+  pub beginning-tied : Tied (beginning d) (stepBegin (paperOf d q))
+  unfolding beginning stepBegin
+  beginning-tied =
+      by-test (ltb lastNumber (d .next)) (λ t. rw t (refusing-tied _ (plain-stands plain q)))
+      (λ f. rw (f, ap (ltb (pos (d .number) 0)) (sym (plain .numbers)) ∙ free-place (d .number))
+      (by-test (member 0 (d .number)) (λ room. rw room (begun-tied room)) (λ n. rw n (refusing-tied _ (plain-stands plain q)))))

@@ -1,0 +1,5 @@
+pub mod Codes
+pub mod Places
+pub mod Settling
+pub mod Steps
+pub mod Stands
