@@ -5,13 +5,15 @@ use mathlib.Core.Path.{_≡_, refl, sym, ap, _∙_}
 use mathlib.Core.Bool.{true, false}
 use mathlib.Core.List.{List, _++_}
 use native.Mathlib.Omega.{arith}
-use borrow.Author.Tests.{leb-true, lt-leb}
+use borrow.Author.Tests.{leb-true, le-leb, lt-leb}
 use lib.ListN.{length, take, drop, getD}
 use lib.Seq.{getD-take, getD-drop}
 use Rattle.laws.specs.Choice.{by-test}
 use Rattle.terms.specs.declared.letters.Letter.{Letter}
+use Rattle.terms.specs.declared.refusals.Refusal.{Refusal}
 use Rattle.terms.specs.declared.refusals.Refusal.the-variants.{NoRoom}
 use Rattle.terms.specs.declared.words.Word.{Word}
+use Rattle.text.specs.declared.writer.Written.{Written}
 use Rattle.text.specs.declared.writer.Written.the-variants.{Next, Refused}
 use Rattle.text.specs.Records.{answerRecord, lineRecord, fits, told, left}
 use Rattle.text.specs.Wrote.{Wrote}
@@ -57,6 +59,22 @@ line-at-the-end b l job cell = too-long b (length b) (lineRecord l job cell) (le
 left-wrote : (b : List ℕ) (at : ℕ) (bs : List ℕ) → fits b at bs ≡ true → Wrote at (at + length bs) bs b (left b at bs)
 unfolding left fits
 left-wrote b at bs t = record { ends = refl; within = leb-true (at + length bs) (length b) t; holds = rw t }
+
+-- where a place is told, the record was written up to it
+pub next-wrote : {w : Written} {b : List ℕ} {at : ℕ} {bs : List ℕ} {n : ℕ} {m : List ℕ} → w ≡ told b at bs → w ≡ Next n → m ≡ left b at bs → Wrote at n bs b m
+unfolding left fits
+next-wrote {w} {b} {at} {bs} {n} {m} e f g =
+    let k = next-told b at bs n (sym e ∙ f) in
+    let t = le-leb (at + length bs) (length b) (omega arith) in
+    record { ends = k .0; within = k .1; holds = g ∙ rw (t, k .0) refl }
+
+-- a record that there is room for is not refused
+pub not-refused : {P : Type 0} {w : Written} {why : Refusal} (b : List ℕ) (at : ℕ) (bs : List ℕ) → w ≡ told b at bs → w ≡ Refused why → at + length bs ≤ length b → P
+unfolding fits
+not-refused b at bs e f h =
+    let t : told b at bs ≡ Next (at + length bs) = told-next b at bs (le-leb (at + length bs) (length b) h) in
+    let z : _≡_ {A = ℕ} 0 1 = cc in
+    absurd (omega arith)
 
 -- a refusal leaves every byte
 pub left-refused : (b : List ℕ) (at : ℕ) (bs : List ℕ) → fits b at bs ≡ false → left b at bs ≡ b

@@ -61,6 +61,18 @@ wrote-byte {at} {a} {bs} {b} {m} x w h =
           ∙ rw add-one (simp append-assoc);
     }
 
+-- bytes that were written after others, from the place that was reached: all of them were written from the first place on
+pub wrote-then : {at a c : ℕ} {bs cs b m p : List ℕ} → Wrote at a bs b m → Wrote a c cs m p → Wrote at c (bs ++ cs) b p
+wrote-then {at} {a} {c} {bs} {cs} {b} {m} {p} w v =
+    let e = w .ends in
+    let f = v .ends in
+    let n = wrote-length w in
+    record {
+      ends = rw length-append (omega arith);
+      within = omega (arith, v .within);
+      holds = v .holds ∙ rw (wrote-take w, f, ← drop-drop (length cs) a m, wrote-drop w, drop-drop) (simp append-assoc);
+    }
+
 -- the part that is lent from the place that was reached
 lent-part : {at a : ℕ} {bs b m : List ℕ} → Wrote at a bs b m → midOf a (length m - a) m ≡ drop a b
 lent-part {at} {a} {bs} {b} {m} w = part-to-end m a ∙ wrote-drop w

@@ -28,7 +28,7 @@ pub enum Written {
 }
 
 // How many digits a number has in shortest decimal.
-fn width(n: u64) -> usize
+pub fn width(n: u64) -> usize
     ensures { λ r. ⌜ r ≡ length (decimal n) ⌝ }
 {
     let mut w: usize = 1;
@@ -91,21 +91,29 @@ fn put_field(part: &mut [u8], there: bool, n: u64, len: usize) -> usize
     }
 }
 
-// A word as a further field: a tab and the word.
+// A word.
 fn put_word(part: &mut [u8], word: Word) -> usize
-    requires { ⌜ length (spelt word) < length (now part) ⌝ }
-    ensures { λ r. ⌜ Wrote 0 r (tab ∷ spelt word) (now (part .entry)) (now (part .exit)) ⌝ }
+    requires { ⌜ length (spelt word) ≤ length (now part) ⌝ }
+    ensures { λ r. ⌜ Wrote 0 r (spelt word) (now (part .entry)) (now (part .exit)) ⌝ }
 {
     let spelling = spelled(word);
     let bytes = spelling.bytes;
     let len = spelling.len;
-    part[0] = TAB;
     let mut i: usize = 0;
     while i < len {
-        part[1 + i] = bytes[i];
+        part[i] = bytes[i];
         i += 1;
     }
-    1 + i
+    i
+}
+
+// A word as a further field: a tab and the word.
+fn put_second(part: &mut [u8], word: Word) -> usize
+    requires { ⌜ length (spelt word) < length (now part) ⌝ }
+    ensures { λ r. ⌜ Wrote 0 r (tab ∷ spelt word) (now (part .entry)) (now (part .exit)) ⌝ }
+{
+    let a = put_byte(part, TAB);
+    a + put_word(&mut part[a..], word)
 }
 
 // The last field, where there is one, and the newline that ends the record.
@@ -131,7 +139,7 @@ fn put_answer(
     ensures { λ r. ⌜ Wrote 0 r (answerRecord line word number) (now (part .entry)) (now (part .exit)) ⌝ }
 {
     let a = put_number(part, line, first);
-    let b = a + put_word(&mut part[a..], word);
+    let b = a + put_second(&mut part[a..], word);
     b + put_last(&mut part[b..], true, number, third)
 }
 
@@ -178,6 +186,48 @@ pub fn write_line(buf: &mut [u8], at: usize, letter: Letter, job: u64, cell: u64
     let room = buf.len();
     if has_room(room, at, second + third + 2) {
         let n = put_line(&mut buf[at..], letter, job, second, cell, third);
+        Written::Next(at + n)
+    } else {
+        Written::Refused(Refusal::NoRoom)
+    }
+}
+
+// A word alone: what a verdict line begins with.
+pub fn write_word(buf: &mut [u8], at: usize, word: Word) -> Written
+    ensures { λ r. ⌜ (r ≡ told (now (buf .entry)) at (spelt word)) × (now (buf .exit) ≡ left (now (buf .entry)) at (spelt word)) ⌝ }
+{
+    let spelling = spelled(word);
+    let len = spelling.len;
+    let room = buf.len();
+    if has_room(room, at, len) {
+        let n = put_word(&mut buf[at..], word);
+        Written::Next(at + n)
+    } else {
+        Written::Refused(Refusal::NoRoom)
+    }
+}
+
+// A further field alone: a tab and the number.
+pub fn write_field(buf: &mut [u8], at: usize, n: u64) -> Written
+    ensures { λ r. ⌜ (r ≡ told (now (buf .entry)) at (tab ∷ decimal n)) × (now (buf .exit) ≡ left (now (buf .entry)) at (tab ∷ decimal n)) ⌝ }
+{
+    let len = field_width(true, n);
+    let room = buf.len();
+    if has_room(room, at, len) {
+        let k = put_field(&mut buf[at..], true, n, len);
+        Written::Next(at + k)
+    } else {
+        Written::Refused(Refusal::NoRoom)
+    }
+}
+
+// The newline alone that ends a line.
+pub fn write_end(buf: &mut [u8], at: usize) -> Written
+    ensures { λ r. ⌜ (r ≡ told (now (buf .entry)) at (newline ∷ [])) × (now (buf .exit) ≡ left (now (buf .entry)) at (newline ∷ [])) ⌝ }
+{
+    let room = buf.len();
+    if has_room(room, at, 1) {
+        let n = put_byte(&mut buf[at..], NEWLINE);
         Written::Next(at + n)
     } else {
         Written::Refused(Refusal::NoRoom)

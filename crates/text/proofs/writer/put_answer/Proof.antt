@@ -13,17 +13,17 @@ put-number-requires c κs =
     let a = c .before .before .args in
     (c .before .before .pre .0, omega (arith, answer-length (a .line) (a .word) (a .number)))
 
-sub-put-word : tie.Need-sub-put-word
-sub-put-word c = search needs
+sub-put-second : tie.Need-sub-put-second
+sub-put-second c = search needs
 
-part-put-word-start : tie.Need-part-put-word-start
-part-put-word-start c = search needs
+part-put-second-start : tie.Need-part-put-second-start
+part-put-second-start c = search needs
 
-part-put-word-end : tie.Need-part-put-word-end
-part-put-word-end c = search needs
+part-put-second-end : tie.Need-part-put-second-end
+part-put-second-end c = search needs
 
-put-word-requires : tie.Need-put-word-requires
-put-word-requires c κs =
+put-second-requires : tie.Need-put-second-requires
+put-second-requires c κs =
     let s = c .before .before .before .before .before .before in
     let n = answer-length (s .args .line) (s .args .word) (s .args .number) in
     let w = c .before .before .before .put-number .ensures in
@@ -45,7 +45,7 @@ put-last-requires : tie.Need-put-last-requires
 put-last-requires c κs =
     let s = c .before .before .before .before .before .before .before .before .before .before in
     let n = answer-length (s .args .line) (s .args .word) (s .args .number) in
-    let w = wrote-more (c .before .before .before .before .before .before .before .put-number .ensures) (c .before .before .before .put-word .ensures) in
+    let w = wrote-more (c .before .before .before .before .before .before .before .put-number .ensures) (c .before .before .before .put-second .ensures) in
     (s .pre .1, lent-fits {b = s .args .part .now} w (omega (arith, w .ends)))
 
 add-result : tie.Need-add-result
@@ -56,7 +56,7 @@ same-length c = search needs
 
 returns : tie.Need-returns
 returns c =
-    let w = wrote-more (c .before .before .before .before .before .before .before .before .before .before .put-number .ensures) (c .before .before .before .before .before .before .put-word .ensures) in
+    let w = wrote-more (c .before .before .before .before .before .before .before .before .before .before .put-number .ensures) (c .before .before .before .before .before .before .put-second .ensures) in
     rw (answer-is _ _ _) (wrote-more w (c .before .before .put-last .ensures))
 
 pub put-answer-spec : {M : Type 1} → statement M
@@ -64,10 +64,10 @@ put-answer-spec =
     tie.close
     (tie.spec
     put-number-requires
-    sub-put-word
-    part-put-word-start
-    part-put-word-end
-    put-word-requires
+    sub-put-second
+    part-put-second-start
+    part-put-second-end
+    put-second-requires
     add-b
     sub-put-last
     part-put-last-start

@@ -1,10 +1,8 @@
--- `text::writer::put_word` meets its contract. The loop's invariant: the word's first bytes stand after the tab.
+-- `text::writer::put_word` meets its contract. The loop's invariant: the word's first bytes stand at the first places.
 -- Assumes nothing.
 use Prim.Native.Nat.{_-_}
-use mathlib.Core.Path.{_∙_}
 use native.Mathlib.Omega.{arith}
 use borrow.Author.Needs.{needs}
-use lib.ListN.{length-set}
 use Rattle.text.proofs.WordLaws.{Copying, copying-none, copying-more, copying-all}
 use Rattle.text.proofs.writer.put_word.Statement.{statement}
 use Rattle.text.proofs.writer.put_word.Tie as tie
@@ -18,20 +16,14 @@ abbrev μ-loop : tie.MeasureT-loop
 spelled-requires : tie.Need-spelled-requires Inv-loop μ-loop
 spelled-requires c κs = search needs
 
-slice-write-part : tie.Need-slice-write-part Inv-loop μ-loop
-slice-write-part c = omega arith
-
 loop-holds : tie.Need-loop-holds Inv-loop μ-loop
-loop-holds c = copying-none _ (c .before .before .before .args .word) _ (c .before .spelled .ensures) (rw length-set (c .before .before .before .pre))
+loop-holds c = copying-none _ (c .before .before .before .args .word) _ (c .before .spelled .ensures) (c .before .before .before .pre)
 
 array-read-part : tie.Need-array-read-part Inv-loop μ-loop
 array-read-part c = omega arith
 
-add-part : tie.Need-add-part Inv-loop μ-loop
-add-part c = omega arith
-
-slice-write-part-2 : tie.Need-slice-write-part-2 Inv-loop μ-loop
-slice-write-part-2 c = omega arith
+slice-write-part : tie.Need-slice-write-part Inv-loop μ-loop
+slice-write-part c = omega arith
 
 add-i : tie.Need-add-i Inv-loop μ-loop
 add-i c = omega arith
@@ -42,11 +34,8 @@ loop-less c = omega arith
 loop-again : tie.Need-loop-again Inv-loop μ-loop
 loop-again c = copying-more _ _ _ _ _ (c .before .loop .inv) (c .loop-test .taken)
 
-add-result : tie.Need-add-result Inv-loop μ-loop
-add-result c = omega arith
-
 same-length : tie.Need-same-length Inv-loop μ-loop
-same-length c = c .before .loop .inv .long ∙ simp length-set
+same-length c = c .before .loop .inv .long
 
 returns : tie.Need-returns Inv-loop μ-loop
 returns c = copying-all _ (c .before .before .before .before .before .args .word) _ _ _ (c .before .before .before .spelled .ensures) (c .before .loop .inv) (c .loop-test .left)
@@ -58,14 +47,11 @@ put-word-spec =
     Inv-loop
     μ-loop
     spelled-requires
-    slice-write-part
     loop-holds
     array-read-part
-    add-part
-    slice-write-part-2
+    slice-write-part
     add-i
     loop-less
     loop-again
-    add-result
     same-length
     returns)
