@@ -16,3 +16,11 @@ Unique {n} ps r post = (κs : Lfts n) (a : Dens κs ps) (x y : resT r κs .Denot
 abbrev pub UniqueLent : {n : ℕ} (ps : List (PK n)) (r : RK n) → Out n ps r → {B : Type 0} → ((κs : Lfts n) → AtExit (endedOf n ps r) κs → B) → Type 0
 UniqueLent {n} ps r post lent =
     (κs : Lfts n) (a : Dens κs ps) (x y : resT r κs .Denot) (e f : AtExit (endedOf n ps r) κs) → post κs a x e → post κs a y f → (x ≡ y) × (lent κs e ≡ lent κs f)
+
+-- the same where a part of an argument is handed back and two buffers are lent: any two parts hold the same, and so does each buffer at the exit;
+-- `held` reads a part, as `λ κs x. now x`, and `first` and `second` the buffers
+abbrev pub UniquePart : {n : ℕ} (ps : List (PK n)) (r : RK n) → Out n ps r → {A B C : Type 0} → ((κs : Lfts n) → resT r κs .Denot → A) →
+    ((κs : Lfts n) → AtExit (endedOf n ps r) κs → B) → ((κs : Lfts n) → AtExit (endedOf n ps r) κs → C) → Type 0
+UniquePart {n} ps r post held first second =
+    (κs : Lfts n) (a : Dens κs ps) (x y : resT r κs .Denot) (e f : AtExit (endedOf n ps r) κs) → post κs a x e → post κs a y f →
+    (held κs x ≡ held κs y) × (first κs e ≡ first κs f) × (second κs e ≡ second κs f)

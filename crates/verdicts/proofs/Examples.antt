@@ -1,0 +1,74 @@
+-- Four histories, computed: the empty one, one with a k and a committed job without actions, a walk that starts off its cycle, and a knot of three that shows the direction.
+-- Assumes nothing.
+use Prim.Native.Nat.{ℕ}
+use mathlib.Core.Path.{_≡_, refl}
+use mathlib.Core.List.{List, [], _∷_, map}
+use Rattle.conflict.specs.declared.action.Kind.the-variants.{Read, Write, Increment}
+use Rattle.conflict.specs.declared.action.Mark.the-variants.{Commit, Back}
+use Rattle.conflict.specs.declared.action.Event.{Event}
+use Rattle.conflict.specs.declared.action.Event.the-variants.{Does, Ends}
+use Rattle.conflict.specs.Jobs.{member}
+use Rattle.conflict.specs.Schedule.{agree, conflicts, keep, touches, edge}
+use Rattle.conflict.specs.History.{History, isCommit, isBack, marked, partOf, committedPart, put, commitOrder}
+use Rattle.verdicts.specs.Order.{preceded, first, ready, without, ends, leads, taken, orderOf, stuck}
+use Rattle.verdicts.specs.Knot.{predecessor, upTo, from, walk, least, turnTo, turn, knotIn}
+use Rattle.verdicts.specs.Judged.{Verdict, orderly, knotted, verdictBy, judged, insert, sorted, jobsOf, verdictOf}
+
+-- cell A of the papers is 0
+abbrev A : ℕ
+A = 0
+
+-- cell B of the papers is 1
+abbrev B : ℕ
+B = 1
+
+-- job i reads cell c
+abbrev r : ℕ → ℕ → Event
+r i c = Does (record { kind = Read; job = i; cell = c })
+
+-- job i writes cell c
+abbrev w : ℕ → ℕ → Event
+w i c = Does (record { kind = Write; job = i; cell = c })
+
+-- job j increments cell c
+abbrev i : ℕ → ℕ → Event
+i j c = Does (record { kind = Increment; job = j; cell = c })
+
+-- job j commits
+abbrev c : ℕ → Event
+c j = Ends Commit j
+
+-- job j was sent back
+abbrev k : ℕ → Event
+k j = Ends Back j
+
+-- 1 reads before and after 2 writes, and what it read before its k does not count; 9 commits without actions
+abbrev sent-back : History
+sent-back = r 1 A ∷ w 2 A ∷ k 1 ∷ r 1 A ∷ c 1 ∷ c 2 ∷ c 9 ∷ []
+
+-- H1 between 3 and 7, where 1 reads what 7 writes and 5 writes what 3 reads last: 5 is behind the knot, and the walk starts at 1, off it
+abbrev off-cycle : History
+off-cycle = w 7 2 ∷ r 1 2 ∷ r 3 A ∷ r 7 A ∷ w 3 A ∷ w 7 A ∷ r 3 4 ∷ w 5 4 ∷ c 7 ∷ c 5 ∷ c 3 ∷ c 1 ∷ []
+
+-- 2 gives to 3, 3 to 5 and 5 to 2: the knot runs along the edges
+abbrev three-round : History
+three-round = w 3 0 ∷ w 5 0 ∷ w 5 1 ∷ w 2 1 ∷ w 2 2 ∷ w 3 2 ∷ c 5 ∷ c 3 ∷ c 2 ∷ []
+
+-- a history and the verdict on it
+pub record Sample : Type 0 where
+  pub history : History
+  pub verdict : Verdict
+
+-- the samples
+abbrev pub samples : List Sample
+samples =
+    record { history = []; verdict = orderly [] }
+    ∷ record { history = sent-back; verdict = orderly (2 ∷ 1 ∷ 9 ∷ []) }
+    ∷ record { history = off-cycle; verdict = knotted (3 ∷ 7 ∷ []) }
+    ∷ record { history = three-round; verdict = knotted (2 ∷ 3 ∷ 5 ∷ []) }
+    ∷ []
+
+-- each is judged so
+pub tried : map (λ s. verdictOf (s .history)) samples ≡ map (λ s. s .verdict) samples
+unfolding member agree conflicts keep touches edge isCommit isBack marked partOf committedPart put commitOrder preceded first ready without ends leads taken orderOf stuck predecessor upTo from walk least turnTo turn knotIn verdictBy judged insert sorted jobsOf verdictOf
+tried = refl

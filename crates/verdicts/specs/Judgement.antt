@@ -1,0 +1,49 @@
+-- The judge whole: what it says of a text and an order buffer, and what it leaves in the buffer (01, The judge's rules; 01, Refusals by number).
+use Prim.Native.Nat.{ℕ, _+_}
+use mathlib.Core.Bool.{Bool}
+use mathlib.Core.List.{List, [], _∷_, _++_}
+use mathlib.Core.Option.{Option, none, some}
+use lib.Dec.{ltb}
+use lib.ListN.{length, drop}
+use Rattle.laws.specs.Choice.{pick}
+use Rattle.terms.specs.declared.refusals.Refusal.the-variants.{ShortOrder}
+use Rattle.terms.specs.Refusals.{numberOf}
+use Rattle.terms.specs.Limits.{judgedJobs}
+use Rattle.text.specs.Split.{linesOf}
+use Rattle.verdicts.specs.declared.verdict.Verdict.{Verdict}
+use Rattle.verdicts.specs.declared.verdict.Verdict.the-variants.{Orderly, Knot, No}
+use Rattle.verdicts.specs.Judged.{orderly, knotted, verdictOf}
+use Rattle.verdicts.specs.Judged as judged
+use Rattle.verdicts.specs.HistoryText.{Faulty, firstFaulty, eventsIn, bare}
+
+-- what is said, what the buffer then holds, and the line handed back
+pub record Judgement : Type 0 where
+  pub said : Verdict
+  pub order : List ℕ
+  pub line : List ℕ
+
+-- jobs fill the first places of the buffer, and the rest stay (01, The judge's rules)
+unfoldable pub filled : List ℕ → List ℕ → List ℕ
+filled jobs buffer = jobs ++ drop (length jobs) buffer
+
+-- a verdict on a faultless history: its length is said, its jobs fill the buffer, and no line is handed back
+unfoldable pub sayVerdict : List ℕ → judged.Verdict → Judgement
+sayVerdict buffer (orderly order) = record { said = Orderly (length order); order = filled order buffer; line = [] }
+sayVerdict buffer (knotted js) = record { said = Knot (length js); order = filled js buffer; line = [] }
+
+-- a faulty line is handed back without its newline, with its number and refusal, and the buffer stays; else the verdict on what the lines say
+unfoldable pub sayLines : List ℕ → List (List ℕ) → Option Faulty → Judgement
+sayLines buffer ls none = sayVerdict buffer (verdictOf (eventsIn ls))
+sayLines buffer ls (some f) = record { said = No (f .number) (f .why); order = buffer; line = bare (f .bytes) }
+
+-- the judge: 14 first, with line number 0; then the lines in order (01, Refusals by number)
+unfoldable pub judgementOf : List ℕ → List ℕ → Judgement
+judgementOf text buffer =
+    pick (ltb (length buffer) judgedJobs) (record { said = No 0 ShortOrder; order = buffer; line = [] })
+    (sayLines buffer (linesOf text) (firstFaulty 1 [] (linesOf text)))
+
+-- the answer in three numbers: 0 orderly and 1 knot with the length, 2 a refusal with its number and its line number
+unfoldable pub inNumbers : Verdict → List ℕ
+inNumbers (Orderly n) = 0 ∷ n ∷ 0 ∷ []
+inNumbers (Knot n) = 1 ∷ n ∷ 0 ∷ []
+inNumbers (No line why) = 2 ∷ numberOf why ∷ line ∷ []
