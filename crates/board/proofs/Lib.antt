@@ -25,3 +25,5 @@ pub mod Asking
 pub mod StepTied
 pub mod FreshStands
 pub mod StartedStands
+pub mod Carrying
+pub mod DeskSerial

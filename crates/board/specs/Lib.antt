@@ -3,3 +3,4 @@ pub mod Places
 pub mod Settling
 pub mod Steps
 pub mod Stands
+pub mod Runs
