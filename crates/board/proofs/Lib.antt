@@ -27,3 +27,8 @@ pub mod FreshStands
 pub mod StartedStands
 pub mod Carrying
 pub mod DeskSerial
+pub mod DeskRuns
+pub mod ExactRefusals
+pub mod DeskRefusals
+pub mod DeskLimits
+pub mod DeskFields

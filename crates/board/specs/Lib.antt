@@ -4,3 +4,4 @@ pub mod Settling
 pub mod Steps
 pub mod Stands
 pub mod Runs
+pub mod Due
