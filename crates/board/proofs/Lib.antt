@@ -32,3 +32,6 @@ pub mod ExactRefusals
 pub mod DeskRefusals
 pub mod DeskLimits
 pub mod DeskFields
+pub mod DeskInWay
+pub mod DeskServed
+pub mod DeskOldest
