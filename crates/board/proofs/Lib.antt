@@ -35,3 +35,6 @@ pub mod DeskFields
 pub mod DeskInWay
 pub mod DeskServed
 pub mod DeskOldest
+pub mod DeskSteps
+pub mod DeskWakes
+pub mod DeskRecords

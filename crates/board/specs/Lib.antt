@@ -6,3 +6,5 @@ pub mod Stands
 pub mod Runs
 pub mod Due
 pub mod Waiting
+pub mod Effects
+pub mod Asked
