@@ -38,3 +38,5 @@ pub mod DeskOldest
 pub mod DeskSteps
 pub mod DeskWakes
 pub mod DeskRecords
+pub mod DeskLocks
+pub mod DeskDeciding
