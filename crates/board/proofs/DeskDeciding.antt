@@ -1,26 +1,24 @@
--- Rules 1 to 3 of the desk that runs in the paper's words, over all jobs and not over places: when a job that asks goes, waits or is sent back (01, rules 1 to 3).
+-- Rules 2 and 3 of the desk that runs in the paper's words, over all jobs and not over places: when a job that asks goes, waits or is sent back (01, rules 2 and 3).
 -- Assumes nothing.
 use Prim.Native.Nat.{ℕ, _<_}
-use mathlib.Core.Path.{_≡_, refl, sym, ap, subst, _∙_}
-use mathlib.Core.Bool.{true, false}
+use mathlib.Core.Path.{_≡_, refl, subst, _∙_}
+use mathlib.Core.Bool.{true}
 use mathlib.Core.List.{List, [], _∷_}
 use Rattle.terms.specs.declared.letters.Ask.{Ask}
-use Rattle.conflict.specs.Modes.{needed, covers, grants}
+use Rattle.conflict.specs.Modes.{needed, grants}
 use Rattle.conflict.specs.History.{History}
 use Rattle.rules.specs.declared.Answer.the-variants.{Go, Wait, Back}
-use Rattle.rules.specs.Desk as paper
 use Rattle.rules.specs.Desk.{waiting, Waiter}
 use Rattle.rules.specs.Step as paper-step
 use Rattle.rules.specs.Step.{step}
 use Rattle.rules.specs.Waiting.{In, first}
 use Rattle.rules.proofs.Moved as moved
 use Rattle.rules.proofs.Kept.{started-inv}
-use Rattle.rules.proofs.Granting.{rule-1}
 use Rattle.rules.proofs.Deciding as deciding
 use Rattle.rules.proofs.Deciding.{promotion-goes, promotion-waits, promotion-back, entry-goes, entry-waits, entry-back, entry-back-waiter}
 use Rattle.board.specs.declared.state.Desk.{Desk}
 use Rattle.board.specs.Steps.{stepOf}
-use Rattle.board.specs.Stands.{statusBy, modeBy, Started, Tied}
+use Rattle.board.specs.Stands.{statusBy, modeBy, Started}
 use Rattle.board.specs.Runs.{request}
 use Rattle.board.specs.Asked.{Asking, OtherHolder, Promotes, Enters, Hindered, waits-already, disagrees}
 use Rattle.board.proofs.Reading.{paperOf, plain-stands, stands-path}

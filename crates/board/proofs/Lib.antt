@@ -40,3 +40,4 @@ pub mod DeskWakes
 pub mod DeskRecords
 pub mod DeskLocks
 pub mod DeskDeciding
+pub mod DeskRule1
