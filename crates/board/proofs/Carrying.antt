@@ -1,7 +1,7 @@
 -- How a promise about the paper's desk becomes one about the arrays: started arrays are a started paper's desk but for the queues, and so is each step of theirs, after any requests.
 -- Assumes nothing.
 use Prim.Native.Nat.{ℕ}
-use mathlib.Core.Path.{_≡_, refl, sym, ap₂, subst, subst₂, _∙_}
+use mathlib.Core.Path.{_≡_, refl, sym, ap₂, subst, subst₂}
 use mathlib.Core.List.{List, [], _∷_, _++_, append-nil, append-assoc}
 use Rattle.conflict.specs.History.{History}
 use Rattle.rules.specs.Desk as paper

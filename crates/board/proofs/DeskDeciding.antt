@@ -26,20 +26,24 @@ use Rattle.board.proofs.StepTied.{tie}
 use Rattle.board.proofs.StartedStands.{stands-for-paper}
 use Rattle.board.proofs.Carrying.{Queues}
 
--- what the arrays say of a request says the same of the paper's desk that they are but for the queues
 module _ {d : Desk} (q : Queues) (kind job c : ℕ) (a : Ask) where
+  -- a running job asks, by the arrays, so it does at the paper's desk that they are but for the queues
   asking-to : Asking d kind job c a → moved.Asking (paperOf d q) (request kind job c) a
   asking-to k = record { letter = k .letter; runs = k .runs; within = k .within }
 
+  -- it asks for a promotion there
   promotes-to : Promotes d kind job c a → deciding.Promotes (paperOf d q) (request kind job c) a
   promotes-to k = record { asking = asking-to (k .asking); holds = k .holds; not-covered = k .not-covered }
 
+  -- it is new to the cell there
   enters-to : Enters d kind job c a → deciding.Enters (paperOf d q) (request kind job c) a
   enters-to k = record { asking = asking-to (k .asking); holds-nothing = k .holds-nothing }
 
+  -- another holder by the arrays is one there
   holder-to : {i : ℕ} → OtherHolder d c job i → deciding.OtherHolder (paperOf d q) (request kind job c) i
   holder-to k = record { other = k .other; holds = k .holds }
 
+  -- and the other way round
   holder-from : {i : ℕ} → deciding.OtherHolder (paperOf d q) (request kind job c) i → OtherHolder d c job i
   holder-from k = record { other = k .other; holds = k .holds }
 
@@ -50,6 +54,7 @@ record Asked (d : Desk) (h : History) (kind job c : ℕ) : Type 0 where
   answer : stepOf d kind job c .said .answer ≡ step (paperOf d queues) (request kind job c) .said
 
 module _ {d : Desk} {h : History} (s : Started d h) (kind job c : ℕ) where
+  -- so it is
   asked : Asked d h kind job c
   asked =
       let (D, g, t) = stands-for-paper s in
@@ -70,6 +75,7 @@ module _ {d : Desk} {h : History} (s : Started d h) (kind job c : ℕ) where
   nobody (w ∷ q) n = absurd (n w first)
 
   module _ (a : Ask) where
+    -- who is hindered by the arrays is hindered there
     hindered-to : Hindered d job c a → deciding.Hindered (paperOf d (asked .queues)) (request kind job c) a
     hindered-to (waits-already i b w) = deciding.waits-already (record { job = i; ask = b }) (stands w)
     hindered-to (disagrees i o f) = deciding.disagrees i (holder-to (asked .queues) kind job c a o) f

@@ -2,13 +2,11 @@
 -- Assumes nothing.
 use Prim.Native.Nat.{ℕ, _<_}
 use mathlib.Core.Path.{_≡_, refl, sym, subst, _∙_}
-use mathlib.Core.Logic.{_≢_, _↔_}
+use mathlib.Core.Logic.{_↔_}
 use mathlib.Core.Bool.{true, false}
-use mathlib.Core.List.{List}
 use native.Mathlib.Omega.{arith}
 use Rattle.terms.specs.declared.letters.Ask.{Ask}
 use Rattle.conflict.specs.Modes.{isFree}
-use Rattle.conflict.specs.Jobs.{member}
 use Rattle.conflict.specs.History.{History}
 use Rattle.rules.specs.Desk as paper
 use Rattle.rules.specs.Desk.{running, waiting, isLive, Waiter}
@@ -22,8 +20,8 @@ use Rattle.rules.proofs.InTheWay.{way-some, way-younger, way-live}
 use Rattle.rules.proofs.AtMost31.{at-most-31}
 use Rattle.rules.proofs.SomebodyRuns.{somebody-runs}
 use Rattle.board.specs.declared.state.Desk.{Desk}
-use Rattle.board.specs.Stands.{statusBy, modeBy, Stands, Started}
-use Rattle.board.specs.Waiting.{IsWaiting, InWay, holds-it, waits-younger, AtMostInWay, WaitsFor, Chain, link, links}
+use Rattle.board.specs.Stands.{statusBy, Stands, Started}
+use Rattle.board.specs.Waiting.{IsWaiting, InWay, holds-it, waits-younger, AtMostInWay, Chain, link, links}
 use Rattle.board.proofs.StartedStands.{stands-for-paper}
 use Rattle.board.proofs.Carrying.{by-desk}
 

@@ -1,15 +1,15 @@
 -- The limits of the desk that runs: at most 32 open jobs, numbers from 1 to 4,294,967,295, and rows 3, 6 and 7 of the table as printed; and how it is started (01, What is delivered; 01, Jobs and their numbers; 01, refusal 10).
 -- Assumes nothing.
 use Prim.Native.Nat.{ℕ, suc, _<_, _≤_}
-use mathlib.Core.Path.{_≡_, refl, sym, ap, ap₂, subst, _∙_}
+use mathlib.Core.Path.{_≡_, refl, sym, ap, _∙_}
 use mathlib.Core.Logic.{_≢_}
-use mathlib.Core.Bool.{Bool, true, false, _&&_}
+use mathlib.Core.Bool.{true, _&&_}
 use mathlib.Core.List.{List, []}
 use native.Mathlib.Omega.{arith}
 use lib.Dec.{eqb}
 use lib.ListN.{length}
 use borrow.Author.Tests.{eqb-true, eqb-false, ne-eqb}
-use Rattle.laws.specs.Choice.{pick, by-test}
+use Rattle.laws.specs.Choice.{by-test}
 use Rattle.terms.specs.declared.letters.Lettered.{Lettered}
 use Rattle.terms.specs.declared.refusals.Refusal.{Refusal}
 use Rattle.terms.specs.declared.refusals.Refusal.the-variants.{StartedAtZero}
@@ -17,7 +17,7 @@ use Rattle.terms.specs.Refusals.{numberOf}
 use Rattle.terms.specs.Limits.{places, lastNumber}
 use Rattle.conflict.specs.Jobs.{member, distinct}
 use Rattle.conflict.specs.History.{History}
-use Rattle.rules.specs.Desk.{Request, isOpen, freshDesk}
+use Rattle.rules.specs.Desk.{Request, isOpen}
 use Rattle.rules.specs.Step as paper-step
 use Rattle.rules.specs.Table as table
 use Rattle.rules.specs.Table.{isBegin, letterIs, allOpen, noNumberLeft, notOpen}
@@ -25,7 +25,6 @@ use Rattle.rules.proofs.Kept.{started-inv}
 use Rattle.rules.proofs.OpenJobs.{open-listed, open-once, at-most-32, row-6, row-3}
 use Rattle.rules.proofs.NumberLimits.{next-within, open-within, row-7}
 use Rattle.board.specs.declared.state.Desk.{Desk}
-use Rattle.board.specs.declared.state.Opening.{Opening}
 use Rattle.board.specs.declared.state.Opening.the-variants.{Opened, Refused}
 use Rattle.board.specs.Steps.{emptyDesk, startOf}
 use Rattle.board.specs.Stands.{statusBy, Started, fresh}

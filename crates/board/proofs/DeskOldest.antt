@@ -1,10 +1,10 @@
 -- The third sentence of demand 3 of the desk that runs: a job older than every other live job is never sent back, and no job begun later is older. So a job that retries under its own number is at last the oldest, and from then on never sent back. With it the numbers that begins give.
 -- Assumes nothing.
 use Prim.Native.Nat.{ℕ, suc, _<_, _≤_}
-use mathlib.Core.Path.{_≡_, refl, sym, ap, subst, _∙_}
+use mathlib.Core.Path.{_≡_, sym, ap, subst, _∙_}
 use mathlib.Core.Logic.{_≢_}
 use mathlib.Core.Bool.{true, false}
-use mathlib.Core.List.{List, [], _∷_}
+use mathlib.Core.List.{List}
 use native.Mathlib.Omega.{arith}
 use Rattle.terms.specs.declared.letters.Letter.the-variants.{Begin}
 use Rattle.terms.specs.declared.letters.Lettered.the-variants.{Known}
@@ -14,13 +14,11 @@ use Rattle.conflict.specs.Jobs.{member, distinct}
 use Rattle.conflict.specs.History.{History}
 use Rattle.rules.specs.declared.Answer.the-variants.{Go, Back}
 use Rattle.rules.specs.Desk.{sentback, isOpen, isLive, Request}
-use Rattle.rules.specs.Step as paper-step
-use Rattle.rules.specs.Step.{step}
 use Rattle.rules.specs.Runs as paper-runs
 use Rattle.rules.specs.Runs.{Rising}
 use Rattle.rules.specs.Waiting as paper-waiting
 use Rattle.rules.proofs.Kept.{started-inv}
-use Rattle.rules.proofs.Numbers.{next-rises, next-rises-on, begin-gives, given-within, given-rises, given-once}
+use Rattle.rules.proofs.Numbers.{next-rises-on, begin-gives, given-within, given-rises, given-once}
 use Rattle.rules.proofs.NumberLimits.{given-from}
 use Rattle.rules.proofs.Oldest.{back-only-while-older, never-answered-back, never-back, older-only-shrinks, at-last-oldest, retried-at-last-oldest}
 use Rattle.board.specs.declared.state.Desk.{Desk}

@@ -1,7 +1,7 @@
 -- The refusals of the desk that runs are given exactly where the table says, read off the arrays (demand 1; 01, Refusals by number).
 -- Assumes nothing.
 use Prim.Native.Nat.{ℕ, _≤_}
-use mathlib.Core.Path.{_≡_, refl, sym, ap, subst, _∙_, fun-ext}
+use mathlib.Core.Path.{_≡_, refl, sym, ap, _∙_, fun-ext}
 use mathlib.Core.Logic.{_↔_}
 use mathlib.Core.Bool.{true}
 use Rattle.terms.specs.declared.letters.Lettered.{Lettered}
@@ -9,14 +9,12 @@ use Rattle.terms.specs.declared.refusals.Refusal.{Refusal}
 use Rattle.terms.specs.declared.refusals.Refusal.the-variants.{UnknownKind, CellAbove, NotOpen, Waiting, SentBack, AllOpen, NoNumberLeft, Running, BadLine, StartedAtZero, TooManyLines, JobOutside, Ended, ShortOrder, NoRoom, TooLong}
 use Rattle.terms.specs.Letters.{letterOf}
 use Rattle.terms.specs.Refusals.{numberOf}
-use Rattle.terms.specs.Limits.{places}
 use Rattle.conflict.specs.History.{History}
-use Rattle.rules.specs.declared.Answer.{Answer}
 use Rattle.rules.specs.declared.Answer.the-variants.{No}
-use Rattle.rules.specs.Desk.{Status, isOpen}
+use Rattle.rules.specs.Desk.{Status}
 use Rattle.rules.specs.Rules.{refused}
 use Rattle.rules.specs.Table as table
-use Rattle.rules.specs.Table.{Verdict, holds, order, firstOf, verdict, verdictBy, Answers, named}
+use Rattle.rules.specs.Table.{holds, order, firstOf, verdict, verdictBy, Answers, named}
 use Rattle.rules.proofs.Refusing.{refused-when, due-refused, not-due, answered-not-due, answer-names, due-holds, one-to-eight}
 use Rattle.board.specs.declared.state.Desk.{Desk}
 use Rattle.board.specs.Steps.{stepOf}

@@ -1,16 +1,13 @@
 -- Rule 1 of the desk that runs: a job that holds a covering mode goes, and the arrays stay exactly as they were (01, rule 1).
 -- Assumes nothing.
 use Prim.Native.Nat.{ℕ}
-use mathlib.Core.Path.{_≡_, refl, sym, ap, subst, _∙_}
-use mathlib.Core.Logic.{_≢_}
-use mathlib.Core.Bool.{true, false}
+use mathlib.Core.Path.{_≡_, refl, sym, ap, _∙_}
+use mathlib.Core.Bool.{true}
 use native.Mathlib.Omega.{arith}
-use lib.Dec.{eqb, ltb}
-use lib.ListN.{getD}
+use lib.Dec.{eqb}
 use borrow.Author.Tests.{lt-ltb}
 use Rattle.laws.specs.Choice.{by-test}
 use Rattle.terms.specs.declared.letters.Ask.{Ask}
-use Rattle.terms.specs.Letters.{letterOf}
 use Rattle.terms.specs.Limits.{cells}
 use Rattle.conflict.specs.declared.modes.Mode.the-variants.{Free}
 use Rattle.conflict.specs.Modes.{needed, covers}
@@ -19,7 +16,6 @@ use Rattle.rules.specs.declared.Answer.the-variants.{Go}
 use Rattle.rules.specs.Desk.{Status, closed, running, waiting, sentback}
 use Rattle.board.specs.declared.state.Desk.{Desk}
 use Rattle.board.specs.declared.state.Outcome.{Outcome}
-use Rattle.board.specs.declared.state.Decision.the-variants.{Keep}
 use Rattle.board.specs.Codes.{freeCode, waitingCode, sentBackCode}
 use Rattle.board.specs.Places.{modeAt}
 use Rattle.board.specs.Steps.{quiet, placeOf, statusOf, decided, carried, asking, ifRunning, stepFor, stepOf}

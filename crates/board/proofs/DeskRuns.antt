@@ -49,6 +49,10 @@ module _ (n : ℕ) (some : 0 < n) (last : n ≤ lastNumber) (rs : List Request) 
   pub desk-given-is-paper : given (emptyDesk n) rs ≡ paper-runs.given (freshDesk n) rs
   desk-given-is-paper = run-given (fresh-stands n) (started-inv (paper-step.fresh n some last)) rs
 
+  -- what any requests to an empty desk leave and write is a started desk and its history
+  pub desk-started-from-empty : Started (deskAfter (emptyDesk n) rs) (historyOf (emptyDesk n) rs)
+  desk-started-from-empty = run-started (fresh n some last) rs
+
 -- arrays and a history that requests from an empty desk lead to
 pub record Reached (d : Desk) (h : History) : Type 0 where
   pub first : ℕ

@@ -14,10 +14,10 @@ use Rattle.rules.proofs.StrictHistory.{history-strict, committed-as-worded}
 use Rattle.rules.proofs.Serial.{serial-by-commits, commits-once, committed-jobs-serializable, never-a-knot}
 use Rattle.board.specs.declared.state.Desk.{Desk}
 use Rattle.board.specs.Steps.{emptyDesk}
-use Rattle.board.specs.Stands.{Started, fresh}
-use Rattle.board.specs.Runs.{deskAfter, historyOf}
+use Rattle.board.specs.Stands.{Started}
+use Rattle.board.specs.Runs.{historyOf}
 use Rattle.board.proofs.StartedStands.{stands-for-paper}
-use Rattle.board.proofs.Carrying.{run-started}
+use Rattle.board.proofs.DeskRuns.{desk-started-from-empty}
 
 module _ {d : Desk} {h : History} (s : Started d h) where
   -- the committed part is conflict-equivalent to its jobs one after another in the order of their commits (demand 2)
@@ -49,18 +49,14 @@ module _ {d : Desk} {h : History} (s : Started d h) where
   desk-committed-as-worded = committed-as-worded (stands-for-paper s .1)
 
 module _ (n : ℕ) (some : 0 < n) (last : n ≤ lastNumber) (rs : List Request) where
-  -- what any requests to an empty desk leave and write is a started desk and its history
-  pub desk-started-from-empty : Started (deskAfter (emptyDesk n) rs) (historyOf (emptyDesk n) rs)
-  desk-started-from-empty = run-started (fresh n some last) rs
-
-  -- so for every first number and every list of requests the committed jobs in order of commit are a conflict-equivalent serial order (demand 2)
+  -- for every first number and every list of requests the committed jobs in order of commit are a conflict-equivalent serial order (demand 2)
   pub desk-serial-from-empty : Equivalent (committedPart (historyOf (emptyDesk n) rs)) (serial (commitOrder (historyOf (emptyDesk n) rs)) (committedPart (historyOf (emptyDesk n) rs)))
-  desk-serial-from-empty = desk-serial desk-started-from-empty
+  desk-serial-from-empty = desk-serial (desk-started-from-empty n some last rs)
 
   -- and the order names no job twice
   pub desk-commits-once-from-empty : distinct (commitOrder (historyOf (emptyDesk n) rs)) ≡ true
-  desk-commits-once-from-empty = desk-commits-once desk-started-from-empty
+  desk-commits-once-from-empty = desk-commits-once (desk-started-from-empty n some last rs)
 
   -- nor is there ever a knot
   pub desk-never-a-knot-from-empty : (js : List ℕ) → knot (edge (committedPart (historyOf (emptyDesk n) rs))) js ≡ true → ⊥
-  desk-never-a-knot-from-empty = desk-never-a-knot desk-started-from-empty
+  desk-never-a-knot-from-empty = desk-never-a-knot (desk-started-from-empty n some last rs)

@@ -1,14 +1,16 @@
 -- The second sentence of demand 3 of the desk that runs: a waiting job that does not give up gets its cell in the mode it asked for, at the latest in the step that ends the last run among the other jobs that held that cell or stood ahead when it asked, at most 31 runs.
 -- Assumes nothing.
-use Prim.Native.Nat.{ℕ}
+use Prim.Native.Nat.{ℕ, _<_, _≤_}
 use mathlib.Core.Path.{_≡_, refl, sym, ap, subst, _∙_}
-use mathlib.Core.Logic.{_≢_, _↔_, _⊎_, inl, inr}
+use mathlib.Core.Logic.{_↔_, _⊎_, inl, inr}
 use mathlib.Core.Bool.{true, false}
-use mathlib.Core.List.{List, [], _∷_, _++_}
+use mathlib.Core.List.{List, [], _∷_}
+use Rattle.laws.specs.Choice.{not-both}
 use Rattle.terms.specs.declared.letters.Ask.{Ask}
 use Rattle.terms.specs.declared.letters.Letter.the-variants.{Asks}
 use Rattle.terms.specs.declared.letters.Lettered.the-variants.{Known}
 use Rattle.terms.specs.Letters.{letterOf}
+use Rattle.terms.specs.Limits.{lastNumber}
 use Rattle.conflict.specs.declared.modes.Mode.{Mode}
 use Rattle.conflict.specs.Modes.{needed, covers, asked, isFree}
 use Rattle.conflict.specs.History.{History}
@@ -23,7 +25,7 @@ use Rattle.rules.specs.Step as paper-step
 use Rattle.rules.specs.Step.{step}
 use Rattle.rules.specs.Runs as paper-runs
 use Rattle.rules.specs.Waiting as paper-waiting
-use Rattle.rules.specs.Waiting.{In}
+use Rattle.rules.specs.Waiting.{In, GivesUp}
 use Rattle.rules.proofs.Invariant.{Inv}
 use Rattle.rules.proofs.Kept.{step-inv, started-inv}
 use Rattle.rules.proofs.JustAsked.{asker-waits, in-way-when-asked}
@@ -31,13 +33,14 @@ use Rattle.rules.proofs.NotForgotten.{still-in-way, granted-at-last}
 use Rattle.rules.proofs.ServedInTime.{waits-or-served, waiter-served}
 use Rattle.board.specs.declared.state.Desk.{Desk}
 use Rattle.board.specs.declared.state.Outcome.{Outcome}
-use Rattle.board.specs.Steps.{stepOf}
-use Rattle.board.specs.Stands.{statusBy, modeBy, Stands, Tied, Started, after}
+use Rattle.board.specs.Steps.{emptyDesk, stepOf}
+use Rattle.board.specs.Stands.{Stands, Tied, Started, after}
 use Rattle.board.specs.Runs.{request, stepTo, deskAfter, historyOf}
 use Rattle.board.specs.Waiting.{IsWaiting, InWay, WasInWay, held-it, stood-ahead, Waits, Patient, AllEnd, wakeOf, Granted, wantedMode, Served, ServedInTime}
 use Rattle.board.proofs.StepTied.{tie}
 use Rattle.board.proofs.StartedStands.{stands-for-paper}
 use Rattle.board.proofs.Carrying.{run-stands, run-history, run-inv}
+use Rattle.board.proofs.DeskRuns.{desk-started-from-empty}
 use Rattle.board.proofs.DeskInWay.{waiterOf, way-to, way-from, desk-in-way-live, desk-waiter-is-older, desk-at-most-31}
 
 module _ (c j : ℕ) (a : Ask) where
@@ -117,6 +120,18 @@ module _ {d : Desk} {h : History} (s : Started d h) (c j : ℕ) (a : Ask) (k : I
       let (i, p, e, _) = still-in-way g c (waiterOf j a) rs (waits-to c j a t v rs w) in
       (i, way-from t v c j a k i p, subst (λ x. ended i x ≡ false) (sym (run-history t v rs)) e)
 
+  -- so once all those runs have ended, it no longer waits for that request
+  pub desk-not-forgotten : AllEnd d c j rs → Waits d c j a rs → ⊥
+  desk-not-forgotten all w = let (i, p, e) = desk-still-in-way w in not-both (all i p) e
+
+  -- when it stops waiting in a step that is not its give-up, that step woke it and gave it its cell in the mode it asked for
+  pub desk-granted-at-last : Waits d c j a rs → (r : Request) → (GivesUp j r → ⊥) → (IsWaiting (stepTo (deskAfter d rs) r .desk) c j a → ⊥) → Granted (stepTo (deskAfter d rs) r) c j a (wantedMode d c j a)
+  desk-granted-at-last w r n stops =
+      let (D, g, t) = stands-for-paper s in
+      let v = started-inv g in
+      let o = tie (run-stands t v rs) (run-inv v rs) (r .kind) (r .job) (r .cell) in
+      granted-from c j a o (wants-from c j a t v) (granted-at-last g c (waiterOf j a) rs (waits-to c j a t v rs w) r n (λ x. stops (sym (o .stands .stat j) ∙ x)))
+
 module _ {d : Desk} {h : History} (s : Started d h) (kind job c : ℕ) (a : Ask) (l : letterOf kind ≡ Known (Asks a)) (e : stepOf d kind job c .said .answer ≡ Wait job) where
   -- a job that asks and is answered wait waits for that cell with what it asked
   pub desk-asker-waits : IsWaiting (stepOf d kind job c .desk) c job a
@@ -157,3 +172,7 @@ module _ {d : Desk} {h : History} (s : Started d h) (kind job c : ℕ) (a : Ask)
     at-most = desk-at-most-31 (after s kind job c) c job a desk-asker-waits;
     served = desk-waiter-served (after s kind job c) c job a desk-asker-waits;
   }
+
+-- so it is after any requests from an empty desk (demand 3)
+pub desk-served-from-empty : (n : ℕ) → 0 < n → n ≤ lastNumber → (rs : List Request) (r : Request) (a : Ask) → letterOf (r .kind) ≡ Known (Asks a) → stepTo (deskAfter (emptyDesk n) rs) r .said .answer ≡ Wait (r .job) → ServedInTime (stepTo (deskAfter (emptyDesk n) rs) r .desk) (r .cell) (r .job) a
+desk-served-from-empty n some last rs r a = desk-served-in-time (desk-started-from-empty n some last rs) (r .kind) (r .job) (r .cell) a

@@ -109,15 +109,18 @@ module _ {d : Desk} {h : History} (s : Started d h) (kind job c : ℕ) where
   pub desk-waits : (j : ℕ) → stepOf d kind job c .said .answer ≡ Wait j → (a : Ask) × StartsToWait d (stepOf d kind job c .desk) c a j
   desk-waits j e =
       by-step s kind job c (λ D O. O .said ≡ Wait j → (a : Ask) × queueing.Waits D (O .desk) (request kind job c) a j) (λ D _. queueing.waits D (request kind job c) j)
-      (λ q q′ k. let (a, x) = k e in (a, record {
-        ran = ap (statusBy d) (x .job) ∙ x .asking .runs;
-        within = x .asking .within;
-        status = x .status;
-        stands-first = stands-first j (ap (statusBy d) (x .job) ∙ x .asking .runs);
-        stands-last = subst (λ y. isFree (modeBy d c y) ≡ true → (i : ℕ) (b : Ask) → statusBy d i ≡ waiting c b → y < i) (sym (x .job))
-            (stands-last a (x .asking .letter) (e ∙ ap Wait (x .job)));
-        holds = x .holds;
-        statuses = x .statuses;
-        places = x .places;
-        next = x .next;
-      }))
+      (λ q q′ k. let (a, x) = k e in (
+        a,
+        record {
+          ran = ap (statusBy d) (x .job) ∙ x .asking .runs;
+          within = x .asking .within;
+          status = x .status;
+          stands-first = stands-first j (ap (statusBy d) (x .job) ∙ x .asking .runs);
+          stands-last = subst (λ y. isFree (modeBy d c y) ≡ true → (i : ℕ) (b : Ask) → statusBy d i ≡ waiting c b → y < i) (sym (x .job))
+              (stands-last a (x .asking .letter) (e ∙ ap Wait (x .job)));
+          holds = x .holds;
+          statuses = x .statuses;
+          places = x .places;
+          next = x .next;
+        },
+      ))

@@ -1,10 +1,11 @@
 -- The wakes of the desk that runs: each waited for its cell with its kind, runs after the step and holds what it needs; none unless rule 4 ran; and nobody else's status or place changes (01, rule 4; 01, The desk's rules).
 -- Assumes nothing.
-use Prim.Native.Nat.{ℕ}
-use mathlib.Core.Path.{_≡_, _∙_}
+use Prim.Native.Nat.{ℕ, _≤_}
+use mathlib.Core.Path.{_≡_, sym, ap, _∙_}
 use mathlib.Core.Logic.{_≢_, _⊎_, inl, inr}
 use mathlib.Core.Bool.{false}
 use mathlib.Core.List.{List, []}
+use lib.ListN.{length, getD}
 use Rattle.terms.specs.Letters.{letterOf}
 use Rattle.conflict.specs.declared.action.Action.{Action}
 use Rattle.conflict.specs.Jobs.{member}
@@ -18,7 +19,7 @@ use Rattle.rules.specs.Waiting.{In, first, later}
 use Rattle.rules.proofs.Waking as waking
 use Rattle.rules.proofs.Bystanders.{bystander, bystander-place}
 use Rattle.board.specs.declared.state.Desk.{Desk}
-use Rattle.board.specs.Steps.{stepOf}
+use Rattle.board.specs.Steps.{noAction, stepOf}
 use Rattle.board.specs.Stands.{statusBy, wakesTold, Tied, Started}
 use Rattle.board.specs.Runs.{request}
 use Rattle.board.specs.Due.{namedBy}
@@ -44,6 +45,10 @@ module _ {d : Desk} {h : History} (s : Started d h) (kind job c : ℕ) where
         runs = y .runs;
         holds = y .holds;
       })
+
+  -- at most 31 are told, and nothing stands past them
+  pub desk-wakes-few : (stepOf d kind job c .said .count ≤ 31) × (length (wakesTold (stepOf d kind job c .said)) ≡ stepOf d kind job c .said .count) × ((q : ℕ) → stepOf d kind job c .said .count ≤ q → getD (stepOf d kind job c .said .wakes) q noAction ≡ noAction)
+  desk-wakes-few = let (D, g, t) = step-for-paper s kind job c in (t .few, ap length (t .wakes) ∙ sym (t .count), t .rest)
 
   -- nobody is woken but by a commit, a give-up or a sending back
   pub desk-wakes-only-rule-4 : (wakesTold (stepOf d kind job c .said) ≡ []) ⊎ RunEnds d kind job c

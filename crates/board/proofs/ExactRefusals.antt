@@ -1,7 +1,7 @@
 -- A refused step leaves the arrays exactly as they were, and tells no wake: every step of the arrays is a refusal, or answers go, wait or back (demand 1; 01, Refusals by number).
 -- Assumes nothing.
 use Prim.Native.Nat.{ℕ}
-use mathlib.Core.Path.{_≡_, refl, sym, ap, subst, _∙_}
+use mathlib.Core.Path.{_≡_, ap, subst}
 use mathlib.Core.Bool.{Bool, true, false}
 use mathlib.Core.List.{[]}
 use lib.Dec.{eqb, ltb}

@@ -4,7 +4,6 @@ use mathlib.Core.Path.{_≡_}
 use mathlib.Core.List.{List, []}
 use Rattle.laws.specs.Choice.{pick}
 use Rattle.terms.specs.declared.refusals.Refusal.{Refusal}
-use Rattle.terms.specs.declared.letters.Lettered.{Lettered}
 use Rattle.terms.specs.Letters.{letterOf}
 use Rattle.rules.specs.Desk as paper
 use Rattle.rules.specs.Table.{Verdict, refusal, nothing, verdictBy, isBegin, letterIs, openAmong}
