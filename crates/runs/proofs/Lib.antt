@@ -9,3 +9,4 @@ pub mod Progress
 pub mod LastLine
 pub mod AnyCourse
 pub mod WholeProgram
+pub mod BoardIsPaper

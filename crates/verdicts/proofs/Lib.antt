@@ -15,4 +15,14 @@ pub mod Judging
 pub mod Deciding
 pub mod Sorted
 pub mod Histories
+pub mod LineFaults
+pub mod LineBack
+pub mod FewJobs
+pub mod Answering
+pub mod OneAnswer
+pub mod Refusing
+pub mod JudgedTexts
+pub mod RecordLines
+pub mod RecordsSay
+pub mod WrittenHistories
 pub mod Examples

@@ -5,3 +5,6 @@ pub mod Meant
 pub mod HistoryText
 pub mod Judgement
 pub mod Arrays
+pub mod LineTable
+pub mod Answers
+pub mod Written
