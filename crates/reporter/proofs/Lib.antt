@@ -1,0 +1,8 @@
+pub mod TabbedLaws
+pub mod SpareRoom
+pub mod WordLines
+pub mod Saying
+pub mod JobRange
+pub mod LineLength
+pub mod LongTexts
+pub mod Unique

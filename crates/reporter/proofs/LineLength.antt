@@ -1,0 +1,129 @@
+-- The verdict's line has at most 1,028 bytes: seven of the word, four for each of 255 jobs, and the newline (01, The judge's rules).
+-- Assumes nothing.
+use Prim.Native.Nat.{ℕ, _+_, _*_, _≤_}
+use mathlib.Core.Path.{_≡_, refl, sym, ap, _∙_}
+use mathlib.Core.Bool.{true}
+use mathlib.Core.List.{List, [], _∷_}
+use mathlib.Core.Option.{Option, none, some}
+use native.Mathlib.Nat.{zero-add}
+use native.Mathlib.Omega.{arith}
+use borrow.Author.Tests.{le-leb, le-ltb}
+use lib.Dec.{ltb}
+use lib.ListN.{length, take, drop, replicate, length-append, length-replicate}
+use lib.Seq.{take-append-seam}
+use Rattle.laws.specs.Choice.{by-test}
+use Rattle.terms.specs.declared.refusals.Refusal.the-variants.{TooLong}
+use Rattle.terms.specs.declared.words.Word as word
+use Rattle.terms.specs.declared.words.Word.{Word}
+use Rattle.terms.specs.Limits.{judgedJobs, judgedBytes}
+use Rattle.terms.specs.Refusals.{numberOf}
+use Rattle.terms.specs.Words.{tab}
+use Rattle.conflict.specs.Jobs.{member}
+use Rattle.conflict.proofs.JobLists.{member-first, member-more}
+use Rattle.text.specs.declared.writer.Written.the-variants.{Next}
+use Rattle.text.specs.Decimal.{decimal}
+use Rattle.text.specs.Records.{fits, told, left}
+use Rattle.text.specs.Split.{linesOf}
+use Rattle.text.proofs.DigitLaws.{decimal-at-most-20, digits-at-most}
+use Rattle.text.proofs.WordLaws.{word-at-most-7}
+use Rattle.text.proofs.WriterLaws.{told-next, left-text}
+use Rattle.verdicts.specs.Judged as judged
+use Rattle.verdicts.specs.Judged.{orderly, knotted}
+use Rattle.verdicts.specs.HistoryText.{Faulty, firstFaulty, eventsIn}
+use Rattle.verdicts.specs.Judgement.{filled, sayVerdict, sayLines, judgementOf}
+use Rattle.verdicts.proofs.Deciding.{by-verdict}
+use Rattle.verdicts.proofs.Histories.{jobs-committed, order-once, order-names, knot-shows}
+use Rattle.runs.specs.Programs.{tabbed, wordLine, sayLine, judgedLine, verdictOf}
+use Rattle.reporter.proofs.JobRange.{InRange, lines-range, few-in-range}
+use Rattle.reporter.proofs.WordLines.{word-line-length, two-numbers-length}
+
+-- seven bytes of the longest word, four for each of 255 jobs, and the newline
+abbrev pub lineLimit : ℕ
+lineLimit = 1_028
+
+-- jobs of at most three digits have at most four bytes each, the tab among them
+tabbed-at-most : (js : List ℕ) → ((j : ℕ) → member j js ≡ true → j ≤ judgedJobs) → length (tabbed js) ≤ 4 * length js
+unfolding tabbed
+tabbed-at-most [] r = omega arith
+tabbed-at-most (j ∷ js) r =
+    let h = r j (member-first j js) in
+    omega (
+      arith,
+      digits-at-most 2 j (omega arith),
+      length-append (tab ∷ decimal j) (tabbed js),
+      tabbed-at-most js (λ k m. r k (member-more j js k m)),
+    )
+
+-- a line of a word and at most 255 such jobs
+jobs-at-most : (w : Word) (js : List ℕ) → length js ≤ judgedJobs → ((j : ℕ) → member j js ≡ true → InRange j) → length (wordLine w js) ≤ lineLimit
+jobs-at-most w js few r =
+    omega (arith, word-line-length w js, word-at-most-7 w, tabbed-at-most js (λ j m. r j m .1))
+
+-- a line of the word no and two numbers of any size
+no-at-most : (a b : ℕ) → length (wordLine word.the-variants.No (a ∷ b ∷ [])) ≤ lineLimit
+no-at-most a b = omega (arith, two-numbers-length word.the-variants.No a b, decimal-at-most-20 a, decimal-at-most-20 b)
+
+-- the jobs that fill the first places of a buffer stand there
+filled-first : (js buffer : List ℕ) → take (length js) (filled js buffer) ≡ js
+unfolding filled
+filled-first js buffer = take-append-seam js (drop (length js) buffer)
+
+module _ (ls : List (List ℕ)) (e : firstFaulty 1 [] ls ≡ none) (buffer : List ℕ) where
+  -- the line of an order
+  order-at-most : (order : List ℕ) → judged.verdictOf (eventsIn ls) ≡ orderly order → length (wordLine word.the-variants.Orderly order) ≤ lineLimit
+  order-at-most order v =
+      let r : (j : ℕ) → member j order ≡ true → InRange j = λ j m. lines-range 1 [] ls j e (sym (order-names (eventsIn ls) order v j) ∙ m) in
+      jobs-at-most word.the-variants.Orderly order (few-in-range order (order-once (eventsIn ls) order v) r) r
+
+  -- the line of a knot
+  knot-at-most : (js : List ℕ) → judged.verdictOf (eventsIn ls) ≡ knotted js → length (wordLine word.the-variants.Knot js) ≤ lineLimit
+  knot-at-most js v =
+      let k = knot-shows (eventsIn ls) js v in
+      let r : (j : ℕ) → member j js ≡ true → InRange j = λ j m. lines-range 1 [] ls j e (sym (jobs-committed (eventsIn ls) j) ∙ k .only j m) in
+      jobs-at-most word.the-variants.Knot js (few-in-range js (k .once) r) r
+
+  -- the line of a verdict on faultless lines
+  said-at-most : let j = sayVerdict buffer (judged.verdictOf (eventsIn ls)) in length (sayLine (j .said) (j .order)) ≤ lineLimit
+  unfolding sayVerdict sayLine
+  said-at-most =
+      by-verdict (judged.verdictOf (eventsIn ls))
+      (λ order v. rw v (rw filled-first (order-at-most order v)))
+      (λ js v. rw v (rw filled-first (knot-at-most js v)))
+
+-- the line on any lines
+lines-at-most : (buffer : List ℕ) (ls : List (List ℕ)) (o : Option Faulty) → firstFaulty 1 [] ls ≡ o → let j = sayLines buffer ls o in length (sayLine (j .said) (j .order)) ≤ lineLimit
+unfolding sayLines sayLine
+lines-at-most buffer ls none e = said-at-most ls e buffer
+lines-at-most buffer ls (some f) e = no-at-most (f .number) (numberOf (f .why))
+
+-- the line on a text of any length, with an order buffer that is long enough
+buffer-at-most : (text buffer : List ℕ) → judgedJobs ≤ length buffer →
+    length (sayLine (judgementOf text buffer .said) (judgementOf text buffer .order)) ≤ lineLimit
+unfolding judgementOf
+buffer-at-most text buffer h = rw (le-ltb (length buffer) judgedJobs h) (lines-at-most buffer (linesOf text) (firstFaulty 1 [] (linesOf text)) refl)
+
+-- so is that of the verdict program's buffer
+pub judged-at-most : (text : List ℕ) → length (judgedLine text) ≤ lineLimit
+unfolding judgedLine
+judged-at-most text = buffer-at-most text (replicate judgedJobs 0) (omega (arith, length-replicate {A = ℕ} judgedJobs 0))
+
+-- the verdict's line on any text has at most 1,028 bytes
+pub verdict-at-most : (text : List ℕ) → length (verdictOf text) ≤ lineLimit
+unfolding verdictOf
+verdict-at-most text =
+    by-test (ltb judgedBytes (length text)) (λ t. rw t (no-at-most 0 (numberOf TooLong))) (λ f. rw f (judged-at-most text))
+
+-- so it fits into every buffer that has as many
+verdict-fits : (b text : List ℕ) → lineLimit ≤ length b → fits b 0 (verdictOf text) ≡ true
+unfolding fits
+verdict-fits b text h = le-leb (0 + length (verdictOf text)) (length b) (omega (arith, verdict-at-most text))
+
+-- the place after it is told
+pub verdict-told : (b text : List ℕ) → lineLimit ≤ length b → told b 0 (verdictOf text) ≡ Next (length (verdictOf text))
+verdict-told b text h = told-next b 0 (verdictOf text) (verdict-fits b text h) ∙ ap Next (zero-add (length (verdictOf text)))
+
+-- and it stands at the buffer's first places
+pub verdict-left : (b text : List ℕ) → lineLimit ≤ length b → take (length (verdictOf text)) (left b 0 (verdictOf text)) ≡ verdictOf text
+verdict-left b text h =
+    ap (λ k. take k (left b 0 (verdictOf text))) (sym (zero-add (length (verdictOf text))))
+    ∙ left-text b 0 (verdictOf text) (verdict-fits b text h)
