@@ -15,4 +15,5 @@ pub mod Judging
 pub mod Deciding
 pub mod Sorted
 pub mod Histories
+pub mod LineFaults
 pub mod Examples

@@ -5,3 +5,4 @@ pub mod Meant
 pub mod HistoryText
 pub mod Judgement
 pub mod Arrays
+pub mod LineTable

@@ -1,0 +1,147 @@
+-- The judge's walk along the lines finds the table's first fault: what it keeps of the jobs that have ended is what the lines before say (01, Refusals by number).
+-- Assumes nothing.
+use Prim.Native.Nat.{ℕ, suc, _+_, _-_, _≤_, _<_}
+use mathlib.Core.Path.{_≡_, refl, sym, ap, ap₂, _∙_, subst}
+use mathlib.Core.Logic.{_≢_}
+use mathlib.Core.Bool.{Bool, true, false, not, _&&_, _||_, or-assoc}
+use mathlib.Core.List.{List, [], _∷_, _++_, append-nil, append-assoc}
+use mathlib.Core.Option.{Option, none, some}
+use native.Mathlib.Omega.{arith}
+use lib.Dec.{eqb, ltb, leb}
+use lib.ListN.{length, take, getD, length-append}
+use lib.Seq.{take-at, getD-at, append-snoc}
+use borrow.Author.Tests.{eqb-true, eqb-false, eq-eqb, ne-eqb, ltb-true, ltb-false, lt-ltb, le-ltb, le-leb, lt-leb}
+use Rattle.laws.specs.Choice.{pick, by-test, not-both}
+use Rattle.terms.specs.declared.letters.Letter.{Letter}
+use Rattle.terms.specs.declared.letters.Letter.the-variants.{Begin, Commit, GiveUp, Retry, Back, Asks}
+use Rattle.terms.specs.declared.refusals.Refusal.{Refusal}
+use Rattle.terms.specs.declared.refusals.Refusal.the-variants.{TooManyLines}
+use Rattle.terms.specs.Letters.{ofHistories, hasCell}
+use Rattle.terms.specs.Limits.{cells, judgedJobs, judgedLines}
+use Rattle.conflict.specs.Jobs.{same, member}
+use Rattle.conflict.proofs.Parts.{or-swap}
+use Rattle.text.specs.declared.reader.Reading.{Reading}
+use Rattle.text.specs.declared.reader.Reading.the-variants.{Good, Bad}
+use Rattle.text.specs.Lines.{readLine}
+use Rattle.verdicts.specs.HistoryText.{faultOfGood, faultOf, lineFault, endedAfter, Faulty, orLater, firstFaulty}
+use Rattle.verdicts.specs.LineTable.{lineAt, linesBefore, ends, endedIn, holds, order, firstOf, tableSays, Due, Faultless, FirstFault, AllFaultless}
+
+-- the jobs kept as ended are those with a c or an a on the lines before
+abbrev pub Keeps : List ℕ → List (List ℕ) → Type 0
+Keeps ended before = (j : ℕ) → member j ended ≡ endedIn j before
+
+-- before the first line none has ended
+pub none-ended : Keeps [] []
+unfolding member endedIn
+none-ended j = refl
+
+-- a line more at the end
+ended-more : (j : ℕ) (before : List (List ℕ)) (l : List ℕ) → endedIn j (before ++ l ∷ []) ≡ (ends j (readLine ofHistories l) || endedIn j before)
+unfolding endedIn
+ended-more j [] l = refl
+ended-more j (b ∷ before) l =
+    ap (λ x. ends j (readLine ofHistories b) || x) (ended-more j before l)
+    ∙ or-swap (ends j (readLine ofHistories b)) (ends j (readLine ofHistories l)) (endedIn j before)
+
+-- a line that reads so adds its job where it is a c or an a
+keeps-reading : (ended : List ℕ) (j : ℕ) (r : Reading) → member j (endedAfter ended r) ≡ (ends j r || member j ended)
+unfolding endedAfter ends member
+keeps-reading ended j Bad = refl
+keeps-reading ended j (Good Begin job cell) = refl
+keeps-reading ended j (Good Commit job cell) = refl
+keeps-reading ended j (Good GiveUp job cell) = refl
+keeps-reading ended j (Good Retry job cell) = refl
+keeps-reading ended j (Good Back job cell) = refl
+keeps-reading ended j (Good (Asks a) job cell) = refl
+
+-- after one more line the jobs kept are the right ones
+pub keeps-more : (ended : List ℕ) (before : List (List ℕ)) (l : List ℕ) → Keeps ended before → Keeps (endedAfter ended (readLine ofHistories l)) (before ++ l ∷ [])
+keeps-more ended before l k j =
+    keeps-reading ended j (readLine ofHistories l) ∙ ap (λ x. ends j (readLine ofHistories l) || x) (k j) ∙ sym (ended-more j before l)
+
+-- a job is outside 1 to 255 where it is 0 or above 255
+outside-is : (job : ℕ) → (eqb job 0 || ltb judgedJobs job) ≡ not (leb 1 job && leb job 255)
+outside-is job =
+    by-test (eqb job 0)
+    (λ t. let z : job ≡ 0 = eqb-true job 0 t in rw (t, lt-leb 1 job (omega arith)))
+    (λ f. let p : job ≢ 0 = eqb-false job 0 f in
+    by-test (ltb judgedJobs job)
+    (λ t. let h : 255 < job = ltb-true 255 job t in rw (f, t, le-leb 1 job (omega arith), lt-leb job 255 h))
+    (λ g. let h : job ≤ 255 = ltb-false 255 job g in rw (f, g, le-leb 1 job (omega arith), le-leb job 255 h)))
+
+-- up to line 4,097, a line past 4,096 is line 4,097
+too-many-is : (n : ℕ) → n ≤ 4_097 → ltb judgedLines n ≡ eqb n 4_097
+too-many-is n h =
+    by-test (ltb judgedLines n)
+    (λ t. let g : 4_096 < n = ltb-true judgedLines n t in t ∙ sym (eq-eqb n 4_097 (omega arith)))
+    (λ f. let g : n ≤ 4_096 = ltb-false judgedLines n f in f ∙ sym (ne-eqb n 4_097 (omega arith)))
+
+-- the judge's fault of a line that reads so is the table's
+reading-fault : (n : ℕ) (ended : List ℕ) (before : List (List ℕ)) (r : Reading) → n ≤ 4_097 → Keeps ended before →
+    pick (ltb judgedLines n) (some TooManyLines) (faultOf ended r) ≡ firstOf (holds n before r) order
+unfolding faultOf faultOfGood holds firstOf order
+reading-fault n ended before Bad h k = rw (too-many-is n h)
+reading-fault n ended before (Good l job cell) h k = rw (too-many-is n h, outside-is job, k job)
+
+-- the judge's fault of a line is the table's
+pub line-fault : (n : ℕ) (ended : List ℕ) (before : List (List ℕ)) (line : List ℕ) → n ≤ 4_097 → Keeps ended before → lineFault n ended line ≡ tableSays n before line
+unfolding lineFault tableSays
+line-fault n ended before line h k = reading-fault n ended before (readLine ofHistories line) h k
+
+-- a line past 4,096 has a fault
+pub few-lines : (n : ℕ) (ended : List ℕ) (line : List ℕ) → lineFault n ended line ≡ none → n ≤ 4_096
+unfolding lineFault
+few-lines n ended line e =
+    by-test (ltb judgedLines n) (λ t. let q : some TooManyLines ≡ none = rw t at e in let z : _≡_ {A = ℕ} 0 1 = cc in absurd (omega arith))
+    (λ f. ltb-false judgedLines n f)
+
+-- what is said of the lines: the first faulty one with its bytes, or that there is none
+abbrev pub Tells : List (List ℕ) → Option Faulty → Type 0
+Tells ls none = AllFaultless ls
+Tells ls (some f) = FirstFault ls (f .number) (f .why) × (f .bytes ≡ lineAt ls (f .number))
+
+-- the table speaks of line n by the lines before it and by its bytes, whatever follows
+said-of : (before : List (List ℕ)) (line : List ℕ) (after : List (List ℕ)) → let n : ℕ = suc (length before) in
+    (tableSays n (linesBefore (before ++ line ∷ after) n) (lineAt (before ++ line ∷ after) n) ≡ tableSays n before line)
+said-of before line after =
+    ap₂ (tableSays (suc (length before))) (take-at before (line ∷ after) (suc (length before) - 1) (omega arith))
+    (getD-at before line after [] (suc (length before) - 1) (omega arith))
+
+module _ (whole before : List (List ℕ)) (l : List ℕ) (ls : List (List ℕ)) (n : ℕ) (ended : List ℕ) (w : whole ≡ before ++ l ∷ ls)
+    (e : n ≡ suc (length before)) (h : n ≤ 4_097) (k : Keeps ended before) (good : (m : ℕ) → 1 ≤ m → m < n → Faultless whole m) where
+  -- the judge's fault of line n is what the table says of it
+  fault-at : lineFault n ended l ≡ tableSays n (linesBefore whole n) (lineAt whole n)
+  fault-at = line-fault n ended before l h k ∙ sym (rw (w, e) (said-of before l ls))
+
+  -- where line n has no fault, the lines up to it are faultless
+  good-more : lineFault n ended l ≡ none → (m : ℕ) → 1 ≤ m → m < suc n → Faultless whole m
+  good-more q m a b =
+      by-test (eqb m n) (λ t. subst (Faultless whole) (sym (eqb-true m n t)) (sym fault-at ∙ q))
+      (λ f. let other′ : m ≢ n = eqb-false m n f in good m a (omega arith))
+
+  -- line n decides where it has a fault, and else the lines after it
+  line-tells : (o : Option Refusal) (later : Option Faulty) → lineFault n ended l ≡ o → (lineFault n ended l ≡ none → Tells whole later) → Tells whole (orLater o n l later)
+  unfolding orLater
+  line-tells none later q next = next q
+  line-tells (some why) later q next =
+      let size : length whole ≡ length before + suc (length ls) = ap length w ∙ length-append before (l ∷ ls) in
+      (record { from = omega arith; to = omega arith; before = good; due = sym fault-at ∙ q },
+      sym (rw (w, e) (getD-at before l ls [] (suc (length before) - 1) (omega arith))))
+
+-- from line n on, where the lines before it are faultless
+walks : (whole before ls : List (List ℕ)) (n : ℕ) (ended : List ℕ) → whole ≡ before ++ ls → n ≡ suc (length before) → n ≤ 4_097 → Keeps ended before →
+    ((m : ℕ) → 1 ≤ m → m < n → Faultless whole m) → Tells whole (firstFaulty n ended ls)
+unfolding firstFaulty
+walks whole before [] n ended w e h k good =
+    let size : length whole ≡ length before = ap length (w ∙ append-nil before) in
+    λ m a b. good m a (omega arith)
+walks whole before (l ∷ ls) n ended w e h k good =
+    line-tells whole before l ls n ended w e h k good (lineFault n ended l) _ refl
+    (λ q.
+    let few : n ≤ 4_096 = few-lines n ended l q in
+    walks whole (before ++ l ∷ []) ls (suc n) (endedAfter ended (readLine ofHistories l)) (w ∙ sym (append-assoc before (l ∷ []) ls))
+    (omega (arith, length-append before (l ∷ []))) (omega arith) (keeps-more ended before l k) (good-more whole before l ls n ended w e h k good q))
+
+-- the judge finds the first faulty line of the table, with its bytes, or that every line is faultless
+pub finds-fault : (ls : List (List ℕ)) → Tells ls (firstFaulty 1 [] ls)
+finds-fault ls = walks ls [] ls 1 [] refl refl (omega arith) none-ended (λ m a b. absurd (omega arith))
