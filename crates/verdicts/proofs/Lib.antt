@@ -16,4 +16,9 @@ pub mod Deciding
 pub mod Sorted
 pub mod Histories
 pub mod LineFaults
+pub mod LineBack
+pub mod FewJobs
+pub mod Answering
+pub mod OneAnswer
+pub mod Refusing
 pub mod Examples

@@ -6,3 +6,4 @@ pub mod HistoryText
 pub mod Judgement
 pub mod Arrays
 pub mod LineTable
+pub mod Answers

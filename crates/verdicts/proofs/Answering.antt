@@ -1,0 +1,103 @@
+-- The judge's answer is one of the paper's three: 14, the refusal of the first faulty line, or a verdict on a faultless text; and there is no second answer (01, Refusals by number; 01, The judge's rules).
+-- Assumes nothing.
+use Prim.Native.Nat.{ℕ, suc, _+_, _-_, _≤_, _<_}
+use mathlib.Core.Path.{_≡_, refl, sym, ap, ap₂, _∙_, subst}
+use mathlib.Core.Logic.{_↔_}
+use mathlib.Core.Bool.{Bool, true, false}
+use mathlib.Core.List.{List, [], _∷_, _++_}
+use mathlib.Core.Option.{Option, none, some}
+use native.Mathlib.Omega.{arith}
+use lib.Dec.{eqb, ltb}
+use lib.ListN.{length, take, drop, length-append, length-drop, take-append-drop}
+use lib.Seq.{take-append-seam, drop-append-seam}
+use borrow.Author.Tests.{ltb-true, ltb-false, lt-ltb, le-ltb, eqb-true, eqb-false}
+use Rattle.laws.specs.Choice.{pick, by-test, not-both}
+use Rattle.terms.specs.declared.refusals.Refusal.{Refusal}
+use Rattle.terms.specs.declared.refusals.Refusal.the-variants.{ShortOrder}
+use Rattle.terms.specs.Limits.{judgedJobs}
+use Rattle.conflict.specs.Jobs.{member, distinct}
+use Rattle.conflict.specs.Schedule.{edge}
+use Rattle.conflict.specs.History.{History, committedPart}
+use Rattle.text.specs.Split.{linesOf}
+use Rattle.verdicts.specs.declared.verdict.Verdict.the-variants.{Orderly, Knot, No}
+use Rattle.verdicts.specs.Judged.{Verdict, orderly, knotted, jobsOf, verdictOf}
+use Rattle.verdicts.specs.Meant.{Knotted, Says}
+use Rattle.verdicts.specs.Meant.Says.{says-order, says-cycle}
+use Rattle.verdicts.specs.HistoryText.{Faulty, firstFaulty, eventsIn, bare}
+use Rattle.verdicts.specs.Judgement.{Judgement, filled, sayVerdict, sayLines, judgementOf}
+use Rattle.verdicts.specs.LineTable.{lineAt, Faultless, Due, FirstFault, AllFaultless}
+use Rattle.verdicts.specs.Answers.{Stands, Fills, InOrder, InKnot, Answers}
+use Rattle.verdicts.specs.Answers.Answers.{short, faulty, in-order, in-knot}
+use Rattle.verdicts.proofs.Histories.{jobs-committed, order-serial, order-once, order-names, order-smallest, knot-shows, verdict-exactly}
+use Rattle.verdicts.proofs.LineFaults.{Tells, finds-fault}
+use Rattle.verdicts.proofs.LineBack.{bare-stands, stands-only}
+use Rattle.verdicts.proofs.FewJobs.{at-most-255, committed-within}
+
+-- jobs put into a buffer that has room for them fill its first places
+fills : (jobs buffer : List ℕ) → length jobs ≤ length buffer → Fills jobs buffer (filled jobs buffer)
+unfolding filled
+fills jobs buffer h =
+    record {
+      first = take-append-seam jobs (drop (length jobs) buffer);
+      rest = drop-append-seam jobs (drop (length jobs) buffer);
+      size = omega (arith, length-append jobs (drop (length jobs) buffer), length-drop (length jobs) buffer);
+    }
+
+module _ (text buffer : List ℕ) (room : 255 ≤ length buffer) (all : AllFaultless (linesOf text)) where
+  -- an order said of a faultless text is the paper's, and has at most 255 jobs
+  order-told : (order : List ℕ) → verdictOf (eventsIn (linesOf text)) ≡ orderly order → InOrder (eventsIn (linesOf text)) buffer (filled order buffer) (length order)
+  order-told order v =
+      let h : History = eventsIn (linesOf text) in
+      let few : length order ≤ 255 = at-most-255 order (order-once h order v) (λ j m. committed-within (linesOf text) all j (sym (order-names h order v j) ∙ m)) in
+      record {
+        order = order;
+        fills = fills order buffer (omega arith);
+        count = refl;
+        most = few;
+        serially = order-serial h order v;
+        once = order-once h order v;
+        names = order-names h order v;
+        smallest = order-smallest h order v;
+      }
+
+  -- a knot is the paper's where it says so, and has at most 255 jobs
+  knot-by : (js : List ℕ) → verdictOf (eventsIn (linesOf text)) ≡ knotted js → {w : Verdict} → Says (edge (committedPart (eventsIn (linesOf text)))) (jobsOf (eventsIn (linesOf text))) w → w ≡ knotted js →
+      InKnot (eventsIn (linesOf text)) buffer (filled js buffer) (length js)
+  knot-by js v (says-order o) q = let z : _≡_ {A = ℕ} 0 1 = cc in absurd (omega arith)
+  knot-by js v (says-cycle {taken = taken} {rest = rest} {js = ks} t s) q =
+      let h : History = eventsIn (linesOf text) in
+      let k : Knotted (edge (committedPart h)) (jobsOf h) js = knot-shows h js v in
+      let same-list : ks ≡ js = cc in
+      let few : length js ≤ 255 = at-most-255 js (k .once) (λ j m. committed-within (linesOf text) all j (sym (jobs-committed h j) ∙ k .only j m)) in
+      record {
+        knot = js;
+        fills = fills js buffer (omega arith);
+        count = refl;
+        most = few;
+        shows = k;
+        taken = taken;
+        remain = rest;
+        takes = t;
+        walked = rw (← same-list) s;
+      }
+
+  -- so a verdict on a faultless text is one of the paper's answers
+  told : (v : Verdict) → verdictOf (eventsIn (linesOf text)) ≡ v → Answers text buffer (sayVerdict buffer v)
+  unfolding sayVerdict
+  told (orderly order) e = in-order room all (order-told order e)
+  told (knotted js) e = in-knot room all (knot-by js e (verdict-exactly (eventsIn (linesOf text)) (knotted js) .1 e) refl)
+
+-- what is said of the lines is one of the paper's answers
+lines-told : (text buffer : List ℕ) → 255 ≤ length buffer → (o : Option Faulty) → Tells (linesOf text) o → Answers text buffer (sayLines buffer (linesOf text) o)
+unfolding sayLines
+lines-told text buffer room none t = told text buffer room t (verdictOf (eventsIn (linesOf text))) refl
+lines-told text buffer room (some f) t =
+    faulty room (t .0) (subst (λ l. Stands text (f .number) (bare l)) (sym (t .1)) (bare-stands text (f .number) (t .0 .from) (t .0 .to)))
+
+-- the judge's answer is one of the paper's
+pub answers : (text buffer : List ℕ) → Answers text buffer (judgementOf text buffer)
+unfolding judgementOf
+answers text buffer =
+    by-test (ltb (length buffer) judgedJobs)
+    (λ t. rw t (short (ltb-true (length buffer) judgedJobs t)))
+    (λ f. rw f (lines-told text buffer (ltb-false (length buffer) judgedJobs f) (firstFaulty 1 [] (linesOf text)) (finds-fault (linesOf text))))

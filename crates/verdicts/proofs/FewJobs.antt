@@ -1,0 +1,117 @@
+-- The jobs of a faultless text are 1 to 255, so a list that names none of them twice has at most 255 (01, refusals 12 and 14).
+-- Assumes nothing.
+use Prim.Native.Nat.{ℕ, zero, suc, _+_, _-_, _≤_, _<_}
+use mathlib.Core.Path.{_≡_, refl, sym, ap, _∙_, subst}
+use mathlib.Core.Logic.{_≢_}
+use mathlib.Core.Bool.{Bool, true, false, not, _&&_, _||_}
+use mathlib.Core.List.{List, [], _∷_, _++_}
+use mathlib.Core.Option.{Option, none, some}
+use native.Mathlib.Omega.{arith}
+use lib.Dec.{eqb, leb}
+use lib.ListN.{length, getD}
+use borrow.Author.Tests.{eqb-true, eqb-false, leb-true, not-false}
+use Rattle.laws.specs.Choice.{pick, by-test, not-both}
+use Rattle.terms.specs.declared.letters.Letter.the-variants.{Begin, Commit, GiveUp, Retry, Back, Asks}
+use Rattle.terms.specs.declared.refusals.Refusal.{Refusal}
+use Rattle.terms.specs.declared.refusals.Refusal.the-variants.{BadLine, CellAbove, TooManyLines, JobOutside, Ended}
+use Rattle.terms.specs.Letters.{ofHistories}
+use Rattle.conflict.specs.declared.action.Mark.{Mark}
+use Rattle.conflict.specs.declared.action.Mark.the-variants.{Commit as commits, GiveUp as gives-up, Back as goes-back}
+use Rattle.conflict.specs.declared.action.Event.the-variants.{Ends}
+use Rattle.conflict.specs.Jobs.{same, member, distinct}
+use Rattle.conflict.specs.History.{History, isCommit, marked}
+use Rattle.conflict.proofs.Parts.{and-first, and-second, or-either}
+use Rattle.conflict.proofs.OneEvent.{marked-none, marked-does, marked-ends}
+use Rattle.text.specs.declared.reader.Reading.{Reading}
+use Rattle.text.specs.declared.reader.Reading.the-variants.{Good, Bad}
+use Rattle.text.specs.Lines.{readLine}
+use Rattle.verdicts.specs.HistoryText.{eventOf, eventsIn}
+use Rattle.verdicts.specs.LineTable.{tooMany, isBad, outside, above, overAlready, holds, order, firstOf, tableSays, lineAt, linesBefore, AllFaultless}
+use Rattle.verdicts.proofs.Walking.{no-more}
+
+-- the numbers from n down to 1
+countdown : ℕ → List ℕ
+countdown zero = []
+countdown (suc n) = suc n ∷ countdown n
+
+-- they are n
+counted-length : (n : ℕ) → length (countdown n) ≡ n
+unfolding countdown
+counted-length zero = refl
+counted-length (suc n) = ap suc (counted-length n)
+
+-- every number from 1 to n is one of them
+counted : (n j : ℕ) → 1 ≤ j → j ≤ n → member j (countdown n) ≡ true
+unfolding countdown member
+counted zero j a b = absurd (omega arith)
+counted (suc n) j a b =
+    by-test (same (suc n) j) (λ t. rw t) (λ f. let other′ : suc n ≢ j = eqb-false (suc n) j f in rw f (counted n j a (omega arith)))
+
+-- jobs from 1 to 255, none twice, are at most 255
+pub at-most-255 : (js : List ℕ) → distinct js ≡ true → ((j : ℕ) → member j js ≡ true → (1 ≤ j) × (j ≤ 255)) → length js ≤ 255
+at-most-255 js d within =
+    omega (arith, no-more js (countdown 255) d (λ j m. counted 255 j (within j m .0) (within j m .1)), counted-length 255)
+
+-- a row that is first of those that are left and of which none holds does not hold, and none of the others does
+pick-none : (b : Bool) (x : Refusal) (rest : Option Refusal) → pick b (some x) rest ≡ none → (b ≡ false) × (rest ≡ none)
+pick-none true x rest e = let z : _≡_ {A = ℕ} 0 1 = cc in absurd (omega arith)
+pick-none false x rest e = (refl, e)
+
+-- no row holds of a faultless line
+pub record Clean (n : ℕ) (before : List (List ℕ)) (r : Reading) : Type 0 where
+  pub few : tooMany n ≡ false
+  pub good : isBad r ≡ false
+  pub inside : outside r ≡ false
+  pub below : above r ≡ false
+  pub open′ : overAlready before r ≡ false
+
+-- where the table says nothing, each row by itself does not hold
+pub clean-line : (n : ℕ) (before : List (List ℕ)) (line : List ℕ) → tableSays n before line ≡ none → Clean n before (readLine ofHistories line)
+unfolding tableSays firstOf holds order
+clean-line n before line e =
+    let r : Reading = readLine ofHistories line in
+    let p = pick-none (tooMany n) TooManyLines _ e in
+    let q = pick-none (isBad r) BadLine _ (p .1) in
+    let s = pick-none (outside r) JobOutside _ (q .1) in
+    let t = pick-none (above r) CellAbove _ (s .1) in
+    let u = pick-none (overAlready before r) Ended _ (t .1) in
+    record { few = p .0; good = q .0; inside = s .0; below = t .0; open′ = u .0 }
+
+-- a job that is not outside is 1 to 255
+not-outside : (job : ℕ) → not (leb 1 job && leb job 255) ≡ false → (1 ≤ job) × (job ≤ 255)
+not-outside job e =
+    let both : (leb 1 job && leb job 255) ≡ true = not-false (leb 1 job && leb job 255) e in
+    (leb-true 1 job (and-first (leb 1 job) (leb job 255) both), leb-true job 255 (and-second (leb 1 job) (leb job 255) both))
+
+-- a job with a c has it on this line, and then is 1 to 255, or after it
+marked-here : {P : Type 0} (m : Mark) (job j : ℕ) (h : History) → marked isCommit j (Ends m job ∷ h) ≡ true → (job ≡ j → P) → (marked isCommit j h ≡ true → P) → P
+marked-here m job j h e one′ two′ =
+    or-either (same job j && isCommit m) (marked isCommit j h) (sym (marked-ends isCommit j m job h) ∙ e)
+    (λ t. one′ (eqb-true job j (and-first (same job j) (isCommit m) t))) two′
+
+-- the same by what the line reads
+marked-line : {P : Type 0} (r : Reading) (h : History) (j : ℕ) → outside r ≡ false → marked isCommit j (eventOf r ++ h) ≡ true →
+    ((1 ≤ j) × (j ≤ 255) → P) → (marked isCommit j h ≡ true → P) → P
+unfolding eventOf
+marked-line Bad h j o e one′ two′ = two′ e
+marked-line (Good Begin job cell) h j o e one′ two′ = two′ e
+marked-line (Good Commit job cell) h j o e one′ two′ = marked-here commits job j h e (λ q. one′ (subst (λ x. (1 ≤ x) × (x ≤ 255)) q (not-outside job o))) two′
+marked-line (Good GiveUp job cell) h j o e one′ two′ = marked-here gives-up job j h e (λ q. one′ (subst (λ x. (1 ≤ x) × (x ≤ 255)) q (not-outside job o))) two′
+marked-line (Good Retry job cell) h j o e one′ two′ = two′ e
+marked-line (Good Back job cell) h j o e one′ two′ = marked-here goes-back job j h e (λ q. one′ (subst (λ x. (1 ≤ x) × (x ≤ 255)) q (not-outside job o))) two′
+marked-line (Good (Asks a) job cell) h j o e one′ two′ = two′ (sym (marked-does isCommit j _ h) ∙ e)
+
+-- a job with a c on lines of which none has a job outside is 1 to 255
+marked-within : (ls : List (List ℕ)) → ((k : ℕ) → k < length ls → outside (readLine ofHistories (getD ls k [])) ≡ false) → (j : ℕ) → marked isCommit j (eventsIn ls) ≡ true → (1 ≤ j) × (j ≤ 255)
+unfolding eventsIn
+marked-within [] all j e = not-both e (marked-none isCommit j)
+marked-within (l ∷ ls) all j e =
+    marked-line (readLine ofHistories l) (eventsIn ls) j (all 0 (omega arith)) e (λ w. w) (λ m. marked-within ls (λ k h. all (suc k) (omega arith)) j m)
+
+-- the jobs with a c in a faultless text are 1 to 255
+pub committed-within : (ls : List (List ℕ)) → AllFaultless ls → (j : ℕ) → marked isCommit j (eventsIn ls) ≡ true → (1 ≤ j) × (j ≤ 255)
+committed-within ls all j m =
+    marked-within ls (λ k h. subst (λ i. outside (readLine ofHistories (getD ls i [])) ≡ false) (less-one k) (clean-line (suc k) (linesBefore ls (suc k)) (lineAt ls (suc k)) (all (suc k) (omega arith) h) .inside)) j m
+  where
+    less-one : (k : ℕ) → suc k - 1 ≡ k
+    less-one k = omega arith
