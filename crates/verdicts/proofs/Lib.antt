@@ -21,4 +21,5 @@ pub mod FewJobs
 pub mod Answering
 pub mod OneAnswer
 pub mod Refusing
+pub mod JudgedTexts
 pub mod Examples

@@ -7,3 +7,4 @@ pub mod Judgement
 pub mod Arrays
 pub mod LineTable
 pub mod Answers
+pub mod Written

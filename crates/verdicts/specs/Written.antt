@@ -1,0 +1,49 @@
+-- A history as the text of its records, one after another, as the desk writes them (01, Lines: History records).
+use Prim.Native.Nat.{ℕ}
+use mathlib.Core.Bool.{Bool, true, false, _&&_}
+use mathlib.Core.List.{List, [], _∷_, _++_, map}
+use lib.Dec.{leb, ltb}
+use Rattle.terms.specs.declared.letters.Ask.{Ask}
+use Rattle.terms.specs.declared.letters.Ask.the-variants.{Read as asks-read, Write as asks-write, Increment as asks-increment}
+use Rattle.terms.specs.declared.letters.Letter.{Letter}
+use Rattle.terms.specs.declared.letters.Letter.the-variants.{Commit, GiveUp, Back, Asks}
+use Rattle.conflict.specs.declared.action.Kind.{Kind}
+use Rattle.conflict.specs.declared.action.Kind.the-variants.{Read, Write, Increment}
+use Rattle.conflict.specs.declared.action.Mark.{Mark}
+use Rattle.conflict.specs.declared.action.Mark.the-variants.{Commit as commits, GiveUp as gives-up, Back as goes-back}
+use Rattle.conflict.specs.declared.action.Event.{Event}
+use Rattle.conflict.specs.declared.action.Event.the-variants.{Does, Ends}
+use Rattle.conflict.specs.History.{History}
+use Rattle.text.specs.Records.{lineRecord}
+use Rattle.text.specs.Split.{joined}
+
+-- r, w or i, by the kind of the action
+unfoldable pub kindLetter : Kind → Letter
+kindLetter Read = Asks asks-read
+kindLetter Write = Asks asks-write
+kindLetter Increment = Asks asks-increment
+
+-- c, a or k, by what ends the run
+unfoldable pub markLetter : Mark → Letter
+markLetter commits = Commit
+markLetter gives-up = GiveUp
+markLetter goes-back = Back
+
+-- the history record of an event: r, w, i with job and cell; c, a, k with a job
+unfoldable pub eventLine : Event → List ℕ
+eventLine (Does a) = lineRecord (kindLetter (a .kind)) (a .job) (a .cell)
+eventLine (Ends m j) = lineRecord (markLetter m) j 0
+
+-- the text of a history: the record of each event, one after another
+unfoldable pub textOf : History → List ℕ
+textOf h = joined (map eventLine h)
+
+-- the job of an event is 1 to 255, and its cell is 0 to 63
+unfoldable pub within : Event → Bool
+within (Does a) = (leb 1 (a .job) && leb (a .job) 255) && ltb (a .cell) 64
+within (Ends m j) = leb 1 j && leb j 255
+
+-- so are all of a history
+unfoldable pub allWithin : History → Bool
+allWithin [] = true
+allWithin (e ∷ h) = within e && allWithin h
