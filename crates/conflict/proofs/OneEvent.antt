@@ -6,7 +6,7 @@ use mathlib.Core.Bool.{Bool, true, false, not, _&&_, _||_}
 use mathlib.Core.List.{[], _∷_}
 use Rattle.conflict.specs.declared.action.Action.{Action}
 use Rattle.conflict.specs.declared.action.Mark.{Mark}
-use Rattle.conflict.specs.declared.action.Mark.the-variants.{Back}
+use Rattle.conflict.specs.declared.action.Mark.the-variants.{Commit, GiveUp, Back}
 use Rattle.conflict.specs.declared.action.Event.the-variants.{Does, Ends}
 use Rattle.conflict.specs.Jobs.{same}
 use Rattle.conflict.specs.History.{History, isBack, marked, lineOf, endsForGood}
@@ -61,3 +61,13 @@ good-ends m i h = refl
 pub back-not-last : isLast Back ≡ false
 unfolding isLast
 back-not-last = refl
+
+-- a c is no k
+pub commit-not-back : isBack Commit ≡ false
+unfolding isBack
+commit-not-back = refl
+
+-- and an a is none
+pub give-up-not-back : isBack GiveUp ≡ false
+unfolding isBack
+give-up-not-back = refl

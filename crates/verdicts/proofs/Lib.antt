@@ -22,4 +22,7 @@ pub mod Answering
 pub mod OneAnswer
 pub mod Refusing
 pub mod JudgedTexts
+pub mod RecordLines
+pub mod RecordsSay
+pub mod WrittenHistories
 pub mod Examples

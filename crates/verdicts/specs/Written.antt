@@ -1,7 +1,7 @@
 -- A history as the text of its records, one after another, as the desk writes them (01, Lines: History records).
 use Prim.Native.Nat.{ℕ}
 use mathlib.Core.Bool.{Bool, true, false, _&&_}
-use mathlib.Core.List.{List, [], _∷_, _++_, map}
+use mathlib.Core.List.{List, [], _∷_, _++_}
 use lib.Dec.{leb, ltb}
 use Rattle.terms.specs.declared.letters.Ask.{Ask}
 use Rattle.terms.specs.declared.letters.Ask.the-variants.{Read as asks-read, Write as asks-write, Increment as asks-increment}
@@ -15,13 +15,12 @@ use Rattle.conflict.specs.declared.action.Event.{Event}
 use Rattle.conflict.specs.declared.action.Event.the-variants.{Does, Ends}
 use Rattle.conflict.specs.History.{History}
 use Rattle.text.specs.Records.{lineRecord}
-use Rattle.text.specs.Split.{joined}
 
 -- r, w or i, by the kind of the action
-unfoldable pub kindLetter : Kind → Letter
-kindLetter Read = Asks asks-read
-kindLetter Write = Asks asks-write
-kindLetter Increment = Asks asks-increment
+unfoldable pub askBy : Kind → Ask
+askBy Read = asks-read
+askBy Write = asks-write
+askBy Increment = asks-increment
 
 -- c, a or k, by what ends the run
 unfoldable pub markLetter : Mark → Letter
@@ -31,12 +30,13 @@ markLetter goes-back = Back
 
 -- the history record of an event: r, w, i with job and cell; c, a, k with a job
 unfoldable pub eventLine : Event → List ℕ
-eventLine (Does a) = lineRecord (kindLetter (a .kind)) (a .job) (a .cell)
+eventLine (Does a) = lineRecord (Asks (askBy (a .kind))) (a .job) (a .cell)
 eventLine (Ends m j) = lineRecord (markLetter m) j 0
 
 -- the text of a history: the record of each event, one after another
 unfoldable pub textOf : History → List ℕ
-textOf h = joined (map eventLine h)
+textOf [] = []
+textOf (e ∷ h) = eventLine e ++ textOf h
 
 -- the job of an event is 1 to 255, and its cell is 0 to 63
 unfoldable pub within : Event → Bool
