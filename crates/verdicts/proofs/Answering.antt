@@ -1,36 +1,30 @@
 -- The judge's answer is one of the paper's three: 14, the refusal of the first faulty line, or a verdict on a faultless text; and there is no second answer (01, Refusals by number; 01, The judge's rules).
 -- Assumes nothing.
-use Prim.Native.Nat.{ℕ, suc, _+_, _-_, _≤_, _<_}
-use mathlib.Core.Path.{_≡_, refl, sym, ap, ap₂, _∙_, subst}
-use mathlib.Core.Logic.{_↔_}
-use mathlib.Core.Bool.{Bool, true, false}
-use mathlib.Core.List.{List, [], _∷_, _++_}
+use Prim.Native.Nat.{ℕ, _≤_}
+use mathlib.Core.Path.{_≡_, refl, sym, _∙_, subst}
+use mathlib.Core.List.{List, []}
 use mathlib.Core.Option.{Option, none, some}
 use native.Mathlib.Omega.{arith}
-use lib.Dec.{eqb, ltb}
-use lib.ListN.{length, take, drop, length-append, length-drop, take-append-drop}
+use lib.Dec.{ltb}
+use lib.ListN.{length, drop, length-append, length-drop}
 use lib.Seq.{take-append-seam, drop-append-seam}
-use borrow.Author.Tests.{ltb-true, ltb-false, lt-ltb, le-ltb, eqb-true, eqb-false}
-use Rattle.laws.specs.Choice.{pick, by-test, not-both}
-use Rattle.terms.specs.declared.refusals.Refusal.{Refusal}
-use Rattle.terms.specs.declared.refusals.Refusal.the-variants.{ShortOrder}
+use borrow.Author.Tests.{ltb-true, ltb-false}
+use Rattle.laws.specs.Choice.{by-test}
 use Rattle.terms.specs.Limits.{judgedJobs}
-use Rattle.conflict.specs.Jobs.{member, distinct}
 use Rattle.conflict.specs.Schedule.{edge}
 use Rattle.conflict.specs.History.{History, committedPart}
 use Rattle.text.specs.Split.{linesOf}
-use Rattle.verdicts.specs.declared.verdict.Verdict.the-variants.{Orderly, Knot, No}
 use Rattle.verdicts.specs.Judged.{Verdict, orderly, knotted, jobsOf, verdictOf}
 use Rattle.verdicts.specs.Meant.{Knotted, Says}
 use Rattle.verdicts.specs.Meant.Says.{says-order, says-cycle}
 use Rattle.verdicts.specs.HistoryText.{Faulty, firstFaulty, eventsIn, bare}
-use Rattle.verdicts.specs.Judgement.{Judgement, filled, sayVerdict, sayLines, judgementOf}
-use Rattle.verdicts.specs.LineTable.{lineAt, Faultless, Due, FirstFault, AllFaultless}
+use Rattle.verdicts.specs.Judgement.{filled, sayVerdict, sayLines, judgementOf}
+use Rattle.verdicts.specs.LineTable.{AllFaultless}
 use Rattle.verdicts.specs.Answers.{Stands, Fills, InOrder, InKnot, Answers}
 use Rattle.verdicts.specs.Answers.Answers.{short, faulty, in-order, in-knot}
 use Rattle.verdicts.proofs.Histories.{jobs-committed, order-serial, order-once, order-names, order-smallest, knot-shows, verdict-exactly}
 use Rattle.verdicts.proofs.LineFaults.{Tells, finds-fault}
-use Rattle.verdicts.proofs.LineBack.{bare-stands, stands-only}
+use Rattle.verdicts.proofs.LineBack.{bare-stands}
 use Rattle.verdicts.proofs.FewJobs.{at-most-255, committed-within}
 
 -- jobs put into a buffer that has room for them fill its first places

@@ -1,18 +1,16 @@
 -- The judge whole: of a faultless text, orderly is said exactly where the committed part of its history is conflict-serializable as the book has it, with a serial order in the buffer; else a knot (demand 2; 01, The judge's rules).
 -- Assumes nothing.
 use Prim.Native.Nat.{ℕ, _≤_}
-use mathlib.Core.Path.{_≡_, refl, sym, ap, _∙_}
+use mathlib.Core.Path.{_≡_, refl}
 use mathlib.Core.Logic.{_↔_}
-use mathlib.Core.Bool.{true}
 use mathlib.Core.List.{List}
 use native.Mathlib.Omega.{arith}
 use lib.ListN.{length}
-use Rattle.terms.specs.declared.refusals.Refusal.{Refusal}
 use Rattle.conflict.specs.Schedule.{ConflictSerializable, edge}
 use Rattle.conflict.specs.History.{History, committedPart}
 use Rattle.text.specs.Split.{linesOf}
-use Rattle.verdicts.specs.declared.verdict.Verdict.the-variants.{Orderly, Knot, No}
-use Rattle.verdicts.specs.Judged.{orderly, knotted, jobsOf, verdictOf}
+use Rattle.verdicts.specs.declared.verdict.Verdict.the-variants.{Orderly, Knot}
+use Rattle.verdicts.specs.Judged.{orderly, knotted, jobsOf}
 use Rattle.verdicts.specs.Meant.{SmallestFirst}
 use Rattle.verdicts.specs.Meant.Says.{says-order, says-cycle}
 use Rattle.verdicts.specs.HistoryText.{eventsIn}

@@ -3,28 +3,27 @@
 use Prim.Native.Nat.{ℕ, suc, _+_, _-_, _≤_, _<_}
 use mathlib.Core.Path.{_≡_, refl, sym, ap, ap₂, _∙_, subst}
 use mathlib.Core.Logic.{_≢_}
-use mathlib.Core.Bool.{Bool, true, false, not, _&&_, _||_, or-assoc}
+use mathlib.Core.Bool.{not, _&&_, _||_}
 use mathlib.Core.List.{List, [], _∷_, _++_, append-nil, append-assoc}
 use mathlib.Core.Option.{Option, none, some}
 use native.Mathlib.Omega.{arith}
 use lib.Dec.{eqb, ltb, leb}
-use lib.ListN.{length, take, getD, length-append}
-use lib.Seq.{take-at, getD-at, append-snoc}
-use borrow.Author.Tests.{eqb-true, eqb-false, eq-eqb, ne-eqb, ltb-true, ltb-false, lt-ltb, le-ltb, le-leb, lt-leb}
-use Rattle.laws.specs.Choice.{pick, by-test, not-both}
-use Rattle.terms.specs.declared.letters.Letter.{Letter}
+use lib.ListN.{length, length-append}
+use lib.Seq.{take-at, getD-at}
+use borrow.Author.Tests.{eqb-true, eqb-false, eq-eqb, ne-eqb, ltb-true, ltb-false, le-leb, lt-leb}
+use Rattle.laws.specs.Choice.{pick, by-test}
 use Rattle.terms.specs.declared.letters.Letter.the-variants.{Begin, Commit, GiveUp, Retry, Back, Asks}
 use Rattle.terms.specs.declared.refusals.Refusal.{Refusal}
 use Rattle.terms.specs.declared.refusals.Refusal.the-variants.{TooManyLines}
-use Rattle.terms.specs.Letters.{ofHistories, hasCell}
-use Rattle.terms.specs.Limits.{cells, judgedJobs, judgedLines}
-use Rattle.conflict.specs.Jobs.{same, member}
+use Rattle.terms.specs.Letters.{ofHistories}
+use Rattle.terms.specs.Limits.{judgedJobs, judgedLines}
+use Rattle.conflict.specs.Jobs.{member}
 use Rattle.conflict.proofs.Parts.{or-swap}
 use Rattle.text.specs.declared.reader.Reading.{Reading}
 use Rattle.text.specs.declared.reader.Reading.the-variants.{Good, Bad}
 use Rattle.text.specs.Lines.{readLine}
 use Rattle.verdicts.specs.HistoryText.{faultOfGood, faultOf, lineFault, endedAfter, Faulty, orLater, firstFaulty}
-use Rattle.verdicts.specs.LineTable.{lineAt, linesBefore, ends, endedIn, holds, order, firstOf, tableSays, Due, Faultless, FirstFault, AllFaultless}
+use Rattle.verdicts.specs.LineTable.{lineAt, linesBefore, ends, endedIn, holds, order, firstOf, tableSays, Faultless, FirstFault, AllFaultless}
 
 -- the jobs kept as ended are those with a c or an a on the lines before
 abbrev pub Keeps : List ℕ → List (List ℕ) → Type 0
@@ -124,9 +123,10 @@ module _ (whole before : List (List ℕ)) (l : List ℕ) (ls : List (List ℕ)) 
   unfolding orLater
   line-tells none later q next = next q
   line-tells (some why) later q next =
-      let size : length whole ≡ length before + suc (length ls) = ap length w ∙ length-append before (l ∷ ls) in
-      (record { from = omega arith; to = omega arith; before = good; due = sym fault-at ∙ q },
-      sym (rw (w, e) (getD-at before l ls [] (suc (length before) - 1) (omega arith))))
+      let size : length whole ≡ length before + suc (length ls) = ap length w ∙ length-append before (l ∷ ls) in (
+        record { from = omega arith; to = omega arith; before = good; due = sym fault-at ∙ q },
+        sym (rw (w, e) (getD-at before l ls [] (suc (length before) - 1) (omega arith))),
+      )
 
 -- from line n on, where the lines before it are faultless
 walks : (whole before ls : List (List ℕ)) (n : ℕ) (ended : List ℕ) → whole ≡ before ++ ls → n ≡ suc (length before) → n ≤ 4_097 → Keeps ended before →

@@ -2,28 +2,25 @@
 -- Assumes nothing.
 use Prim.Native.Nat.{ℕ, _≤_, _<_}
 use mathlib.Core.Path.{_≡_, refl, sym, ap, ap₂, _∙_, subst}
-use mathlib.Core.Logic.{_↔_, _≢_}
-use mathlib.Core.Bool.{true, false}
+use mathlib.Core.Logic.{_↔_}
 use mathlib.Core.List.{List, [], _++_}
 use mathlib.Core.Option.{Option, none, some}
 use native.Mathlib.Omega.{arith}
-use lib.Dec.{eqb, ltb}
-use lib.ListN.{length, take, drop, take-append-drop}
-use borrow.Author.Tests.{ltb-true, ltb-false, lt-ltb, le-ltb, eqb-true, eqb-false}
+use lib.Dec.{ltb}
+use lib.ListN.{length, take-append-drop}
+use borrow.Author.Tests.{ltb-true, ltb-false, lt-ltb, le-ltb}
 use Rattle.laws.specs.Choice.{by-test}
 use Rattle.terms.specs.declared.refusals.Refusal.{Refusal}
 use Rattle.terms.specs.declared.refusals.Refusal.the-variants.{ShortOrder}
 use Rattle.terms.specs.Limits.{judgedJobs}
-use Rattle.conflict.specs.Schedule.{edge}
-use Rattle.conflict.specs.History.{committedPart}
 use Rattle.text.specs.Split.{linesOf}
 use Rattle.verdicts.specs.declared.verdict.Verdict.the-variants.{Orderly, Knot, No}
-use Rattle.verdicts.specs.Judged.{Verdict, orderly, knotted, jobsOf, verdictOf}
+use Rattle.verdicts.specs.Judged.{orderly, knotted, verdictOf}
 use Rattle.verdicts.specs.Meant.Says.{says-order, says-cycle}
 use Rattle.verdicts.specs.HistoryText.{Faulty, firstFaulty, eventsIn, bare}
 use Rattle.verdicts.specs.Judgement.{Judgement, filled, sayVerdict, sayLines, judgementOf}
 use Rattle.verdicts.specs.LineTable.{lineAt, Faultless, Due, FirstFault, AllFaultless}
-use Rattle.verdicts.specs.Answers.{Stands, Fills, InOrder, InKnot, Answers}
+use Rattle.verdicts.specs.Answers.{Fills, Answers}
 use Rattle.verdicts.specs.Answers.Answers.{short, faulty, in-order, in-knot}
 use Rattle.verdicts.proofs.Histories.{verdict-exactly}
 use Rattle.verdicts.proofs.LineFaults.{Tells, finds-fault}

@@ -32,9 +32,11 @@ use Rattle.verdicts.specs.Written.{askBy, markLetter, eventLine, textOf,
 pub action-within : (a : Action) → within (Does a) ≡ true → (1 ≤ a .job) × (a .job ≤ 255) × (a .cell < 64)
 unfolding within
 action-within a w =
-    let j : (leb 1 (a .job) && leb (a .job) 255) ≡ true = and-first (leb 1 (a .job) && leb (a .job) 255) (ltb (a .cell) 64) w in
-    (leb-true 1 (a .job) (and-first (leb 1 (a .job)) (leb (a .job) 255) j), leb-true (a .job) 255 (and-second (leb 1 (a .job)) (leb (a .job) 255) j),
-    ltb-true (a .cell) 64 (and-second (leb 1 (a .job) && leb (a .job) 255) (ltb (a .cell) 64) w))
+    let j : (leb 1 (a .job) && leb (a .job) 255) ≡ true = and-first (leb 1 (a .job) && leb (a .job) 255) (ltb (a .cell) 64) w in (
+      leb-true 1 (a .job) (and-first (leb 1 (a .job)) (leb (a .job) 255) j),
+      leb-true (a .job) 255 (and-second (leb 1 (a .job)) (leb (a .job) 255) j),
+      ltb-true (a .cell) 64 (and-second (leb 1 (a .job) && leb (a .job) 255) (ltb (a .cell) 64) w),
+    )
 
 -- and of a mark
 pub mark-within : (m : Mark) (j : ℕ) → within (Ends m j) ≡ true → (1 ≤ j) × (j ≤ 255)

@@ -1,20 +1,20 @@
 -- The judge's refusals are given exactly when the table says, with the right line number; the line is handed back then and only then, and the buffer stays (01, Refusals by number; 01, Lines).
 -- Assumes nothing.
-use Prim.Native.Nat.{ℕ, suc, _≤_, _<_}
-use mathlib.Core.Path.{_≡_, refl, sym, ap, _∙_, subst}
+use Prim.Native.Nat.{ℕ, _≤_, _<_}
+use mathlib.Core.Path.{_≡_, refl, ap, subst}
 use mathlib.Core.Logic.{_↔_}
-use mathlib.Core.Bool.{Bool, true, false}
+use mathlib.Core.Bool.{Bool, true}
 use mathlib.Core.List.{List, [], _∷_}
-use mathlib.Core.Option.{Option, none, some}
+use mathlib.Core.Option.{some}
 use native.Mathlib.Omega.{arith}
 use lib.ListN.{length}
-use Rattle.laws.specs.Choice.{pick, by-test, not-both}
+use Rattle.laws.specs.Choice.{by-test}
 use Rattle.terms.specs.declared.refusals.Refusal.{Refusal}
 use Rattle.terms.specs.declared.refusals.Refusal.the-variants.{ShortOrder}
 use Rattle.terms.specs.Letters.{ofHistories}
 use Rattle.text.specs.Lines.{readLine}
 use Rattle.text.specs.Split.{linesOf}
-use Rattle.verdicts.specs.declared.verdict.Verdict.the-variants.{Orderly, Knot, No}
+use Rattle.verdicts.specs.declared.verdict.Verdict.the-variants.{No}
 use Rattle.verdicts.specs.Judgement.{Judgement, judgementOf}
 use Rattle.verdicts.specs.LineTable.{lineAt, linesBefore, holds, order, firstOf, tableSays, Due, FirstFault}
 use Rattle.verdicts.specs.Answers.{Stands, Answers}

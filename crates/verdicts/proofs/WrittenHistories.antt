@@ -1,13 +1,13 @@
 -- No history text is refused that the desk could write: the text of a history within the judge's limits, in which jobs end for good, is faultless, and its lines say that history (01, Lines; 01, Refusals by number).
 -- Assumes nothing.
-use Prim.Native.Nat.{ℕ, suc, _+_, _*_, _≤_, _<_}
+use Prim.Native.Nat.{ℕ, suc, _+_, _≤_}
 use mathlib.Core.Path.{_≡_, refl, sym, ap, _∙_, subst}
 use mathlib.Core.Logic.{_↔_}
-use mathlib.Core.Bool.{Bool, true, false, not, _&&_, _||_}
+use mathlib.Core.Bool.{true, false, _&&_}
 use mathlib.Core.List.{List, [], _∷_, map}
-use mathlib.Core.Option.{Option, none, some}
+use mathlib.Core.Option.{none}
 use native.Mathlib.Omega.{arith}
-use lib.Dec.{eqb, ltb, leb}
+use lib.Dec.{leb}
 use lib.ListN.{length}
 use borrow.Author.Tests.{eqb-true, ne-eqb, le-ltb, lt-leb}
 use Rattle.laws.specs.Choice.{by-test, not-both}
@@ -18,21 +18,19 @@ use Rattle.terms.specs.Limits.{cells, judgedJobs, judgedLines, judgedBytes}
 use Rattle.conflict.specs.declared.action.Action.{Action}
 use Rattle.conflict.specs.declared.action.Mark.{Mark}
 use Rattle.conflict.specs.declared.action.Mark.the-variants.{Commit as commits, GiveUp as gives-up, Back as goes-back}
-use Rattle.conflict.specs.declared.action.Event.{Event}
 use Rattle.conflict.specs.declared.action.Event.the-variants.{Does, Ends}
 use Rattle.conflict.specs.Jobs.{same, member}
 use Rattle.conflict.specs.Schedule.{ConflictSerializable}
-use Rattle.conflict.specs.History.{History, isBack, lineOf, endsForGood, committedPart}
+use Rattle.conflict.specs.History.{History, lineOf, endsForGood, committedPart}
 use Rattle.conflict.proofs.Parts.{and-first, and-second, or-either, or-first, nor-second}
 use Rattle.conflict.proofs.JobLists.{same-refl}
 use Rattle.conflict.proofs.Marks.{ended-alone, ends-rest}
 use Rattle.conflict.proofs.OneEvent.{line-does, line-ends, good-does, commit-not-back, give-up-not-back}
-use Rattle.text.specs.declared.reader.Reading.{Reading}
 use Rattle.text.specs.declared.reader.Reading.the-variants.{Good}
 use Rattle.text.specs.Lines.{readLine}
 use Rattle.text.specs.Split.{linesOf}
 use Rattle.verdicts.specs.declared.verdict.Verdict.the-variants.{Orderly}
-use Rattle.verdicts.specs.HistoryText.{faultOfGood, faultOf, lineFault, endedAfter, Faulty, orLater, firstFaulty, eventsIn}
+use Rattle.verdicts.specs.HistoryText.{faultOfGood, faultOf, lineFault, endedAfter, orLater, firstFaulty, eventsIn}
 use Rattle.verdicts.specs.Judgement.{judgementOf}
 use Rattle.verdicts.specs.LineTable.{AllFaultless}
 use Rattle.verdicts.specs.Written.{askBy, markLetter, eventLine, textOf, within, allWithin}

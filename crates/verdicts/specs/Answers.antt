@@ -1,7 +1,7 @@
 -- What the judge has to answer, with no way to find it: the three cases of the paper (01, Refusals by number; 01, Lines; 01, The judge's rules).
 use Prim.Native.Nat.{ℕ, _≤_, _<_}
 use mathlib.Core.Path.{_≡_}
-use mathlib.Core.Bool.{Bool, true, false, not, _&&_}
+use mathlib.Core.Bool.{Bool, true, not, _&&_}
 use mathlib.Core.List.{List, [], _∷_, _++_}
 use lib.Dec.{eqb}
 use lib.ListN.{length, take, drop}
@@ -12,7 +12,6 @@ use Rattle.conflict.specs.Jobs.{member, distinct}
 use Rattle.conflict.specs.Schedule.{Equivalent, serial, edge}
 use Rattle.conflict.specs.History.{History, isCommit, marked, committedPart}
 use Rattle.text.specs.Split.{linesOf, joined}
-use Rattle.verdicts.specs.declared.verdict.Verdict.{Verdict}
 use Rattle.verdicts.specs.declared.verdict.Verdict.the-variants.{Orderly, Knot, No}
 use Rattle.verdicts.specs.Judged.{jobsOf}
 use Rattle.verdicts.specs.Meant.{SmallestFirst, Knotted, Takes, Shown}

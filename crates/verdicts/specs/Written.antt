@@ -1,6 +1,6 @@
 -- A history as the text of its records, one after another, as the desk writes them (01, Lines: History records).
 use Prim.Native.Nat.{ℕ}
-use mathlib.Core.Bool.{Bool, true, false, _&&_}
+use mathlib.Core.Bool.{Bool, true, _&&_}
 use mathlib.Core.List.{List, [], _∷_, _++_}
 use lib.Dec.{leb, ltb}
 use Rattle.terms.specs.declared.letters.Ask.{Ask}
