@@ -49,7 +49,7 @@ module _ {d : Desk} (plain : Plain d) (j : ℕ) where
   code-seat n = by-test (isSeated (d .number) j) (seat-of (d .number) j) (λ u. absurd (n (unseated-code u)))
 
   -- what a job is doing is what its code says
-  status-code : statusBy d j ≡ statusFor (statusOf (d .number) (d .status) j) (getD (d .cell) (pos (d .number) j) 0) (askOf (getD (d .ask) (pos (d .number) j) 0))
+  pub status-code : statusBy d j ≡ statusFor (statusOf (d .number) (d .status) j) (getD (d .cell) (pos (d .number) j) 0) (askOf (getD (d .ask) (pos (d .number) j) 0))
   unfolding statusBy
   status-code =
       by-test (isSeated (d .number) j) (λ t. there (seat-of (d .number) j t))

@@ -3,3 +3,8 @@ pub mod Places
 pub mod Settling
 pub mod Steps
 pub mod Stands
+pub mod Runs
+pub mod Due
+pub mod Waiting
+pub mod Effects
+pub mod Asked

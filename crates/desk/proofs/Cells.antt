@@ -6,12 +6,9 @@ use mathlib.Core.Bool.{Bool, true, false}
 use mathlib.Core.List.{List}
 use native.Mathlib.Numerals.{add-one}
 use native.Mathlib.Omega.{arith}
-use lib.Dec.{eqb}
 use lib.ListN.{getD}
-use borrow.Author.Tests.{eq-eqb}
 use Rattle.laws.specs.Choice.{by-test, not-both}
 use Rattle.board.specs.declared.state.Woken.{Woken}
-use Rattle.board.specs.Codes.{waitingCode}
 use Rattle.board.specs.Places.{waitsAt}
 use Rattle.board.specs.Settling.{Settling, wanted, settleCell, settleAll}
 use Rattle.desk.proofs.Front.{front-nobody}

@@ -2,13 +2,14 @@
 -- Assumes nothing.
 use Prim.Native.Nat.{ℕ, zero, suc, _+_, _<_}
 use mathlib.Core.Path.{_≡_, refl, sym, ap, _∙_}
-use mathlib.Core.Bool.{Bool, true, false, _&&_}
+use mathlib.Core.Bool.{Bool, true, false}
 use native.Mathlib.Numerals.{add-one}
 use native.Mathlib.Omega.{arith}
 use borrow.Author.Tests.{eqb-true, eqb-false}
 use lib.Dec.{eqb}
 use Rattle.laws.specs.Choice.{by-test}
 use Rattle.board.specs.Places.{allBelow}
+use Rattle.desk.proofs.Tests.{and-fails}
 
 -- of no place it holds
 pub all-none : (f : ℕ → Bool) → allBelow f 0 ≡ true
@@ -26,11 +27,7 @@ unfolding allBelow
 all-fails f zero q h e = absurd (omega arith)
 all-fails f (suc n) q h e =
     by-test (eqb q n) (λ t. rw (sym (ap f (eqb-true q n t)) ∙ e))
-    (λ t. let g : q ≡ n → ⊥ = eqb-false q n t in let l : q < n = omega arith in second (f n) (all-fails f n q l e))
-  where
-    second : (a : Bool) {b : Bool} → b ≡ false → (a && b) ≡ false
-    second true e = e
-    second false e = refl
+    (λ t. let g : q ≡ n → ⊥ = eqb-false q n t in let l : q < n = omega arith in and-fails (f n) (all-fails f n q l e))
 
 -- a loop that has passed every place has shown it of all
 pub all-end : (f : ℕ → Bool) (q n : ℕ) → allBelow f q ≡ true → q ≡ n → true ≡ allBelow f n

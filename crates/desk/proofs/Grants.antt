@@ -1,7 +1,7 @@
 -- Laws of granting from the front of a cell's queue: when it stands still, and how a loop that may stop early does it 32 times.
 -- Assumes nothing.
 use Prim.Native.Nat.{ℕ, zero, suc, _+_, _≤_, _<_}
-use mathlib.Core.Path.{_≡_, refl, sym, ap, _∙_}
+use mathlib.Core.Path.{_≡_, sym, ap, _∙_}
 use mathlib.Core.Bool.{Bool, true, false, _&&_}
 use mathlib.Core.List.{List}
 use native.Mathlib.Numerals.{add-one}
@@ -9,7 +9,7 @@ use native.Mathlib.Omega.{arith}
 use lib.Dec.{eqb, ltb}
 use lib.ListN.{getD, set}
 use borrow.Author.Tests.{eqb-true, eqb-false, lt-ltb, le-ltb}
-use Rattle.laws.specs.Choice.{pick, by-test}
+use Rattle.laws.specs.Choice.{by-test}
 use Rattle.terms.specs.declared.letters.Ask.{Ask}
 use Rattle.conflict.specs.declared.action.Kind.{Kind}
 use Rattle.conflict.specs.declared.modes.Mode.{Mode}
@@ -18,11 +18,7 @@ use Rattle.board.specs.declared.state.Woken.{Woken}
 use Rattle.board.specs.Codes.{askOf}
 use Rattle.board.specs.Places.{spot, youngest, agreesAt, wantsAt}
 use Rattle.board.specs.Settling.{Settling, woken, granted, grantFront, settleCell}
-
--- the first of two tests fails, or the second
-and-fails : (a : Bool) {b : Bool} → b ≡ false → (a && b) ≡ false
-and-fails true h = h
-and-fails false h = refl
+use Rattle.desk.proofs.Tests.{and-fails}
 
 module _ (number cell ask : List ℕ) (c : ℕ) where
   -- who is in front of the queue

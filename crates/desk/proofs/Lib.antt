@@ -8,6 +8,7 @@ pub mod Grants
 pub mod Open
 pub mod Planned
 pub mod Room
+pub mod StepUnique
 pub mod Tests
 pub mod Waiters
 pub mod Wanted

@@ -1,19 +1,17 @@
 -- A step in two halves is the step: what the plan says, carried out, is what the definition makes of the request.
 -- Assumes nothing.
-use Prim.Native.Nat.{ℕ, _<_}
-use mathlib.Core.Path.{_≡_, refl, sym, ap, _∙_}
+use Prim.Native.Nat.{ℕ}
+use mathlib.Core.Path.{_≡_, refl, ap, _∙_}
 use mathlib.Core.Bool.{Bool, true, false}
 use lib.Dec.{eqb, ltb}
 use lib.ListN.{length}
 use borrow.Author.Tests.{ltb-true}
 use Rattle.laws.specs.Choice.{pick, by-test}
-use Rattle.terms.specs.declared.letters.Ask.{Ask}
 use Rattle.terms.specs.declared.letters.Letter.the-variants.{Begin as begins, Commit, GiveUp, Retry as retries, Back as no-request, Asks}
 use Rattle.terms.specs.declared.letters.Lettered.{Lettered}
 use Rattle.terms.specs.declared.letters.Lettered.the-variants.{Known, Unknown}
 use Rattle.terms.specs.Limits.{cells}
 use Rattle.board.specs.declared.state.Desk.{Desk}
-use Rattle.board.specs.declared.state.Outcome.{Outcome}
 use Rattle.board.specs.Codes.{freeCode, waitingCode, sentBackCode}
 use Rattle.board.specs.Steps.{statusOf, decided, asking, ifRunning, givingUp, retrying, stepFor}
 use Rattle.desk.specs.declared.plan.Move.{Move}

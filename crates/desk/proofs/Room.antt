@@ -2,31 +2,27 @@
 -- Assumes nothing.
 use Prim.Native.Nat.{ℕ, zero, suc, _+_, _≤_, _<_}
 use mathlib.Core.Path.{_≡_, refl, sym, ap, _∙_}
-use mathlib.Core.Bool.{Bool, true, false, _&&_}
+use mathlib.Core.Bool.{true}
 use mathlib.Core.List.{List}
 use native.Mathlib.Omega.{arith}
 use lib.Dec.{eqb, ltb}
 use lib.ListN.{getD, set}
-use lib.Seq.{getD-set-same, getD-set-other}
+use lib.Seq.{getD-set-other}
 use borrow.Author.Tests.{eqb-true, eqb-false, ltb-true}
 use Rattle.laws.specs.Choice.{by-test}
+use Rattle.conflict.proofs.Parts.{and-first}
 use Rattle.board.specs.declared.state.Woken.{Woken}
-use Rattle.board.specs.Codes.{runningCode, waitingCode, askOf}
-use Rattle.board.specs.Places.{waitsAt, youngest, waiters}
+use Rattle.board.specs.Codes.{runningCode, waitingCode}
+use Rattle.board.specs.Places.{waitsAt, waiters}
 use Rattle.board.specs.Settling.{Settling, woken, granted, grantFront, settleCell, settleAll}
-use Rattle.desk.proofs.Waiters.{waiting-inside, waiters-less}
+use Rattle.desk.proofs.Waiters.{waiters-less}
 use Rattle.desk.proofs.Front.{front-waits}
 use Rattle.desk.proofs.Grants.{front, mayGrant, grant-stands, grant-grants}
-
--- the first of two tests holds
-first : (a b : Bool) → (a && b) ≡ true → a ≡ true
-first true b h = refl
-first false b h = h
 
 -- a place that waits for a cell has the status of one that waits
 pub waits-status : (status cell : List ℕ) (c q : ℕ) → waitsAt status cell c q ≡ true → getD status q 0 ≡ waitingCode
 unfolding waitsAt
-waits-status status cell c q h = eqb-true (getD status q 0) waitingCode (first (eqb (getD status q 0) waitingCode) (eqb (getD cell q 0) c) h)
+waits-status status cell c q h = eqb-true (getD status q 0) waitingCode (and-first (eqb (getD status q 0) waitingCode) (eqb (getD cell q 0) c) h)
 
 -- the wakes so far and those who wait
 abbrev pub room : Woken → ℕ
@@ -45,7 +41,7 @@ module _ (number cell ask : List ℕ) (c : ℕ) where
   -- the front that may be granted waits
   granted-waits : (s : Settling) → mayGrant number cell ask c s ≡ true → (front number cell ask c s < 32) × (getD (s .told .status) (front number cell ask c s) 0 ≡ waitingCode)
   granted-waits s h =
-      let l = ltb-true (front number cell ask c s) 32 (first (ltb (front number cell ask c s) 32) _ h) in
+      let l = ltb-true (front number cell ask c s) 32 (and-first (ltb (front number cell ask c s) 32) _ h) in
       (l, waits-status (s .told .status) cell c (front number cell ask c s) (front-waits number (s .told .status) cell c 32 l))
 
   -- one grant

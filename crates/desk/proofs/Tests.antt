@@ -1,7 +1,7 @@
 -- Tests joined by && and ||, taken one after the other as code does.
 -- Assumes nothing.
 use mathlib.Core.Path.{_≡_, refl}
-use mathlib.Core.Bool.{Bool, true, false, _||_}
+use mathlib.Core.Bool.{Bool, true, false, _&&_, _||_}
 use Rattle.laws.specs.Choice.{not-both}
 
 -- one of two holds: so does one of three
@@ -15,3 +15,8 @@ pub or-rest : (a b c : Bool) → (a || b) ≡ false → c ≡ (a || (b || c))
 or-rest true b c h = not-both refl h
 or-rest false true c h = not-both refl h
 or-rest false false c h = refl
+
+-- where the second of two fails, not both hold
+pub and-fails : (a : Bool) {b : Bool} → b ≡ false → (a && b) ≡ false
+and-fails true h = h
+and-fails false h = refl

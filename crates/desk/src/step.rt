@@ -25,7 +25,7 @@ use terms::refusals::Refusal;
 ghost use Prim.Native.Nat.{_<_};
 ghost use mathlib.Core.Path.{_≡_};
 ghost use Rattle.laws.specs.Choice.{pick};
-ghost use lib.ListN.{length, set};
+ghost use lib.ListN.{set};
 ghost use Rattle.board.specs.Steps.{stepOf, ending, holding, carried, beginning};
 ghost use Rattle.desk.specs.Plan.{performed, Fits};
 
@@ -42,7 +42,7 @@ fn number_after(number: [u32; 32], p: usize, freed: bool) -> [u32; 32]
     number
 }
 
-// Rule 4: the run of a place ends with a status, and its number is freed or kept.
+// Rule 4: the run of a place ends with a status, and its number is freed or kept. The modes change where they stand.
 fn end_run(mut d: Desk, p: usize, code: u8, freed: bool, answer: Answer) -> Outcome
     requires { ⌜ p < 32 ⌝ }
     ensures { λ r. ⌜ r ≡ ending d p code freed answer ⌝ }

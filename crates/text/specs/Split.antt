@@ -106,6 +106,11 @@ unfoldable pub numbered : ℕ → List (List ℕ) → List Found
 numbered n [] = []
 numbered n (l ∷ ls) = record { number = n; bytes = take kept l } ∷ numbered (n + 1) ls
 
+-- the same with the numbers that the splitter gives, the largest of which stays
+unfoldable pub numberedOn : ℕ → List (List ℕ) → List Found
+numberedOn n [] = []
+numberedOn n (l ∷ ls) = record { number = n; bytes = take kept l } ∷ numberedOn (following n) ls
+
 -- the splitter after cuts of a chunk from a place on, each from where the one before ended, until none is left or n are made
 unfoldable pub afterCuts : ℕ → Splitter → List ℕ → ℕ → Splitter
 afterCuts zero s chunk from = s

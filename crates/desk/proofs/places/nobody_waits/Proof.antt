@@ -4,7 +4,6 @@ use Prim.Native.Nat.{_≤_, _-_}
 use mathlib.Core.Path.{_≡_, sym, ap}
 use mathlib.Core.Bool.{true, not}
 use native.Mathlib.Omega.{arith}
-use lib.Dec.{eqb}
 use Rattle.laws.specs.Choice.{was-true, was-false}
 use Rattle.board.specs.Places.{allBelow, waitsAt, nobodyWaits}
 use Rattle.desk.proofs.Every.{all-none, all-more, all-fails, all-end}

@@ -3,7 +3,7 @@
 use Prim.Native.Nat.{_+_, _≤_, _-_}
 use mathlib.Core.Path.{_≡_}
 use native.Mathlib.Omega.{arith}
-use lib.ListN.{length, drop}
+use lib.ListN.{drop}
 use borrow.Author.Needs.{needs}
 use Rattle.conflict.specs.Jobs.{pos}
 use Rattle.desk.proofs.Found.{found-here, found-later, found-nowhere}

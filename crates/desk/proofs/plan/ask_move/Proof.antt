@@ -1,7 +1,6 @@
 -- `desk::plan::ask_move` meets its contract: the standing, then the cell, then rules 1 to 3 decide.
 -- Assumes nothing.
 use borrow.Author.Needs.{needs}
-use mathlib.Core.Path.{sym, _∙_}
 use borrow.Author.Tests.{lt-ltb, le-ltb}
 use Rattle.desk.specs.Plan.{ifRuns, askMove}
 use Rattle.desk.proofs.Open.{runs-inside}

@@ -1,9 +1,8 @@
 -- `desk::settling::settle_cell` meets its contract. The loop's invariant: so many grants have been made; the measure is what is left of 32. Where it stops early, further grants change nothing.
 -- Assumes nothing.
 use Prim.Native.Nat.{_≤_, _-_}
-use mathlib.Core.Path.{_≡_, refl, ap, _∙_}
+use mathlib.Core.Path.{_≡_, refl, ap}
 use native.Mathlib.Omega.{arith}
-use borrow.Author.Needs.{needs}
 use borrow.Author.Tests.{not-true, not-false}
 use Rattle.board.specs.Settling.{Settling, settleCell}
 use Rattle.desk.proofs.Grants.{stands-empty, stands-refused, front-granted, settle-more, settle-end, settle-stop}

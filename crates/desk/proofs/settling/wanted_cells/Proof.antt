@@ -4,10 +4,8 @@ use Prim.Native.Nat.{_≤_, _-_}
 use mathlib.Core.Path.{_≡_, refl, ap, _∙_}
 use mathlib.Core.Logic.{⊎-elim}
 use native.Mathlib.Omega.{arith}
-use lib.ListN.{length}
-use borrow.Author.Needs.{needs}
 use Rattle.board.specs.Settling.{wanted}
-use Rattle.desk.proofs.Wanted.{wanted-length, wanted-marked, wanted-outside, wanted-unmarked}
+use Rattle.desk.proofs.Wanted.{wanted-marked, wanted-outside, wanted-unmarked}
 use Rattle.desk.proofs.settling.wanted_cells.Statement.{statement}
 use Rattle.desk.proofs.settling.wanted_cells.Tie as tie
 

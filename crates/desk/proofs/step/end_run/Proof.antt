@@ -3,6 +3,7 @@
 use borrow.Author.Needs.{needs}
 use native.Mathlib.Omega.{arith}
 use lib.ListN.{set}
+use Rattle.board.specs.Steps.{noAction}
 use Rattle.desk.proofs.Ended.{run-ended}
 use Rattle.desk.proofs.Waiters.{waiters-most}
 use Rattle.desk.proofs.step.end_run.Statement.{statement}
@@ -23,6 +24,7 @@ number-after-requires : tie.Need-number-after-requires
 number-after-requires c κs = search needs
 
 returns : tie.Need-returns
+unfolding noAction
 returns c = run-ended _ _ _ _ _ (c .before .before .before .before .before .before .before .before .drop-locks .ensures) (c .before .before .before .settle-all .ensures) (c .before .number-after .ensures)
 
 pub end-run-spec : {M : Type 1} → statement M

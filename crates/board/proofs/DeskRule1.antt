@@ -1,0 +1,59 @@
+-- Rule 1 of the desk that runs: a job that holds a covering mode goes, and the arrays stay exactly as they were (01, rule 1).
+-- Assumes nothing.
+use Prim.Native.Nat.{ℕ}
+use mathlib.Core.Path.{_≡_, refl, sym, ap, _∙_}
+use mathlib.Core.Bool.{true}
+use native.Mathlib.Omega.{arith}
+use lib.Dec.{eqb}
+use borrow.Author.Tests.{lt-ltb}
+use Rattle.laws.specs.Choice.{by-test}
+use Rattle.terms.specs.declared.letters.Ask.{Ask}
+use Rattle.terms.specs.Limits.{cells}
+use Rattle.conflict.specs.declared.modes.Mode.the-variants.{Free}
+use Rattle.conflict.specs.Modes.{needed, covers}
+use Rattle.conflict.specs.History.{History}
+use Rattle.rules.specs.declared.Answer.the-variants.{Go}
+use Rattle.rules.specs.Desk.{Status, closed, running, waiting, sentback}
+use Rattle.board.specs.declared.state.Desk.{Desk}
+use Rattle.board.specs.declared.state.Outcome.{Outcome}
+use Rattle.board.specs.Codes.{freeCode, waitingCode, sentBackCode}
+use Rattle.board.specs.Places.{modeAt}
+use Rattle.board.specs.Steps.{quiet, placeOf, statusOf, decided, carried, asking, ifRunning, stepFor, stepOf}
+use Rattle.board.specs.Stands.{statusFor, statusAt, statusBy, modeBy, Started}
+use Rattle.board.specs.Asked.{Asking}
+use Rattle.board.proofs.ByNumber.{seat-has, has-seat}
+use Rattle.board.proofs.StepTied.{status-code}
+use Rattle.board.proofs.StartedStands.{stands-for-paper}
+
+-- a job that runs is not closed, does not wait and was not sent back
+runs-only : {P : Type 0} (s : Status) → s ≡ closed → s ≡ running → P
+runs-only s p q = let z : _≡_ {A = ℕ} 0 1 = cc in absurd (omega arith)
+
+-- a job whose code says that it runs goes on
+running-goes : (d : Desk) (code c : ℕ) (a : Ask) (o : Outcome) → statusFor code c a ≡ running → ifRunning d code o ≡ o
+unfolding statusFor ifRunning
+running-goes d code c a o e =
+    by-test (eqb code freeCode) (λ t. let q : closed ≡ running = rw t at e in runs-only running (sym q) refl)
+    (λ f. by-test (eqb code waitingCode) (λ t. let q : waiting c a ≡ running = rw (f, t) at e in let z : _≡_ {A = ℕ} 0 1 = cc in absurd (omega arith))
+    (λ g. by-test (eqb code sentBackCode) (λ t. let q : sentback ≡ running = rw (f, g, t) at e in let z : _≡_ {A = ℕ} 0 1 = cc in absurd (omega arith)) (λ k. rw (f, g, k))))
+
+module _ {d : Desk} {h : History} (s : Started d h) (kind job c : ℕ) (a : Ask) (k : Asking d kind job c a) where
+  -- a running job has a place, where its modes stand
+  place-mode : modeBy d c job ≡ modeAt (d .held) c (placeOf d job)
+  unfolding statusBy modeBy
+  place-mode =
+      has-seat closed (d .number) (statusAt (d .status) (d .cell) (d .ask)) job (λ e. runs-only (statusBy d job) e (k .runs)) (seat-has Free (d .number) (modeAt (d .held) c))
+
+  -- a running job's request for a cell below 64 is decided by rules 1 to 3
+  pub desk-asking-step : stepOf d kind job c ≡ carried d (placeOf d job) c job a (decided d (placeOf d job) c job a)
+  unfolding stepOf stepFor
+  desk-asking-step =
+      let (D, g, t) = stands-for-paper s in
+      ap (stepFor d job c) (k .letter)
+      ∙ running-goes d (statusOf (d .number) (d .status) job) _ _ (asking d job c a) (sym (status-code (t .plain) job) ∙ k .runs)
+      ∙ (unfold asking in rw (lt-ltb c cells (k .within)))
+
+  -- a job that holds a covering mode: go. Nothing changes (01, rule 1)
+  pub desk-rule-1 : covers (modeBy d c job) (needed a) ≡ true → stepOf d kind job c ≡ record { desk = d; said = quiet (Go job) }
+  unfolding carried decided
+  desk-rule-1 e = desk-asking-step ∙ rw (sym (ap (λ m. covers m (needed a)) place-mode) ∙ e)

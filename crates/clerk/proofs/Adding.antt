@@ -1,0 +1,50 @@
+-- A record for which there is room is written, and has at most 24 bytes; records written one after another.
+-- Assumes nothing.
+use Prim.Native.Nat.{ℕ, _+_, _≤_}
+use mathlib.Core.Path.{_≡_, refl, sym, ap, _∙_, subst}
+use mathlib.Core.Bool.{true}
+use mathlib.Core.List.{List, [], _++_}
+use native.Mathlib.Omega.{arith}
+use lib.ListN.{length, length-append}
+use Rattle.terms.specs.declared.letters.Letter.{Letter}
+use Rattle.terms.specs.declared.refusals.Refusal.{Refusal}
+use Rattle.terms.specs.Letters.{hasJob, hasCell}
+use Rattle.terms.specs.Limits.{lastNumber}
+use Rattle.text.specs.declared.writer.Written.{Written}
+use Rattle.text.specs.declared.writer.Written.the-variants.{Next, Refused}
+use Rattle.text.specs.Records.{lineRecord, told, left}
+use Rattle.text.specs.Wrote.{Wrote}
+use Rattle.text.proofs.Length.{line-length}
+use Rattle.text.proofs.FieldLaws.{field-at-most}
+use Rattle.text.proofs.WriterLaws.{next-wrote, not-refused}
+use Rattle.text.proofs.WroteLaws.{wrote-none, wrote-then, wrote-as, wrote-length}
+use Rattle.clerk.specs.Parts.{Added}
+
+-- no line of a letter with numbers of 32 bits is longer than 24 bytes
+pub line-at-most-24 : (l : Letter) (job cell : ℕ) → job ≤ lastNumber → cell ≤ lastNumber → length (lineRecord l job cell) ≤ 24
+line-at-most-24 l job cell h g =
+    omega (arith, line-length l job cell, field-at-most 9 (hasJob l) job (omega arith), field-at-most 9 (hasCell l) cell (omega arith))
+
+-- a record whose place was told was written
+pub added-next : {w : Written} {at n : ℕ} {bs b m : List ℕ} → w ≡ told b at bs → w ≡ Next n → m ≡ left b at bs → length bs ≤ 24 → Added 24 at n bs b m
+added-next e f g h = record { wrote = next-wrote e f g; few = h }
+
+-- a record for which there is room is never refused
+pub never-refused : {P : Type 0} {w : Written} {why : Refusal} (b : List ℕ) (at : ℕ) (bs : List ℕ) → w ≡ told b at bs → w ≡ Refused why → length bs ≤ 24 → at + 24 ≤ length b → P
+never-refused b at bs e f h r = not-refused b at bs e f (omega arith)
+
+-- nothing was written
+pub added-none : {most at : ℕ} {b : List ℕ} → at ≤ length b → Added most at at [] b b
+added-none h = record { wrote = wrote-none h; few = omega arith }
+
+-- the same bytes by another name
+pub added-as : {most at to : ℕ} {bs cs b m : List ℕ} → Added most at to bs b m → bs ≡ cs → Added most at to cs b m
+added-as {most} {at} {to} {bs} {cs} {b} {m} a e = subst (λ l. Added most at to l b m) e a
+
+-- where the bytes end
+pub added-end : {most at to : ℕ} {bs b m : List ℕ} → Added most at to bs b m → to ≤ at + most
+added-end a = let e = a .wrote .ends in let h = a .few in omega arith
+
+-- the buffer is as long as before
+pub added-length : {most at to : ℕ} {bs b m : List ℕ} → Added most at to bs b m → length m ≡ length b
+added-length a = wrote-length (a .wrote)

@@ -1,0 +1,64 @@
+-- Each branch of the code against the definition by cases that it follows.
+-- Assumes nothing.
+use Prim.Native.Nat.{ℕ}
+use mathlib.Core.Path.{_≡_, refl, sym, ap, _∙_}
+use mathlib.Core.List.{List, [], _++_, append-nil}
+use Rattle.terms.specs.declared.letters.Letter.{Letter}
+use Rattle.terms.specs.declared.letters.Letter.the-variants.{Asks}
+use Rattle.terms.specs.declared.letters.Ask.{Ask}
+use Rattle.terms.specs.declared.words.Word.{Word}
+use Rattle.terms.specs.declared.words.Word.the-variants.{Wake, No}
+use Rattle.terms.specs.declared.refusals.Refusal.the-variants.{BadLine}
+use Rattle.terms.specs.Refusals.{numberOf}
+use Rattle.conflict.specs.declared.action.Action.{Action}
+use Rattle.text.specs.Records.{answerRecord, lineRecord}
+use Rattle.rules.specs.declared.Answer.{Answer}
+use Rattle.runs.specs.declared.View.{View}
+use Rattle.runs.specs.declared.View.the-variants.{Answers, History}
+use Rattle.rules.specs.Step.{recordsOf, ownRecords, wakeRecords}
+use Rattle.runs.specs.Run.{wordOf, numberBeside, askBy, answerLines, historyLines, wakeLines, eventLines}
+use Rattle.runs.specs.Work.{viewed, unended}
+use Rattle.clerk.specs.declared.records.Noted.{Noted}
+use Rattle.clerk.specs.declared.records.Noted.the-variants.{Nothing, Line}
+use Rattle.clerk.specs.Parts.{noted, notedBytes, firstRecord, wakeRecord}
+
+-- nothing is noted
+pub nothing-noted : (n : Noted) → n ≡ Nothing → [] ≡ notedBytes n
+unfolding notedBytes
+nothing-noted n e = rw e
+
+-- a line is noted
+pub line-noted : (n : Noted) {l : Letter} {job cell : ℕ} → n ≡ Line l job cell → lineRecord l job cell ≡ notedBytes n
+unfolding notedBytes
+line-noted n e = rw e
+
+-- the first record among the answers
+pub first-answer : (view : View) (line : ℕ) (l : Letter) (cell : ℕ) (a : Answer) (w : Word) (n : ℕ) → view ≡ Answers → w ≡ wordOf a → n ≡ numberBeside a →
+    answerRecord line w n ≡ firstRecord view line l cell a
+unfolding firstRecord
+first-answer view line l cell a w n e f g = rw (e, f, g)
+
+-- the first record in the history
+pub first-noted : (view : View) (line : ℕ) (l : Letter) (cell : ℕ) (a : Answer) (n : Noted) → view ≡ History → n ≡ noted l cell a → notedBytes n ≡ firstRecord view line l cell a
+unfolding firstRecord
+first-noted view line l cell a n e f = rw (e, f)
+
+-- a wake among the answers
+pub wake-answer : (view : View) (line : ℕ) (a : Action) → view ≡ Answers → answerRecord line Wake (a .job) ≡ wakeRecord view line a
+unfolding wakeRecord
+wake-answer view line a e = rw e
+
+-- a wake in the history
+pub wake-noted : (view : View) (line : ℕ) (a : Action) (k : Ask) → view ≡ History → k ≡ askBy (a .kind) → lineRecord (Asks k) (a .job) (a .cell) ≡ wakeRecord view line a
+unfolding wakeRecord
+wake-noted view line a k e f = rw (e, f)
+
+-- a bad line among the answers
+pub bad-answer : (view : View) (line n : ℕ) → view ≡ Answers → n ≡ numberOf BadLine → answerRecord line No n ≡ viewed view (unended line)
+unfolding viewed unended answerLines wordOf numberBeside wakeLines
+bad-answer view line n e f = rw (e, f) (sym (append-nil _))
+
+-- a bad line gives the history nothing
+pub bad-noted : (view : View) (line : ℕ) → view ≡ History → [] ≡ viewed view (unended line)
+unfolding viewed unended historyLines recordsOf ownRecords wakeRecords eventLines
+bad-noted view line e = rw e

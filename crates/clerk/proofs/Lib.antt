@@ -1,0 +1,7 @@
+pub mod Adding
+pub mod Cases
+pub mod Waking
+pub mod Telling
+pub mod Holding
+pub mod Going
+pub mod Unique

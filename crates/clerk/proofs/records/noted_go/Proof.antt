@@ -1,0 +1,65 @@
+-- `clerk::records::noted_go` meets its contract: each letter as the definition says.
+-- Assumes nothing.
+use borrow.Author.Needs.{needs}
+use Rattle.clerk.specs.Parts.{notedGo}
+use Rattle.clerk.proofs.records.noted_go.Statement.{statement}
+use Rattle.clerk.proofs.records.noted_go.Tie as tie
+
+enum-told : tie.Need-enum-told
+enum-told c = search needs
+
+enum-told-2 : tie.Need-enum-told-2
+enum-told-2 c = search needs
+
+enum-told-3 : tie.Need-enum-told-3
+enum-told-3 c = search needs
+
+enum-told-4 : tie.Need-enum-told-4
+enum-told-4 c = search needs
+
+enum-told-5 : tie.Need-enum-told-5
+enum-told-5 c = search needs
+
+enum-known-letter : tie.Need-enum-known-letter
+enum-known-letter c = search needs
+
+returns : tie.Need-returns
+unfolding notedGo
+returns c = search needs
+
+returns-2 : tie.Need-returns-2
+unfolding notedGo
+returns-2 c = rw (c .enum-told2 .given .1)
+
+returns-3 : tie.Need-returns-3
+unfolding notedGo
+returns-3 c = rw (c .enum-told3 .given .1)
+
+returns-4 : tie.Need-returns-4
+unfolding notedGo
+returns-4 c = search needs
+
+returns-5 : tie.Need-returns-5
+unfolding notedGo
+returns-5 c = search needs
+
+returns-6 : tie.Need-returns-6
+unfolding notedGo
+returns-6 c = rw (c .before .letter .given .1)
+
+pub noted-go-spec : {M : Type 1} → statement M
+noted-go-spec =
+    tie.close
+    (tie.spec
+    enum-told
+    enum-told-2
+    enum-told-3
+    enum-told-4
+    enum-told-5
+    enum-known-letter
+    returns
+    returns-2
+    returns-3
+    returns-4
+    returns-5
+    returns-6)

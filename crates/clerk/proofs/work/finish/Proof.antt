@@ -1,0 +1,61 @@
+-- `clerk::work::finish` meets its contract: the two tests decide as the definition does.
+-- Assumes nothing.
+use Prim.Native.Nat.{_+_}
+use mathlib.Core.Path.{_≡_}
+use mathlib.Core.Bool.{true}
+use borrow.Author.Needs.{needs}
+use borrow.Author.Tests.{leb-true, not-true, not-false}
+use lib.Dec.{leb}
+use lib.ListN.{length}
+use Rattle.laws.specs.Choice.{was-true, was-false}
+use Rattle.runs.specs.Work.{roomy}
+use Rattle.runs.proofs.Ends.{ends-none, ends-full, ends-put, owing-line}
+use Rattle.clerk.proofs.work.finish.Statement.{statement}
+use Rattle.clerk.proofs.work.finish.Tie as tie
+
+-- what a test that a callee made says
+ruleset tests = (was-true, was-false, not-true, not-false)
+
+is-owing-requires : tie.Need-is-owing-requires
+is-owing-requires c κs = search needs
+
+returns : tie.Need-returns
+returns c =
+    let a = c .before .before .before .before .args in
+    ends-none (a .view) (a .c) (a .out .now) (a .at) (search tests)
+
+has-room-requires : tie.Need-has-room-requires
+has-room-requires c κs = search needs
+
+returns-2 : tie.Need-returns-2
+unfolding roomy
+returns-2 c =
+    let a = c .before .before .before .before .before .before .args in
+    ends-full (a .view) (a .c) (a .out .now) (a .at) (search tests) (search tests)
+
+put-bad-requires : tie.Need-put-bad-requires
+put-bad-requires c κs =
+    let a = c .before .before .before .before .before .before .before .args in
+    let r : leb (a .at + 792) (length (a .out .now)) ≡ true = search tests in
+    (owing-line (a .c .splitter) (search tests), leb-true (a .at + 792) (length (a .out .now)) r)
+
+same-length : tie.Need-same-length
+same-length c = search needs
+
+returns-3 : tie.Need-returns-3
+unfolding roomy
+returns-3 c =
+    let a = c .before .before .before .before .before .before .before .before .before .before .args in
+    ends-put (a .view) (a .c) (a .out .now) (a .at) (search tests) (search tests) (c .before .before .put-bad .ensures)
+
+pub finish-spec : {M : Type 1} → statement M
+finish-spec =
+    tie.close
+    (tie.spec
+    is-owing-requires
+    returns
+    has-room-requires
+    returns-2
+    put-bad-requires
+    same-length
+    returns-3)

@@ -1,0 +1,48 @@
+-- `clerk::work::reading_of` meets its contract: the part that is lent is the line as far as it is kept.
+-- Assumes nothing.
+use mathlib.Core.Path.{_≡_}
+use native.Mathlib.Omega.{arith}
+use lib.ListN.{length}
+use borrow.Author.Needs.{needs}
+use Rattle.clerk.proofs.Holding.{reads-part, reads-whole}
+use Rattle.clerk.proofs.work.reading_of.Statement.{statement}
+use Rattle.clerk.proofs.work.reading_of.Tie as tie
+
+sub-read-request : tie.Need-sub-read-request
+sub-read-request c = search needs
+
+part-read-request-start : tie.Need-part-read-request-start
+part-read-request-start c = search needs
+
+part-read-request-end : tie.Need-part-read-request-end
+part-read-request-end c = let n : length (c .before .before .before .args .s .kept) ≡ 16 = search needs in omega arith
+
+read-request-requires : tie.Need-read-request-requires
+read-request-requires c κs = search needs
+
+returns : tie.Need-returns
+returns c = reads-part (c .before .before .before .before .before .args .s) _ (c .read-request .ensures)
+
+slice-aggregate-read-request : tie.Need-slice-aggregate-read-request
+slice-aggregate-read-request c = search needs
+
+read-request-requires-2 : tie.Need-read-request-requires-2
+read-request-requires-2 c κs = search needs
+
+returns-2 : tie.Need-returns-2
+returns-2 c =
+    let n : length (c .before .before .before .before .args .s .kept) ≡ 16 = search needs in
+    reads-whole (c .before .before .before .before .args .s) _ (omega arith) (c .read-request2 .ensures)
+
+pub reading-of-spec : {M : Type 1} → statement M
+reading-of-spec =
+    tie.close
+    (tie.spec
+    sub-read-request
+    part-read-request-start
+    part-read-request-end
+    read-request-requires
+    returns
+    slice-aggregate-read-request
+    read-request-requires-2
+    returns-2)

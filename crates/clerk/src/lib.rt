@@ -1,0 +1,3 @@
+// The clerk at work: chunks of request lines in, records out, whatever the lines and however large the buffers.
+mod records;
+pub mod work;

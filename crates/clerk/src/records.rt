@@ -1,0 +1,232 @@
+// The records of one line in either view: the answer or what the history notes of it, and then the wakes (01, Lines).
+use board::state::Said;
+use conflict::action::Action;
+use conflict::action::Kind;
+use rules::Answer;
+use runs::View;
+use terms::letters::Ask;
+use terms::letters::Letter;
+use terms::refusals::Refusal;
+use terms::refusals::number_of;
+use terms::words::Word;
+use text::writer::Written;
+use text::writer::write_answer;
+use text::writer::write_line;
+ghost use mathlib.Core.Path.{_≡_};
+ghost use mathlib.Core.Bool.{true};
+ghost use Prim.Native.Nat.{_+_, _≤_};
+ghost use lib.ListN.{length, take};
+ghost use Rattle.terms.specs.Limits.{requestLines, lastNumber};
+ghost use Rattle.text.specs.Records.{answerRecord, lineRecord};
+ghost use Rattle.text.specs.Wrote.{Wrote};
+ghost use Rattle.text.proofs.Length.{ofAnswers};
+ghost use Rattle.runs.specs.Run.{wordOf, numberBeside, askBy};
+ghost use Rattle.runs.specs.Work.{viewed, unended, lineRoom};
+ghost use Rattle.clerk.specs.Parts.{Added, notedGo, noted, notedBytes, firstRecord, wakeRecord, wakeRecords, lineRecords};
+
+// What the history notes of a request, beside the wakes: one line of a letter, or nothing.
+enum Noted {
+    Nothing,
+    Line { letter: Letter, job: u32, cell: u32 },
+}
+
+// The word of an answer.
+fn word_of(a: Answer) -> Word
+    ensures { λ r. ⌜ (r ≡ wordOf a) × (ofAnswers r ≡ true) ⌝ }
+{
+    match a {
+        Answer::Go(_) => Word::Go,
+        Answer::Wait(_) => Word::Wait,
+        Answer::Back(_) => Word::Back,
+        Answer::No(_) => Word::No,
+    }
+}
+
+// The number beside it: the job, or the refusal's number.
+fn number_beside(a: Answer) -> u64
+    ensures { λ r. ⌜ (r ≡ numberBeside a) × (r ≤ lastNumber) ⌝ }
+{
+    match a {
+        Answer::Go(j) => j as u64,
+        Answer::Wait(j) => j as u64,
+        Answer::Back(j) => j as u64,
+        Answer::No(why) => number_of(why) as u64,
+    }
+}
+
+// What is asked, by the kind that is recorded of it.
+fn ask_by(k: Kind) -> Ask
+    ensures { λ r. ⌜ r ≡ askBy k ⌝ }
+{
+    match k {
+        Kind::Read => Ask::Read,
+        Kind::Write => Ask::Write,
+        Kind::Increment => Ask::Increment,
+    }
+}
+
+// What the history notes of a request that goes.
+fn noted_go(letter: Letter, job: u32, cell: u32) -> Noted
+    ensures { λ r. ⌜ r ≡ notedGo letter job cell ⌝ }
+{
+    match letter {
+        Letter::Begin => Noted::Nothing,
+        Letter::Commit => Noted::Line {
+            letter: Letter::Commit,
+            job,
+            cell: 0,
+        },
+        Letter::GiveUp => Noted::Line {
+            letter: Letter::GiveUp,
+            job,
+            cell: 0,
+        },
+        Letter::Retry => Noted::Nothing,
+        Letter::Back => Noted::Nothing,
+        Letter::Asks(a) => Noted::Line {
+            letter: Letter::Asks(a),
+            job,
+            cell,
+        },
+    }
+}
+
+// What the history notes of a request and its answer.
+fn noted_of(letter: Letter, cell: u32, a: Answer) -> Noted
+    ensures { λ r. ⌜ r ≡ noted letter cell a ⌝ }
+{
+    match a {
+        Answer::Go(j) => noted_go(letter, j, cell),
+        Answer::Wait(_) => Noted::Nothing,
+        Answer::Back(j) => Noted::Line {
+            letter: Letter::Back,
+            job: j,
+            cell: 0,
+        },
+        Answer::No(_) => Noted::Nothing,
+    }
+}
+
+// An answer record, for which there is room.
+fn put_answer(out: &mut [u8], at: usize, line: u64, word: Word, number: u64) -> usize
+    requires { ⌜ (line ≤ requestLines) × (ofAnswers word ≡ true) × (number ≤ lastNumber) × (at + 24 ≤ length (now out)) ⌝ }
+    ensures { λ r. ⌜ Added 24 at r (answerRecord line word number) (now (out .entry)) (now (out .exit)) ⌝ }
+{
+    match write_answer(out, at, line, word, number) {
+        Written::Next(next) => next,
+        Written::Refused(_) => at,
+    }
+}
+
+// The line of a letter, for which there is room.
+fn put_line(out: &mut [u8], at: usize, letter: Letter, job: u32, cell: u32) -> usize
+    requires { ⌜ at + 24 ≤ length (now out) ⌝ }
+    ensures { λ r. ⌜ Added 24 at r (lineRecord letter job cell) (now (out .entry)) (now (out .exit)) ⌝ }
+{
+    match write_line(out, at, letter, job as u64, cell as u64) {
+        Written::Next(next) => next,
+        Written::Refused(_) => at,
+    }
+}
+
+// What the history notes, if it notes anything.
+fn put_noted(out: &mut [u8], at: usize, n: Noted) -> usize
+    requires { ⌜ at + 24 ≤ length (now out) ⌝ }
+    ensures { λ r. ⌜ Added 24 at r (notedBytes n) (now (out .entry)) (now (out .exit)) ⌝ }
+{
+    match n {
+        Noted::Nothing => at,
+        Noted::Line { letter, job, cell } => put_line(out, at, letter, job, cell),
+    }
+}
+
+// The first record of a line.
+fn put_first(
+    view: View,
+    out: &mut [u8],
+    at: usize,
+    line: u64,
+    letter: Letter,
+    cell: u32,
+    a: Answer,
+) -> usize
+    requires { ⌜ (line ≤ requestLines) × (at + 24 ≤ length (now out)) ⌝ }
+    ensures { λ r. ⌜ Added 24 at r (firstRecord view line letter cell a) (now (out .entry)) (now (out .exit)) ⌝ }
+{
+    match view {
+        View::Answers => put_answer(out, at, line, word_of(a), number_beside(a)),
+        View::History => put_noted(out, at, noted_of(letter, cell, a)),
+    }
+}
+
+// The record of a wake.
+fn put_wake(view: View, out: &mut [u8], at: usize, line: u64, a: Action) -> usize
+    requires { ⌜ (line ≤ requestLines) × (at + 24 ≤ length (now out)) ⌝ }
+    ensures { λ r. ⌜ Added 24 at r (wakeRecord view line a) (now (out .entry)) (now (out .exit)) ⌝ }
+{
+    match view {
+        View::Answers => put_answer(out, at, line, Word::Wake, a.job as u64),
+        View::History => {
+            let kind = a.kind;
+            put_line(out, at, Letter::Asks(ask_by(kind)), a.job, a.cell)
+        }
+    }
+}
+
+// One record for each wake; there are never more than 32.
+fn put_wakes(
+    view: View,
+    out: &mut [u8],
+    at: usize,
+    line: u64,
+    wakes: [Action; 32],
+    count: usize,
+) -> usize
+    requires { ⌜ (line ≤ requestLines) × (at + 768 ≤ length (now out)) ⌝ }
+    ensures { λ r. ⌜ Wrote at r (wakeRecords view line (take count wakes)) (now (out .entry)) (now (out .exit)) ⌝ }
+{
+    let mut next = at;
+    let mut i: usize = 0;
+    while i < 32 {
+        if count <= i {
+            break;
+        }
+        let a = wakes[i];
+        next = put_wake(view, out, next, line, a);
+        i += 1;
+    }
+    next
+}
+
+// All records of a line whose request is good. Most steps wake nobody.
+pub fn put_records(
+    view: View,
+    out: &mut [u8],
+    at: usize,
+    line: u64,
+    letter: Letter,
+    cell: u32,
+    said: Said,
+) -> usize
+    requires { ⌜ (line ≤ requestLines) × (at + lineRoom ≤ length (now out)) ⌝ }
+    ensures { λ r. ⌜ Wrote at r (lineRecords view line letter cell said) (now (out .entry)) (now (out .exit)) ⌝ }
+{
+    let answer = said.answer;
+    let next = put_first(view, out, at, line, letter, cell, answer);
+    if said.count == 0 {
+        return next;
+    }
+    let wakes = said.wakes;
+    put_wakes(view, out, next, line, wakes, said.count)
+}
+
+// The record of a bad line: refusal 9 among the answers, and none in the history.
+pub fn put_bad(view: View, out: &mut [u8], at: usize, line: u64) -> usize
+    requires { ⌜ (line ≤ requestLines) × (at + lineRoom ≤ length (now out)) ⌝ }
+    ensures { λ r. ⌜ Wrote at r (viewed view (unended line)) (now (out .entry)) (now (out .exit)) ⌝ }
+{
+    match view {
+        View::Answers => put_answer(out, at, line, Word::No, number_of(Refusal::BadLine) as u64),
+        View::History => at,
+    }
+}

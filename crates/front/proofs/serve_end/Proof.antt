@@ -1,0 +1,21 @@
+-- `front::serve_end` is safe: the last record ends within the buffer.
+-- Assumes nothing.
+use borrow.Author.Needs.{needs}
+use Rattle.front.proofs.Places.{last-within}
+use Rattle.front.proofs.serve_end.Statement.{statement}
+use Rattle.front.proofs.serve_end.Tie as tie
+
+finish-requires : tie.Need-finish-requires
+finish-requires c κs = search needs
+
+put-out-requires : tie.Need-put-out-requires
+put-out-requires c κs = let f = c .before .before .before .finish in last-within _ _ _ _ _ (f .ensures .0) (f .ensures .1)
+
+same-length : tie.Need-same-length
+same-length c = search needs
+
+returns : tie.Need-returns
+returns c = search needs
+
+pub serve-end-spec : {M : Type 1} → statement M
+serve-end-spec = tie.close (tie.spec finish-requires put-out-requires same-length returns)

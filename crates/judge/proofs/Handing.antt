@@ -1,0 +1,109 @@
+-- From what the scan tells and what is decided to the judgement: a short buffer, a faultless text, a faulty line.
+-- Assumes nothing.
+use Prim.Native.Nat.{ℕ, _-_, _≤_, _<_}
+use mathlib.Core.Path.{_≡_, refl, sym, _∙_, subst}
+use mathlib.Core.List.{List, []}
+use native.Mathlib.Omega.{arith}
+use borrow.Author.Tests.{lt-ltb, le-ltb}
+use lib.ListN.{length, take, drop, getD}
+use Rattle.terms.specs.declared.refusals.Refusal.{Refusal}
+use Rattle.terms.specs.declared.refusals.Refusal.the-variants.{ShortOrder}
+use Rattle.terms.specs.Limits.{judgedJobs, judgedLines}
+use Rattle.text.specs.Split.{linesOf}
+use Rattle.verdicts.specs.declared.verdict.Verdict.{Verdict}
+use Rattle.verdicts.specs.declared.verdict.Verdict.the-variants.{No}
+use Rattle.verdicts.specs.Judged.{orderly, knotted, verdictOf}
+use Rattle.verdicts.specs.Judged as verdicts
+use Rattle.verdicts.specs.Arrays.{historyBy}
+use Rattle.verdicts.specs.HistoryText.{firstFaulty}
+use Rattle.verdicts.specs.Judgement.{sayVerdict, sayLines, judgementOf}
+use Rattle.judge.specs.declared.scan.Scanned.{Scanned}
+use Rattle.judge.specs.declared.scan.Scanned.the-variants.{Faultless, Faulty}
+use Rattle.judge.specs.declared.entry.Judged.{Judged}
+use Rattle.judge.specs.Scanned.{Clean, Spoilt, ScannedAs}
+use Rattle.judge.specs.Judged.{Small, JudgedAs}
+use Rattle.judge.proofs.SmallNumbers.{judgement-small}
+
+-- a buffer that is too short is refused first
+short-judgement : (text buffer : List ℕ) → length buffer < judgedJobs → judgementOf text buffer ≡ record { said = No 0 ShortOrder; order = buffer; line = [] }
+unfolding judgementOf
+short-judgement text buffer h = rw (lt-ltb (length buffer) judgedJobs h)
+
+-- for any other the lines decide
+lines-judgement : (text buffer : List ℕ) → judgedJobs ≤ length buffer → judgementOf text buffer ≡ sayLines buffer (linesOf text) (firstFaulty 1 [] (linesOf text))
+unfolding judgementOf
+lines-judgement text buffer h = rw (le-ltb (length buffer) judgedJobs h)
+
+-- a verdict hands back no line
+no-line : (buffer : List ℕ) (v : verdicts.Verdict) → sayVerdict buffer v .line ≡ []
+unfolding sayVerdict
+no-line buffer (orderly order) = refl
+no-line buffer (knotted js) = refl
+
+-- a faultless text is judged by the history that is kept of it
+clean-judgement : (text codes jobs cells buffer : List ℕ) (n : ℕ) → judgedJobs ≤ length buffer → Clean text codes jobs cells n →
+    judgementOf text buffer ≡ sayVerdict buffer (verdictOf (historyBy codes jobs cells n))
+unfolding sayLines
+clean-judgement text codes jobs cells buffer n h c =
+    lines-judgement text buffer h ∙ rw (c .faultless, c .says)
+
+-- a faulty line is told with its number and refusal
+spoilt-judgement : (text buffer : List ℕ) (number : ℕ) (why : Refusal) (from to : ℕ) → judgedJobs ≤ length buffer → Spoilt text number why from to →
+    judgementOf text buffer ≡ record { said = No number why; order = buffer; line = take (to - from) (drop from text) }
+unfolding sayLines
+spoilt-judgement text buffer number why from to h s =
+    lines-judgement text buffer h ∙ rw (s .first, s .place)
+
+-- the judge finds a short buffer
+pub judged-short : (text buffer : List ℕ) → length buffer < judgedJobs → JudgedAs text buffer buffer (record { said = No 0 ShortOrder; from = 0; to = 0 })
+judged-short text buffer h =
+    let e = short-judgement text buffer h in
+    record {
+      said-is = rw e;
+      order-is = rw e;
+      ordered = omega arith;
+      within = omega arith;
+      place = rw e;
+    }
+
+module _ (text codes jobs cells : List ℕ) (x : Scanned) (s : ScannedAs text codes jobs cells x) where
+  -- a faultless text has no more lines than are kept
+  pub clean-within : (n : ℕ) → x ≡ Faultless n → n ≤ judgedLines
+  clean-within n e = let c : Clean text codes jobs cells n = subst (ScannedAs text codes jobs cells) e s in c .within
+
+  -- no line of it is of job 0
+  pub clean-named : (n : ℕ) → x ≡ Faultless n → (p : ℕ) → p < n → getD jobs p 0 ≡ 0 → ⊥
+  clean-named n e = let c : Clean text codes jobs cells n = subst (ScannedAs text codes jobs cells) e s in c .named
+
+module _ (text codes jobs cells buffer : List ℕ) (x : Scanned) (h : judgedJobs ≤ length buffer) (s : ScannedAs text codes jobs cells x) where
+  -- the judge decides a faultless text
+  pub judged-clean : (n : ℕ) (said : Verdict) (after : List ℕ) → x ≡ Faultless n →
+      said ≡ sayVerdict buffer (verdictOf (historyBy codes jobs cells n)) .said → after ≡ sayVerdict buffer (verdictOf (historyBy codes jobs cells n)) .order →
+      JudgedAs text buffer after (record { said = said; from = 0; to = 0 })
+  judged-clean n said after e p q =
+      let j = clean-judgement text codes jobs cells buffer n h (subst (ScannedAs text codes jobs cells) e s) in
+      record {
+        said-is = rw j p;
+        order-is = rw j q;
+        ordered = omega arith;
+        within = omega arith;
+        place = rw j (sym (no-line buffer (verdictOf (historyBy codes jobs cells n))));
+      }
+
+  -- the judge finds a faulty line
+  pub judged-faulty : (number : ℕ) (why : Refusal) (from to : ℕ) → x ≡ Faulty number why from to →
+      JudgedAs text buffer buffer (record { said = No number why; from = from; to = to })
+  judged-faulty number why from to e =
+      let f : Spoilt text number why from to = subst (ScannedAs text codes jobs cells) e s in
+      let j = spoilt-judgement text buffer number why from to h f in
+      record {
+        said-is = rw j;
+        order-is = rw j;
+        ordered = f .ordered;
+        within = f .within;
+        place = rw j;
+      }
+
+-- what is found has small numbers
+pub judged-small : (text before after : List ℕ) (r : Judged) → JudgedAs text before after r → Small (r .said)
+judged-small text before after r j = subst Small (sym (j .said-is)) (judgement-small text before)

@@ -1,0 +1,17 @@
+-- No second verdict, line, order buffer or answer meets the contract of the judge's entries.
+-- Assumes nothing.
+use mathlib.Core.Path.{sym, _∙_}
+use denote.Ref.{now}
+use Rattle.laws.specs.Unique.{UniqueLent, UniquePart}
+use Rattle.judge.proofs.entry.judge_text.Reads as judge-text
+use Rattle.judge.proofs.entry.judge_text.Kinds as judge-textK
+use Rattle.judge.proofs.entry.judge.Reads as judge
+use Rattle.judge.proofs.entry.judge.Kinds as judgeK
+
+-- the verdict, and what the order buffer then holds
+pub judge-text-unique : UniqueLent judge-textK.ps judge-textK.r judge-text.Post (λ κs e. now (e .1 .0))
+judge-text-unique κs a x y e f p q = (p .0 ∙ sym (q .0), p .1 ∙ sym (q .1))
+
+-- the line handed back, what the order buffer then holds, and the answer
+pub judge-unique : UniquePart judgeK.ps judgeK.r judge.Post (λ κs x. now x) (λ κs e. now (e .1 .0)) (λ κs e. now (e .1 .1 .0))
+judge-unique κs a x y e f p q = (p .0 ∙ sym (q .0), p .1 ∙ sym (q .1), p .2 ∙ sym (q .2))

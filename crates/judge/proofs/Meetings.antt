@@ -1,0 +1,83 @@
+-- An edge between two jobs, said of their lines: a line of the one stands before a line of the other that it conflicts with.
+-- Assumes nothing.
+use Prim.Native.Nat.{ℕ, zero, suc, _+_, _≤_, _<_}
+use mathlib.Core.Path.{_≡_, refl, sym, ap, ap₂, _∙_}
+use mathlib.Core.Bool.{Bool, true, false, not, _&&_, _||_}
+use mathlib.Core.List.{List, [], _∷_, map}
+use native.Mathlib.Omega.{arith}
+use lib.Dec.{eqb, ltb}
+use lib.ListN.{getD}
+use borrow.Author.Tests.{eqb-true, eqb-false, ne-eqb, ltb-true, lt-ltb, le-ltb}
+use Rattle.laws.specs.Choice.{by-test, not-both}
+use Rattle.conflict.specs.declared.action.Action.{Action}
+use Rattle.conflict.specs.Jobs.{same, member}
+use Rattle.conflict.specs.Schedule.{agree, conflicts, keep, touches, edge}
+use Rattle.conflict.specs.History.{put}
+use Rattle.conflict.proofs.Parts.{and-first, and-second}
+use Rattle.conflict.proofs.JobLists.{member-first, member-more}
+use Rattle.judge.specs.Lists.{listed}
+use Rattle.judge.specs.Meeting.{kindBy, clashing, meetsLater, meetings}
+use Rattle.judge.proofs.Codes.{actionBy}
+use Rattle.judge.proofs.Listing.{listed-is}
+use Rattle.judge.proofs.KeptLines.{actionAt, put-map}
+
+-- no line stands before one that stands before it
+pub none-later : (clash : ℕ → ℕ → Bool) (x : ℕ) (ys : List ℕ) → ((y : ℕ) → member y ys ≡ true → y ≤ x) → meetsLater clash x ys ≡ false
+unfolding meetsLater
+none-later clash x [] h = refl
+none-later clash x (y ∷ ys) h =
+    rw (le-ltb x y (h y (member-first y ys))) (none-later clash x ys (λ z m. h z (member-more y ys z m)))
+
+-- a line that stands before all of some is met by none of them
+pub first-met : (clash : ℕ → ℕ → Bool) (xs : List ℕ) (y : ℕ) (ys : List ℕ) → ((x : ℕ) → member x xs ≡ true → y ≤ x) → meetings clash xs (y ∷ ys) ≡ meetings clash xs ys
+unfolding meetings meetsLater
+first-met clash [] y ys h = refl
+first-met clash (x ∷ xs) y ys h =
+    rw (le-ltb x y (h x (member-first x xs)), first-met clash xs y ys (λ z m. h z (member-more x xs z m)))
+
+-- a test that holds may be left out between two
+and-between : (a b : Bool) → ((a && true) && b) ≡ (a && b)
+and-between true b = refl
+and-between false b = refl
+
+-- line p is one of those that pass, and is of job j
+unfoldable pub ofJob : List ℕ → (ℕ → Bool) → ℕ → ℕ → Bool
+ofJob jobs f j p = f p && same (getD jobs p 0) j
+
+module _ (codes jobs cells : List ℕ) (f : ℕ → Bool) where
+  -- actions of two jobs conflict where their lines clash
+  clash-is : (p q : ℕ) → same (getD jobs p 0) (getD jobs q 0) ≡ false → conflicts (actionAt codes jobs cells p) (actionAt codes jobs cells q) ≡ clashing codes cells p q
+  unfolding conflicts actionAt actionBy clashing
+  clash-is p q h =
+      rw h
+      (and-between (same (getD cells p 0) (getD cells q 0)) (not (agree (kindBy (getD codes p 0)) (kindBy (getD codes q 0)))))
+
+  -- an action conflicts with a later one of job j where its line meets one of job j's
+  touches-is : (p j k m : ℕ) → p < k → same (getD jobs p 0) j ≡ false → touches (actionAt codes jobs cells p) j (map (actionAt codes jobs cells) (listed f k m)) ≡ meetsLater (clashing codes cells) p (listed (ofJob jobs f j) k m)
+  unfolding touches meetsLater listed ofJob keep put actionAt actionBy
+  touches-is p j k zero b e = refl
+  touches-is p j k (suc m) b e =
+      rw (put-map (actionAt codes jobs cells) (f k) k (listed f (suc k) m))
+      (by-test (f k)
+      (λ t. by-test (same (getD jobs k 0) j)
+      (λ u. rw (t, u, lt-ltb p k b)
+      (ap₂ (λ x y. x || y) (clash-is p k (rw (eqb-true (getD jobs k 0) j u) e)) (touches-is p j (suc k) m (omega arith) e)))
+      (λ u. rw (t, u) (touches-is p j (suc k) m (omega arith) e)))
+      (λ t. rw t (touches-is p j (suc k) m (omega arith) e)))
+
+  -- an edge goes from one job to another where a line of the one meets one of the other's
+  pub edge-is : (i j k m : ℕ) → same i j ≡ false → edge (map (actionAt codes jobs cells) (listed f k m)) i j ≡ meetings (clashing codes cells) (listed (ofJob jobs f i) k m) (listed (ofJob jobs f j) k m)
+  unfolding edge meetings listed ofJob keep put actionAt actionBy
+  edge-is i j k zero e = refl
+  edge-is i j k (suc m) e =
+      rw (put-map (actionAt codes jobs cells) (f k) k (listed f (suc k) m))
+      (by-test (f k)
+      (λ t. by-test (same (getD jobs k 0) i)
+      (λ u.
+      let other′ : same (getD jobs k 0) j ≡ false = rw (eqb-true (getD jobs k 0) i u) e in
+      rw (t, u, other′)
+      (ap₂ (λ x y. x || y) (touches-is k j (suc k) m (omega arith) other′) (edge-is i j (suc k) m e)))
+      (λ u. by-test (same (getD jobs k 0) j)
+      (λ v. rw (t, u, v) (edge-is i j (suc k) m e ∙ sym (first-met (clashing codes cells) (listed (ofJob jobs f i) (suc k) m) k (listed (ofJob jobs f j) (suc k) m) (λ x h. omega (arith, listed-is (ofJob jobs f i) (suc k) m x h .0)))))
+      (λ v. rw (t, u, v) (edge-is i j (suc k) m e))))
+      (λ t. rw t (edge-is i j (suc k) m e)))

@@ -1,0 +1,148 @@
+-- Scanning a text line by line: what is left decides as the whole does, and what is kept stands before what is left.
+-- Assumes nothing.
+use Prim.Native.Nat.{ℕ, _+_, _-_, _≤_, _<_}
+use mathlib.Core.Path.{_≡_, refl, sym, ap, _∙_}
+use mathlib.Core.Bool.{Bool, false}
+use mathlib.Core.List.{List, [], _∷_, _++_, append-assoc, append-nil}
+use mathlib.Core.Option.{none, some}
+use native.Mathlib.Numerals.{add-one}
+use native.Mathlib.Omega.{arith}
+use lib.ListN.{length, getD, set, drop, replicate, length-set, length-drop, getD-replicate, length-replicate, drop-of-length-le}
+use Rattle.terms.specs.declared.refusals.Refusal.{Refusal}
+use Rattle.terms.specs.Letters.{ofHistories}
+use Rattle.terms.specs.Limits.{judgedLines}
+use Rattle.conflict.specs.declared.action.Event.{Event}
+use Rattle.conflict.specs.Jobs.{member}
+use Rattle.text.specs.Lines.{readLine}
+use Rattle.text.specs.Split.{linesOf, used}
+use Rattle.text.proofs.Cutting.{used-within, used-some}
+use Rattle.text.proofs.TextLines.{lines-at}
+use Rattle.verdicts.specs.HistoryText.{lineFault, orLater, endedAfter, firstFaulty, eventOf, eventsIn}
+use Rattle.verdicts.specs.Arrays.{eventBy, historyBy}
+use Rattle.judge.specs.declared.scan.Looked.{Looked}
+use Rattle.judge.specs.declared.scan.Looked.the-variants.{Kept, Refused}
+use Rattle.judge.specs.Looked.{endsJob, lookedAt}
+use Rattle.judge.specs.Scanned.{bareEnd, Flagged, Clean, Spoilt}
+use Rattle.judge.proofs.BareLine.{part, bare-place}
+use Rattle.judge.proofs.Looking.{refused-fault, kept-fault}
+use Rattle.judge.proofs.Keeping.{kept-as}
+use Rattle.judge.proofs.KeptArrays.{history-more, named-more}
+
+-- n lines are kept, and from a place on the text is still to be scanned
+pub record Scanning (text codes jobs cells : List ℕ) (flags : List Bool) (n from : ℕ) : Type 0 where
+  pub within : n ≤ judgedLines
+  pub room : (length codes ≡ judgedLines) × (length jobs ≡ judgedLines) × (length cells ≡ judgedLines)
+  pub all-flags : length flags ≡ 256
+  pub ended : List ℕ
+  pub flagged : Flagged flags ended
+  pub goes-on : firstFaulty (n + 1) ended (linesOf (drop from text)) ≡ firstFaulty 1 [] (linesOf text)
+  pub says : historyBy codes jobs cells n ++ eventsIn (linesOf (drop from text)) ≡ eventsIn (linesOf text)
+  pub named : (p : ℕ) → p < n → getD jobs p 0 ≡ 0 → ⊥
+
+-- before the first line
+pub scanning-starts : (text codes jobs cells : List ℕ) → length codes ≡ judgedLines → length jobs ≡ judgedLines → length cells ≡ judgedLines →
+    Scanning text codes jobs cells (replicate 256 false) 0 0
+unfolding historyBy member
+scanning-starts text codes jobs cells h g k =
+    record {
+      within = omega arith;
+      room = (h, g, k);
+      all-flags = length-replicate 256 false;
+      ended = [];
+      flagged = λ j m. getD-replicate 256 j false false m;
+      goes-on = refl;
+      says = refl;
+      named = λ p m. absurd (omega arith);
+    }
+
+-- a line without a fault leaves the deciding to the lines after it
+past-line : (n : ℕ) (ended l : List ℕ) (ls : List (List ℕ)) → lineFault n ended l ≡ none →
+    firstFaulty (n + 1) (endedAfter ended (readLine ofHistories l)) ls ≡ firstFaulty n ended (l ∷ ls)
+unfolding firstFaulty orLater
+past-line n ended l ls e = rw (e, add-one)
+
+-- a line with a fault decides
+at-line : (n : ℕ) (ended l : List ℕ) (ls : List (List ℕ)) (why : Refusal) → lineFault n ended l ≡ some why →
+    firstFaulty n ended (l ∷ ls) ≡ some (record { number = n; why = why; bytes = l })
+unfolding firstFaulty orLater
+at-line n ended l ls why e = rw e
+
+-- all lines are scanned
+pub scanning-done : (text codes jobs cells : List ℕ) (flags : List Bool) (n from : ℕ) → Scanning text codes jobs cells flags n from → length text ≤ from → Clean text codes jobs cells n
+unfolding linesOf firstFaulty eventsIn
+scanning-done text codes jobs cells flags n from s h =
+    let e : drop from text ≡ [] = drop-of-length-le text h in
+    record {
+      faultless = sym (rw e at (s .goes-on));
+      within = s .within;
+      says = sym (append-nil (historyBy codes jobs cells n)) ∙ (rw e at (s .says));
+      named = s .named;
+    }
+
+-- the lines from a place on are the next one and those after it
+next-line : (text : List ℕ) (from to : ℕ) → from < length text → to ≡ from + used (drop from text) → linesOf (drop from text) ≡ part text from to ∷ linesOf (drop to text)
+next-line text from to h e =
+    let u : to - from ≡ used (drop from text) = omega arith in
+    rw (u, e) (lines-at text from h)
+
+-- the next line ends within the text
+pub line-within : (text : List ℕ) (from to : ℕ) → from < length text → to ≡ from + used (drop from text) → to ≤ length text
+line-within text from to h e = omega (arith, used-within (drop from text), length-drop from text)
+
+-- less of the text is left after it
+pub line-falls : (text : List ℕ) (from to : ℕ) → from < length text → to ≡ from + used (drop from text) → length text - to < length text - from
+line-falls text from to h e =
+    omega (arith, used-some (drop from text) (omega (arith, length-drop from text)), used-within (drop from text), length-drop from text)
+
+-- and it has a byte
+pub line-some : (text : List ℕ) (from to : ℕ) → from < length text → to ≡ from + used (drop from text) → 0 < to
+line-some text from to h e = omega (arith, line-falls text from to h e)
+
+-- the next line says one event, and then the others say theirs
+next-event : (l : List ℕ) (ls : List (List ℕ)) (v : Event) → eventOf (readLine ofHistories l) ≡ v ∷ [] → eventsIn (l ∷ ls) ≡ v ∷ eventsIn ls
+unfolding eventsIn
+next-event l ls v q = rw q
+
+module _ (text codes jobs cells : List ℕ) (flags : List Bool) (n from to : ℕ) (s : Scanning text codes jobs cells flags n from)
+    (h : from < length text) (e : to ≡ from + used (drop from text)) where
+  -- a line is kept, and scanning goes on after it
+  pub scanning-kept : (x : Looked) (code job cell : ℕ) (b : Bool) → x ≡ lookedAt (n + 1) flags (part text from to) → x ≡ Kept code job cell → b ≡ endsJob code →
+      Scanning text (set codes n code) (set jobs n job) (set cells n cell) (set flags job b) (n + 1) to
+  scanning-kept x code job cell b p g r =
+      let q : lookedAt (n + 1) flags (part text from to) ≡ Kept code job cell = sym p ∙ g in
+      let k = kept-as (n + 1) flags (s .ended) (part text from to) code job cell (s .all-flags) (s .flagged) q in
+      let f = kept-fault (n + 1) flags (s .ended) (part text from to) code job cell (s .flagged) q in
+      let less : n < judgedLines = omega arith in
+      record {
+        within = k .within;
+        room = (length-set codes n code ∙ s .room .0, length-set jobs n job ∙ s .room .1, length-set cells n cell ∙ s .room .2);
+        all-flags = length-set flags job b ∙ s .all-flags;
+        ended = endedAfter (s .ended) (readLine ofHistories (part text from to));
+        flagged = rw r (k .flagged);
+        goes-on = past-line (n + 1) (s .ended) (part text from to) (linesOf (drop to text)) f ∙ rw (← next-line text from to h e) (s .goes-on);
+        says =
+            rw (history-more codes jobs cells n code job cell (omega arith) (omega arith) (omega arith), append-assoc)
+            (ap (λ g. historyBy codes jobs cells n ++ g) (sym (next-event (part text from to) (linesOf (drop to text)) (eventBy code job cell) (k .event)))
+            ∙ rw (← next-line text from to h e) (s .says));
+        named = named-more jobs n job (omega arith) (k .some-job) (s .named);
+      }
+
+  -- there is room for it
+  pub kept-within : (x : Looked) (code job cell : ℕ) → x ≡ lookedAt (n + 1) flags (part text from to) → x ≡ Kept code job cell → n < judgedLines
+  kept-within x code job cell p g =
+      let k = kept-as (n + 1) flags (s .ended) (part text from to) code job cell (s .all-flags) (s .flagged) (sym p ∙ g) in
+      omega arith
+
+  -- a line is refused, and it is the first faulty one
+  pub scanning-refused : (x : Looked) (why : Refusal) (bare-to : ℕ) → x ≡ lookedAt (n + 1) flags (part text from to) → x ≡ Refused why → bare-to ≡ bareEnd text to → Spoilt text (n + 1) why from bare-to
+  scanning-refused x why bare-to q g r =
+      let p = bare-place text from to h e in
+      record {
+        line = part text from to;
+        first =
+            sym (s .goes-on) ∙ rw (next-line text from to h e)
+            (at-line (n + 1) (s .ended) (part text from to) (linesOf (drop to text)) why (refused-fault (n + 1) flags (s .ended) (part text from to) why (s .flagged) (sym q ∙ g)));
+        ordered = rw r (p .from-on);
+        within = rw r (p .within);
+        place = rw r (p .place);
+      }

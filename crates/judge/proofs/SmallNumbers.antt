@@ -1,0 +1,85 @@
+-- The judge's verdict has small numbers: no order or knot is longer than the history, and no line number is above 4,097.
+-- Assumes nothing.
+use Prim.Native.Nat.{ℕ, suc, _≤_}
+use mathlib.Core.Path.{_≡_, refl, sym, _∙_}
+use mathlib.Core.Bool.{Bool, true, false}
+use mathlib.Core.List.{List, [], _∷_}
+use mathlib.Core.Option.{Option, none, some}
+use native.Mathlib.Omega.{arith}
+use lib.Dec.{ltb}
+use lib.ListN.{length}
+use Rattle.laws.specs.Choice.{by-test}
+use Rattle.terms.specs.Limits.{judgedJobs, judgedLines}
+use Rattle.conflict.specs.declared.action.Event.the-variants.{Does, Ends}
+use Rattle.conflict.specs.Jobs.{same}
+use Rattle.conflict.specs.History.{History, isCommit, put, commitOrder}
+use Rattle.text.specs.Split.{linesOf}
+use Rattle.verdicts.specs.Judged.{orderly, knotted, insert, sorted, jobsOf, verdictOf}
+use Rattle.verdicts.specs.HistoryText.{Faulty, firstFaulty, eventsIn}
+use Rattle.verdicts.specs.Judgement.{sayVerdict, sayLines, judgementOf}
+use Rattle.verdicts.proofs.Walking.{no-more}
+use Rattle.verdicts.proofs.Deciding.{by-verdict}
+use Rattle.verdicts.proofs.Histories.{jobs-committed, order-once, order-names, knot-shows}
+use Rattle.judge.specs.Judged.{Small}
+use Rattle.judge.proofs.FewLines.{lines-few, number-few, events-few}
+
+-- one more job in its place is at most one more
+insert-few : (j : ℕ) (ks : List ℕ) → length (insert j ks) ≤ suc (length ks)
+unfolding insert
+insert-few j [] = omega arith
+insert-few j (k ∷ ks) =
+    by-test (ltb j k) (λ t. rw t (omega arith))
+    (λ f. by-test (same j k) (λ t. rw (f, t) (omega arith)) (λ g. rw (f, g) (omega (arith, insert-few j ks))))
+
+-- the jobs in order are at most as many as were named
+sorted-few : (js : List ℕ) → length (sorted js) ≤ length js
+unfolding sorted
+sorted-few [] = omega arith
+sorted-few (j ∷ js) = omega (arith, insert-few j (sorted js), sorted-few js)
+
+-- a job is put in front, or it is not
+put-few : (b : Bool) (i : ℕ) (js : List ℕ) → length (put b i js) ≤ suc (length js)
+unfolding put
+put-few true i js = omega arith
+put-few false i js = omega arith
+
+-- a history has at most as many commits as lines
+commits-few : (h : History) → length (commitOrder h) ≤ length h
+unfolding commitOrder
+commits-few [] = omega arith
+commits-few (Does a ∷ h) = omega (arith, commits-few h)
+commits-few (Ends m i ∷ h) = omega (arith, put-few (isCommit m) i (commitOrder h), commits-few h)
+
+-- and at most as many committed jobs
+pub jobs-few : (h : History) → length (jobsOf h) ≤ length h
+unfolding jobsOf
+jobs-few h = omega (arith, sorted-few (commitOrder h), commits-few h)
+
+-- an order is no longer than the history
+order-few : (h : History) (order : List ℕ) → verdictOf h ≡ orderly order → length order ≤ length h
+order-few h order e =
+    omega (arith, jobs-few h, no-more order (jobsOf h) (order-once h order e) (λ j m. jobs-committed h j ∙ sym (order-names h order e j) ∙ m))
+
+-- a knot is no longer than the history
+knot-few : (h : History) (js : List ℕ) → verdictOf h ≡ knotted js → length js ≤ length h
+knot-few h js e = let k = knot-shows h js e in omega (arith, jobs-few h, no-more js (jobsOf h) (k .once) (k .only))
+
+-- what is said of a short history has small numbers
+pub verdict-small : (buffer : List ℕ) (h : History) → length h ≤ judgedLines → Small (sayVerdict buffer (verdictOf h) .said)
+unfolding sayVerdict
+verdict-small buffer h few =
+    by-verdict (verdictOf h)
+    (λ order q. rw q (omega (arith, order-few h order q)))
+    (λ js q. rw q (omega (arith, knot-few h js q)))
+
+-- and so has what is said of lines
+lines-small : (buffer : List ℕ) (ls : List (List ℕ)) (o : Option Faulty) → firstFaulty 1 [] ls ≡ o → Small (sayLines buffer ls o .said)
+unfolding sayLines
+lines-small buffer ls none e = verdict-small buffer (eventsIn ls) (omega (arith, events-few ls, lines-few 1 [] ls (omega arith) e))
+lines-small buffer ls (some f) e = omega (arith, number-few 1 [] ls f (omega arith) e)
+
+-- every verdict of the judge has small numbers
+pub judgement-small : (text buffer : List ℕ) → Small (judgementOf text buffer .said)
+unfolding judgementOf
+judgement-small text buffer =
+    by-test (ltb (length buffer) judgedJobs) (λ t. rw t (omega arith)) (λ f. rw f (lines-small buffer (linesOf text) (firstFaulty 1 [] (linesOf text)) refl))

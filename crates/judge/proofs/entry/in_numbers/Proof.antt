@@ -1,0 +1,55 @@
+-- `judge::entry::in_numbers` meets its contract: each case has its numbers, and they fit.
+-- Assumes nothing.
+use Rattle.judge.proofs.Numbered.{orderly-fits, knot-fits, line-fits, orderly-numbers, knot-numbers, refusal-numbers}
+use borrow.Author.Needs.{needs}
+use Rattle.judge.proofs.entry.in_numbers.Statement.{statement}
+use Rattle.judge.proofs.entry.in_numbers.Tie as tie
+
+enum-known-said : tie.Need-enum-known-said
+enum-known-said c = search needs
+
+cast-t7 : tie.Need-cast-t7
+cast-t7 c = search orderly-fits
+
+enum-known-said-2 : tie.Need-enum-known-said-2
+enum-known-said-2 c = search needs
+
+cast-t8 : tie.Need-cast-t8
+cast-t8 c = search knot-fits
+
+enum-known-said-3 : tie.Need-enum-known-said-3
+enum-known-said-3 c = search needs
+
+number-of-requires : tie.Need-number-of-requires
+number-of-requires c κs = search needs
+
+cast-t10 : tie.Need-cast-t10
+cast-t10 c = search needs
+
+cast-t11 : tie.Need-cast-t11
+cast-t11 c = search line-fits
+
+returns : tie.Need-returns
+returns c = search orderly-numbers
+
+returns-2 : tie.Need-returns-2
+returns-2 c = search knot-numbers
+
+returns-3 : tie.Need-returns-3
+returns-3 c = search refusal-numbers
+
+pub in-numbers-spec : {M : Type 1} → statement M
+in-numbers-spec =
+    tie.close
+    (tie.spec
+    enum-known-said
+    cast-t7
+    enum-known-said-2
+    cast-t8
+    enum-known-said-3
+    number-of-requires
+    cast-t10
+    cast-t11
+    returns
+    returns-2
+    returns-3)

@@ -1,0 +1,32 @@
+-- What of a history's lines counts, said of the arrays that keep it: which jobs have a c, from which line on each job's actions count, and whose action each line is (01, The judge's rules).
+use Prim.Native.Nat.{ℕ, zero, suc, _<_}
+use mathlib.Core.Path.{_≡_}
+use mathlib.Core.Bool.{Bool, true, false, _&&_, _||_}
+use mathlib.Core.List.{List}
+use lib.Dec.{eqb, ltb, leb}
+use lib.ListN.{getD}
+use Rattle.laws.specs.Choice.{pick}
+use Rattle.conflict.specs.Jobs.{same}
+
+-- whether job j has a c among the first n lines
+unfoldable pub hasCommit : List ℕ → List ℕ → ℕ → ℕ → Bool
+hasCommit codes jobs zero j = false
+hasCommit codes jobs (suc p) j = (same (getD jobs p 0) j && eqb (getD codes p 0) 3) || hasCommit codes jobs p j
+
+-- the line from which job j's actions count: the one after its last k among the first n lines, or the first
+unfoldable pub countedFrom : List ℕ → List ℕ → ℕ → ℕ → ℕ
+countedFrom codes jobs zero j = 0
+countedFrom codes jobs (suc p) j = pick (same (getD jobs p 0) j && ltb 4 (getD codes p 0)) (suc p) (countedFrom codes jobs p j)
+
+-- the job whose action line p is, if it is an action and stands where that job's count, and else 0
+unfoldable pub ownerAt : List ℕ → List ℕ → List ℕ → ℕ → ℕ
+ownerAt codes jobs since p = pick (ltb (getD codes p 0) 3) (pick (leb (getD since (getD jobs p 0) 0) p) (getD jobs p 0) 0) 0
+
+-- the owners of the first n lines; those behind have none
+unfoldable pub ownersBy : List ℕ → List ℕ → List ℕ → ℕ → ℕ → ℕ
+ownersBy codes jobs since n p = pick (ltb p n) (ownerAt codes jobs since p) 0
+
+-- the jobs of the first n lines are 1 to 255 (01, refusal 12)
+pub record ByteJobs (jobs : List ℕ) (n : ℕ) : Type 0 where
+  pub bytes : (p : ℕ) → p < n → getD jobs p 0 < 256
+  pub given : (p : ℕ) → p < n → getD jobs p 0 ≡ 0 → ⊥

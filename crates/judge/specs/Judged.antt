@@ -1,0 +1,23 @@
+-- What the judge finds before it is handed out: the judgement, with the place of the line handed back in the text (01, Lines).
+use Prim.Native.Nat.{ℕ, _-_, _^_, _≤_, _<_}
+use mathlib.Core.Path.{_≡_}
+use mathlib.Core.List.{List}
+use lib.ListN.{length, take, drop}
+use Rattle.verdicts.specs.declared.verdict.Verdict.{Verdict}
+use Rattle.verdicts.specs.declared.verdict.Verdict.the-variants.{Orderly, Knot, No}
+use Rattle.verdicts.specs.Judgement.{judgementOf}
+use Rattle.judge.specs.declared.entry.Judged.{Judged}
+
+-- the numbers of a verdict are small enough for three places of 32 bits
+abbrev pub Small : Verdict → Type 0
+Small (Orderly n) = n < 2 ^ 32
+Small (Knot n) = n < 2 ^ 32
+Small (No line why) = line < 2 ^ 32
+
+-- what is found of a text and a buffer is the judgement, and the line handed back stands in the text
+pub record JudgedAs (text before after : List ℕ) (r : Judged) : Type 0 where
+  pub said-is : r .said ≡ judgementOf text before .said
+  pub order-is : after ≡ judgementOf text before .order
+  pub ordered : r .from ≤ r .to
+  pub within : r .to ≤ length text
+  pub place : take (r .to - r .from) (drop (r .from) text) ≡ judgementOf text before .line

@@ -1,0 +1,9 @@
+pub mod Looked
+pub mod Scanned
+pub mod Judged
+pub mod Lists
+pub mod Counted
+pub mod Meeting
+pub mod Grouped
+pub mod Left
+pub mod Rounds

@@ -1,0 +1,46 @@
+-- What scanning a history text tells: its history as three arrays keep it, or its first faulty line (01, Refusals by number).
+use Prim.Native.Nat.{ℕ, _-_, _≤_, _<_}
+use mathlib.Core.Path.{_≡_}
+use mathlib.Core.Bool.{Bool, false}
+use mathlib.Core.List.{List, []}
+use mathlib.Core.Option.{none, some}
+use lib.Dec.{eqb}
+use lib.ListN.{length, getD, take, drop}
+use Rattle.laws.specs.Choice.{pick}
+use Rattle.terms.specs.declared.refusals.Refusal.{Refusal}
+use Rattle.terms.specs.Words.{newline}
+use Rattle.terms.specs.Limits.{judgedLines}
+use Rattle.conflict.specs.Jobs.{member}
+use Rattle.text.specs.Split.{linesOf}
+use Rattle.verdicts.specs.HistoryText.{firstFaulty, eventsIn, bare}
+use Rattle.verdicts.specs.Arrays.{historyBy}
+use Rattle.judge.specs.declared.scan.Scanned.{Scanned}
+use Rattle.judge.specs.declared.scan.Scanned.the-variants.{Faultless, Faulty}
+
+-- the place after a line's last byte that is no newline, where the line ends before a place
+unfoldable pub bareEnd : List ℕ → ℕ → ℕ
+bareEnd text to = pick (eqb (getD text (to - 1) 0) newline) (to - 1) to
+
+-- the flags of jobs 0 to 255 say which have committed or given up
+abbrev pub Flagged : List Bool → List ℕ → Type 0
+Flagged flags ended = (j : ℕ) → j < 256 → getD flags j false ≡ member j ended
+
+-- no line is faulty, and the arrays keep what the lines say
+pub record Clean (text codes jobs cells : List ℕ) (n : ℕ) : Type 0 where
+  pub faultless : firstFaulty 1 [] (linesOf text) ≡ none
+  pub within : n ≤ judgedLines
+  pub says : historyBy codes jobs cells n ≡ eventsIn (linesOf text)
+  pub named : (p : ℕ) → p < n → getD jobs p 0 ≡ 0 → ⊥
+
+-- the first faulty line, with its place in the text
+pub record Spoilt (text : List ℕ) (number : ℕ) (why : Refusal) (from to : ℕ) : Type 0 where
+  pub line : List ℕ
+  pub first : firstFaulty 1 [] (linesOf text) ≡ some (record { number = number; why = why; bytes = line })
+  pub ordered : from ≤ to
+  pub within : to ≤ length text
+  pub place : take (to - from) (drop from text) ≡ bare line
+
+-- what is told of a text, with the arrays beside it
+abbrev pub ScannedAs : List ℕ → List ℕ → List ℕ → List ℕ → Scanned → Type 0
+ScannedAs text codes jobs cells (Faultless n) = Clean text codes jobs cells n
+ScannedAs text codes jobs cells (Faulty number why from to) = Spoilt text number why from to

@@ -1,0 +1,90 @@
+// The judge's two entries: one tells the verdict, and one hands back the faulty line too, with the verdict in three numbers (01, The judge's rules).
+use crate::decide::decide;
+use crate::scan::Scanned;
+use crate::scan::scan;
+use terms::limits::JUDGED_JOBS;
+use terms::limits::JUDGED_LINES;
+use terms::refusals::Refusal;
+use terms::refusals::number_of;
+use verdicts::verdict::Verdict;
+ghost use mathlib.Core.Path.{_≡_};
+ghost use Rattle.verdicts.specs.Judgement.{judgementOf, inNumbers};
+ghost use Rattle.judge.specs.Judged.{Small, JudgedAs};
+
+// What is said, and where in the text the line handed back stands; at the text's start and empty where no line is.
+struct Judged {
+    said: Verdict,
+    from: usize,
+    to: usize,
+}
+
+// The verdict on a text, with the place of the faulty line: 14 first, then the lines in order, then what they say.
+fn judgement(text: &[u8], order: &mut [u8]) -> Judged
+    ensures { λ r. ⌜ JudgedAs (now (text .entry)) (now (order .entry)) (now (order .exit)) r ⌝ }
+{
+    if order.len() < JUDGED_JOBS {
+        return Judged {
+            said: Verdict::No {
+                line: 0,
+                why: Refusal::ShortOrder,
+            },
+            from: 0,
+            to: 0,
+        };
+    }
+    let mut codes = [0u8; JUDGED_LINES];
+    let mut jobs = [0u8; JUDGED_LINES];
+    let mut cells = [0u8; JUDGED_LINES];
+    match scan(text, &mut codes, &mut jobs, &mut cells) {
+        Scanned::Faultless(n) => {
+            let said = decide(&codes, &jobs, &cells, n, order);
+            Judged {
+                said,
+                from: 0,
+                to: 0,
+            }
+        }
+        Scanned::Faulty {
+            line,
+            why,
+            from,
+            to,
+        } => Judged {
+            said: Verdict::No { line, why },
+            from,
+            to,
+        },
+    }
+}
+
+// A verdict in three numbers.
+fn in_numbers(said: Verdict) -> [u32; 3]
+    requires { ⌜ Small said ⌝ }
+    ensures { λ r. ⌜ r ≡ inNumbers said ⌝ }
+{
+    match said {
+        Verdict::Orderly(n) => [0, n as u32, 0],
+        Verdict::Knot(n) => [1, n as u32, 0],
+        Verdict::No { line, why } => [2, number_of(why) as u32, line as u32],
+    }
+}
+
+// The verdict on a history text. The order or the knot fills the first places of the buffer, and the rest stay; after a refusal all stay.
+pub fn judge_text(text: &[u8], order: &mut [u8]) -> Verdict
+    ensures { λ r. ⌜ (r ≡ judgementOf (now (text .entry)) (now (order .entry)) .said) × (now (order .exit) ≡ judgementOf (now (text .entry)) (now (order .entry)) .order) ⌝ }
+{
+    let found = judgement(text, order);
+    found.said
+}
+
+// The same with the verdict in three numbers, and the faulty line handed back as it stands in the text, without its newline; an empty part where none is faulty.
+pub fn judge<'a>(text: &'a [u8], order: &mut [u8], answer: &mut [u32; 3]) -> &'a [u8]
+    ensures { λ r. ⌜ (now r ≡ judgementOf (now (text .entry)) (now (order .entry)) .line) × (now (order .exit) ≡ judgementOf (now (text .entry)) (now (order .entry)) .order) × (now (answer .exit) ≡ inNumbers (judgementOf (now (text .entry)) (now (order .entry)) .said)) ⌝ }
+{
+    let found = judgement(text, order);
+    let said = found.said;
+    let from = found.from;
+    let to = found.to;
+    *answer = in_numbers(said);
+    &text[from..to]
+}

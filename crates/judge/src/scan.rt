@@ -1,0 +1,143 @@
+// The scanning half of the judge: the lines of a history text in order, what each says kept as three numbers, up to the first faulty one (01, Refusals by number).
+use terms::letters::Ask;
+use terms::letters::Letter;
+use terms::limits::CELLS;
+use terms::limits::JUDGED_JOBS;
+use terms::limits::JUDGED_LINES;
+use terms::refusals::Refusal;
+use terms::words::NEWLINE;
+use text::reader::Reading;
+use text::reader::read_history;
+use text::splitter::line_end;
+ghost use mathlib.Core.Path.{_≡_};
+ghost use Prim.Native.Nat.{_≤_, _<_};
+ghost use lib.ListN.{length};
+ghost use Rattle.terms.specs.Limits.{judgedLines};
+ghost use Rattle.judge.specs.Looked.{codeOf, endsJob, lookedGood, lookedAt};
+ghost use Rattle.judge.specs.Scanned.{bareEnd, ScannedAs};
+
+// What a line says, as it is kept: a number for read, write, increment, commit, give-up and sent back, the job, and the cell; or why the line is refused.
+pub enum Looked {
+    Kept { code: u8, job: u8, cell: u8 },
+    Refused(Refusal),
+}
+
+// How many lines are kept of a history without a fault; or the first faulty line: its number, its refusal, and its place in the text without its newline.
+pub enum Scanned {
+    Faultless(usize),
+    Faulty {
+        line: usize,
+        why: Refusal,
+        from: usize,
+        to: usize,
+    },
+}
+
+// The number that is kept for a letter of a history.
+fn code_of(l: Letter) -> u8
+    ensures { λ r. ⌜ r ≡ codeOf l ⌝ }
+{
+    match l {
+        Letter::Begin => 5,
+        Letter::Commit => 3,
+        Letter::GiveUp => 4,
+        Letter::Retry => 5,
+        Letter::Back => 5,
+        Letter::Asks(a) => match a {
+            Ask::Read => 0,
+            Ask::Write => 1,
+            Ask::Increment => 2,
+        },
+    }
+}
+
+// Whether no line of its job may follow: after a commit and a give-up.
+fn ends_job(code: u8) -> bool
+    ensures { λ r. ⌜ r ≡ endsJob code ⌝ }
+{
+    code == 3 || code == 4
+}
+
+// A good line, given the jobs that have committed or given up: 12, then 2, then 13. A letter without a cell is read with cell 0.
+fn look_good(ended: &[bool; 256], letter: Letter, job: u32, cell: u32) -> Looked
+    ensures { λ r. ⌜ r ≡ lookedGood (now (ended .entry)) letter job cell ⌝ }
+{
+    if job == 0 {
+        return Looked::Refused(Refusal::JobOutside);
+    }
+    if job as usize > JUDGED_JOBS {
+        return Looked::Refused(Refusal::JobOutside);
+    }
+    if cell >= CELLS {
+        return Looked::Refused(Refusal::CellAbove);
+    }
+    if ended[job as usize] {
+        return Looked::Refused(Refusal::Ended);
+    }
+    Looked::Kept {
+        code: code_of(letter),
+        job: job as u8,
+        cell: cell as u8,
+    }
+}
+
+// Line n of a history, given the jobs that have committed or given up: 11, then 9, then what a good line has.
+fn look(line: &[u8], n: usize, ended: &[bool; 256]) -> Looked
+    ensures { λ r. ⌜ r ≡ lookedAt n (now (ended .entry)) (now (line .entry)) ⌝ }
+{
+    if n > JUDGED_LINES {
+        return Looked::Refused(Refusal::TooManyLines);
+    }
+    match read_history(line) {
+        Reading::Good { letter, job, cell } => look_good(ended, letter, job, cell),
+        Reading::Bad => Looked::Refused(Refusal::BadLine),
+    }
+}
+
+// Where a line that ends before a place has its last byte that is no newline, and one more: the place itself, or the newline's.
+fn bare_end(text: &[u8], to: usize) -> usize
+    requires { ⌜ (0 < to) × (to ≤ length (now text)) ⌝ }
+    ensures { λ r. ⌜ r ≡ bareEnd (now (text .entry)) to ⌝ }
+{
+    let last = to - 1;
+    if text[last] == NEWLINE { last } else { to }
+}
+
+// The lines of a text in order, what they say put into three lent arrays, up to the first faulty line. That each array has its length is said since a clause sees a list.
+pub fn scan(
+    text: &[u8],
+    codes: &mut [u8; JUDGED_LINES],
+    jobs: &mut [u8; JUDGED_LINES],
+    cells: &mut [u8; JUDGED_LINES],
+) -> Scanned
+    requires { ⌜ (length (now codes) ≡ judgedLines) × (length (now jobs) ≡ judgedLines) × (length (now cells) ≡ judgedLines) ⌝ }
+    ensures { λ r. ⌜ ScannedAs (now (text .entry)) (now (codes .exit)) (now (jobs .exit)) (now (cells .exit)) r ⌝ }
+{
+    let mut ended = [false; 256];
+    let mut n: usize = 0;
+    let mut from: usize = 0;
+    while from < text.len() {
+        let line = n + 1;
+        let to = line_end(text, from);
+        match look(&text[from..to], line, &ended) {
+            Looked::Kept { code, job, cell } => {
+                codes[n] = code;
+                jobs[n] = job;
+                cells[n] = cell;
+                ended[job as usize] = ends_job(code);
+            }
+            Looked::Refused(why) => {
+                let bare = bare_end(text, to);
+                return Scanned::Faulty {
+                    line,
+                    why,
+                    from,
+                    to: bare,
+                };
+            }
+        }
+        n = line;
+        from = to;
+    }
+    Scanned::Faultless(n)
+}

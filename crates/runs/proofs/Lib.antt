@@ -1,0 +1,12 @@
+pub mod Turns
+pub mod Ends
+pub mod Unique
+pub mod Tellings
+pub mod Portions
+pub mod Records
+pub mod OneCall
+pub mod Progress
+pub mod LastLine
+pub mod AnyCourse
+pub mod WholeProgram
+pub mod BoardIsPaper

@@ -1,0 +1,4 @@
+pub mod Run
+pub mod Programs
+pub mod Work
+pub mod Callers

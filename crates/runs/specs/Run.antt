@@ -1,0 +1,132 @@
+-- The run of a desk over lines of text: one definition, of which the answers and the history are two views (01, Lines).
+use Prim.Native.Nat.{ℕ, zero, suc, _+_}
+use mathlib.Core.Bool.{Bool}
+use mathlib.Core.List.{List, [], _∷_, _++_}
+use lib.Dec.{ltb}
+use Rattle.laws.specs.Choice.{pick}
+use Rattle.terms.specs.declared.letters.Ask.{Ask}
+use Rattle.terms.specs.declared.letters.Ask.the-variants.{Read as asks-read, Write as asks-write, Increment as asks-increment}
+use Rattle.terms.specs.declared.letters.Letter.{Letter}
+use Rattle.terms.specs.declared.letters.Letter.the-variants.{Commit as commit, GiveUp as give-up, Back as sent-back, Asks}
+use Rattle.terms.specs.declared.words.Word.{Word}
+use Rattle.terms.specs.declared.words.Word.the-variants.{Go, Wait, Back, No, Wake}
+use Rattle.terms.specs.declared.refusals.Refusal.the-variants.{BadLine}
+use Rattle.terms.specs.Letters.{byteOf, ofRequests}
+use Rattle.terms.specs.Refusals.{numberOf}
+use Rattle.terms.specs.Limits.{requestLines}
+use Rattle.conflict.specs.declared.action.Kind.{Kind}
+use Rattle.conflict.specs.declared.action.Kind.the-variants.{Read, Write, Increment}
+use Rattle.conflict.specs.declared.action.Action.{Action}
+use Rattle.conflict.specs.declared.action.Mark.{Mark}
+use Rattle.conflict.specs.declared.action.Mark.the-variants.{Commit, GiveUp, Back as goes-back}
+use Rattle.conflict.specs.declared.action.Event.{Event}
+use Rattle.conflict.specs.declared.action.Event.the-variants.{Does, Ends}
+use Rattle.conflict.specs.History.{History}
+use Rattle.text.specs.declared.reader.Reading.{Reading}
+use Rattle.text.specs.declared.reader.Reading.the-variants.{Good, Bad}
+use Rattle.text.specs.Lines.{readLine}
+use Rattle.text.specs.Records.{answerRecord, lineRecord}
+use Rattle.rules.specs.declared.Answer.{Answer}
+use Rattle.rules.specs.declared.Answer.the-variants.{Go as goes, Wait as waits, Back as back, No as refuses}
+use Rattle.rules.specs.Desk.{Request}
+use Rattle.rules.specs.Step.{recordsOf}
+
+-- what a step of some desk leaves and says
+pub record Stepped (S : Type 0) : Type 0 where
+  pub desk : S
+  pub said : Answer
+  pub wakes : List Action
+
+-- a desk is anything that takes requests by numbers, one step at a time
+abbrev pub Stepping : Type 0 → Type 0
+Stepping S = S → Request → Stepped S
+
+-- what is known of one line when it has been answered: its number, the request that it says, the answer and the wakes
+pub record Told : Type 0 where
+  pub line : ℕ
+  pub request : Request
+  pub said : Answer
+  pub wakes : List Action
+
+-- the request of a line that says none
+unfoldable pub noRequest : Request
+noRequest = record { kind = 0; job = 0; cell = 0 }
+
+-- a line's answer, and the desk after it
+pub record Lined (S : Type 0) : Type 0 where
+  pub desk : S
+  pub told : Told
+
+-- a bad line is answered by refusal 9, and the desk does not see it; a good one is a step
+unfoldable pub answered : {S : Type 0} → Stepping S → S → ℕ → Reading → Lined S
+answered step d n Bad = record { desk = d; told = record { line = n; request = noRequest; said = refuses BadLine; wakes = [] } }
+answered step d n (Good l job cell) =
+    let r : Request = record { kind = byteOf l; job = job; cell = cell } in
+    let o = step d r in
+    record { desk = o .desk; told = record { line = n; request = r; said = o .said; wakes = o .wakes } }
+
+-- line n answered
+unfoldable pub lineBy : {S : Type 0} → Stepping S → S → ℕ → List ℕ → Lined S
+lineBy step d n bytes = answered step d n (readLine ofRequests bytes)
+
+-- the run over lines numbered from n on; after 1,000,000 lines nothing is read (01, Lines)
+unfoldable pub runOf : {S : Type 0} → Stepping S → S → ℕ → List (List ℕ) → List Told
+runOf step d n [] = []
+runOf step d n (l ∷ ls) =
+    let o = lineBy step d n l in
+    let rest = runOf step (o .desk) (n + 1) ls in
+    pick (ltb requestLines n) [] (o .told ∷ rest)
+
+-- the word of an answer
+unfoldable pub wordOf : Answer → Word
+wordOf (goes j) = Go
+wordOf (waits j) = Wait
+wordOf (back j) = Back
+wordOf (refuses why) = No
+
+-- the number beside it: the job, or the refusal's number (01, Lines)
+unfoldable pub numberBeside : Answer → ℕ
+numberBeside (goes j) = j
+numberBeside (waits j) = j
+numberBeside (back j) = j
+numberBeside (refuses why) = numberOf why
+
+-- one wake record for each wake (01, Lines)
+unfoldable pub wakeLines : ℕ → List Action → List ℕ
+wakeLines n [] = []
+wakeLines n (a ∷ rest) = answerRecord n Wake (a .job) ++ wakeLines n rest
+
+-- the answer records of a line: its answer, then its wakes (01, Lines)
+unfoldable pub answerLines : Told → List ℕ
+answerLines t = answerRecord (t .line) (wordOf (t .said)) (numberBeside (t .said)) ++ wakeLines (t .line) (t .wakes)
+
+-- the letter of a recorded kind
+unfoldable pub askBy : Kind → Ask
+askBy Read = asks-read
+askBy Write = asks-write
+askBy Increment = asks-increment
+
+-- the letter of a mark
+unfoldable pub markLetter : Mark → Letter
+markLetter Commit = commit
+markLetter GiveUp = give-up
+markLetter goes-back = sent-back
+
+-- the record of an event (01, Lines)
+unfoldable pub eventLine : Event → List ℕ
+eventLine (Does a) = lineRecord (Asks (askBy (a .kind))) (a .job) (a .cell)
+eventLine (Ends m j) = lineRecord (markLetter m) j 0
+
+-- the records of events, one after another
+unfoldable pub eventLines : History → List ℕ
+eventLines [] = []
+eventLines (e ∷ h) = eventLine e ++ eventLines h
+
+-- the history records of a line: those of its step (01, Lines)
+unfoldable pub historyLines : Told → List ℕ
+historyLines t = eventLines (recordsOf (t .request) (t .said) (t .wakes))
+
+-- what is written of a run, in either view
+unfoldable pub written : (Told → List ℕ) → List Told → List ℕ
+written view [] = []
+written view (t ∷ ts) = view t ++ written view ts

@@ -1,0 +1,87 @@
+-- The paper's starred samples S1 to S9: program, input text, output text (01, Samples to hold it against).
+use Prim.Native.Nat.{ℕ}
+use Prim.Native.Char.{code}
+use Prim.Native.String.{String, [] as none, _∷_ as _then_}
+use mathlib.Core.List.{List, [], _∷_}
+use Rattle.runs.specs.Programs.{answersOf, historyOf, verdictOf}
+
+-- the bytes of a quoted text
+unfoldable pub bytes : String → List ℕ
+bytes none = []
+bytes (c then s) = code c ∷ bytes s
+
+-- the three programs (01, What is delivered)
+pub data Program : Type 0 where
+  answers : Program
+  history : Program
+  verdict : Program
+
+-- what a program writes, given a text
+unfoldable pub writes : Program → List ℕ → List ℕ
+writes answers = answersOf
+writes history = historyOf
+writes verdict = verdictOf
+
+-- a sample
+pub record Sample : Type 0 where
+  pub program : Program
+  pub input : String
+  pub output : String
+
+-- the input lines of S1
+abbrev pub S1 : String
+S1 = "b\nb\nr\t2\t5\nw\t1\t5\nw\t2\t5\nr\t1\t5\nc\t2\nr\t2\t5\nc\t1\n"
+
+-- the history of S1
+abbrev pub S1-history : String
+S1-history = "r\t2\t5\nw\t2\t5\nc\t2\nw\t1\t5\nc\t1\n"
+
+-- the starred samples, S1 to S9; jobs are begun first, cell 5 unless said
+abbrev pub samples : List Sample
+samples =
+    -- S1, whole
+    record {
+      program = answers;
+      input = S1;
+      output = "1\tgo\t1\n2\tgo\t2\n3\tgo\t2\n4\twait\t1\n5\tgo\t2\n6\tno\t4\n7\tgo\t2\n7\twake\t1\n8\tno\t3\n9\tgo\t1\n";
+    }
+    ∷ record { program = history; input = S1; output = S1-history }
+    ∷ record { program = verdict; input = S1-history; output = "orderly\t2\t1\n" }
+    -- S2: job 1 reads, job 2 writes: back 2
+    ∷ record { program = answers; input = "b\nb\nr\t1\t5\nw\t2\t5\n"; output = "1\tgo\t1\n2\tgo\t2\n3\tgo\t1\n4\tback\t2\n" }
+    -- S3: jobs 1 and 2 read; 1 writes: wait 1; 2 writes: back 2, wake 1
+    ∷ record {
+      program = answers;
+      input = "b\nb\nr\t1\t5\nr\t2\t5\nw\t1\t5\nw\t2\t5\n";
+      output = "1\tgo\t1\n2\tgo\t2\n3\tgo\t1\n4\tgo\t2\n5\twait\t1\n6\tback\t2\n6\twake\t1\n";
+    }
+    -- S4: jobs 1 and 2 increment: both go; 1 reads: wait; commit 2: wake 1
+    ∷ record {
+      program = answers;
+      input = "b\nb\ni\t1\t5\ni\t2\t5\nr\t1\t5\nc\t2\n";
+      output = "1\tgo\t1\n2\tgo\t2\n3\tgo\t1\n4\tgo\t2\n5\twait\t1\n6\tgo\t2\n6\twake\t1\n";
+    }
+    -- S5: job 3 reads, 2 writes: wait, 1 reads: wait, 4 reads: back. Commit 3 wakes 2 alone; commit 2 wakes 1
+    ∷ record {
+      program = answers;
+      input = "b\nb\nb\nb\nr\t3\t5\nw\t2\t5\nr\t1\t5\nr\t4\t5\nc\t3\nc\t2\n";
+      output = "1\tgo\t1\n2\tgo\t2\n3\tgo\t3\n4\tgo\t4\n5\tgo\t3\n6\twait\t2\n7\twait\t1\n8\tback\t4\n9\tgo\t3\n9\twake\t2\n10\tgo\t2\n10\twake\t1\n";
+    }
+    -- S6: document 002, example 18.7
+    ∷ record {
+      program = verdict;
+      input = "r\t2\t0\nr\t1\t1\nw\t2\t0\nr\t3\t0\nw\t1\t1\nw\t3\t0\nr\t2\t1\nw\t2\t1\nc\t1\nc\t2\nc\t3\n";
+      output = "orderly\t1\t2\t3\n";
+    }
+    -- S7: its example 18.9
+    ∷ record {
+      program = verdict;
+      input = "r\t2\t0\nr\t1\t1\nw\t2\t0\nr\t2\t1\nr\t3\t0\nw\t1\t1\nw\t3\t0\nw\t2\t1\nc\t1\nc\t2\nc\t3\n";
+      output = "knot\t1\t2\n";
+    }
+    -- S8: document 001's history H1
+    ∷ record { program = verdict; input = "r\t1\t0\nr\t2\t0\nw\t1\t0\nw\t2\t0\nc\t1\nc\t2\n"; output = "knot\t1\t2\n" }
+    -- S9: increments of two jobs; then with a read put in after the second line
+    ∷ record { program = verdict; input = "i\t1\t0\ni\t2\t0\ni\t1\t0\nc\t1\nc\t2\n"; output = "orderly\t1\t2\n" }
+    ∷ record { program = verdict; input = "i\t1\t0\ni\t2\t0\nr\t2\t0\ni\t1\t0\nc\t1\nc\t2\n"; output = "knot\t1\t2\n" }
+    ∷ []
