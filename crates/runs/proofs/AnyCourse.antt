@@ -81,7 +81,7 @@ owed-written v true t = append-nil (v t)
 owed-written v false t = refl
 
 -- what the end of the input adds
-last-records : (view : View) (text : List ℕ) →
+pub last-records : (view : View) (text : List ℕ) →
     recordsIn view startedClerk text ++ pick (owing (afterAll fresh text)) (viewed view (unended (afterAll fresh text .line))) [] ≡ written (viewed view) (boardRun text)
 unfolding recordsIn startedClerk
 last-records view text =
@@ -94,7 +94,7 @@ last-records view text =
     ∙ ap (written (viewed view)) (sym (tellings-append onBoard d fs (foundLast s)) ∙ text-told text)
 
 -- the splitter of a clerk who has seen the text
-seen-splitter : {c : Clerk} (text : List ℕ) → c ≡ clerkAfter startedClerk text → c .splitter ≡ afterAll fresh text
+pub seen-splitter : {c : Clerk} (text : List ℕ) → c ≡ clerkAfter startedClerk text → c .splitter ≡ afterAll fresh text
 unfolding clerkAfter startedClerk
 seen-splitter text e = ap (λ x. x .splitter) e
 

@@ -1,19 +1,17 @@
--- The desk that runs tells of every line what the paper's desk tells; so the programs write what the paper says.
+-- The desk that runs tells of every line what the paper's desk tells.
 -- Assumes nothing.
-use Prim.Native.Nat.{ℕ, _+_, _≤_}
-use mathlib.Core.Path.{_≡_, refl, sym, ap, ap₂, _∙_}
-use mathlib.Core.Bool.{true, false}
+use Prim.Native.Nat.{ℕ, _+_}
+use mathlib.Core.Path.{_≡_, refl, ap₂}
 use mathlib.Core.List.{List, [], _∷_}
 use native.Mathlib.Omega.{arith}
 use lib.Dec.{ltb}
-use lib.ListN.{length}
 use Rattle.laws.specs.Choice.{by-test}
 use Rattle.terms.specs.Letters.{byteOf, ofRequests}
 use Rattle.terms.specs.Limits.{requestLines}
 use Rattle.text.specs.declared.reader.Reading.{Reading}
 use Rattle.text.specs.declared.reader.Reading.the-variants.{Good, Bad}
 use Rattle.text.specs.Lines.{readLine}
-use Rattle.text.specs.Split.{linesOf, joined}
+use Rattle.text.specs.Split.{linesOf}
 use Rattle.rules.specs.Desk.{Desk, Request, freshDesk}
 use Rattle.rules.proofs.Invariant.{Inv}
 use Rattle.rules.proofs.KeptBegin.{fresh-inv}
@@ -23,14 +21,9 @@ use Rattle.board.specs.Steps.{emptyDesk, stepOf}
 use Rattle.board.specs.Stands.{Stands, Tied, wakesTold}
 use Rattle.board.proofs.StepTied.{tie}
 use Rattle.board.proofs.FreshStands.{fresh-stands}
-use Rattle.runs.specs.declared.View.{View}
-use Rattle.runs.specs.declared.View.the-variants.{Answers, History}
-use Rattle.runs.specs.Run.{Told, Lined, answered, lineBy, runOf, answerLines, historyLines, written}
-use Rattle.runs.specs.Programs.{onPaper, onBoard, firstNumber, runOn, answersOf, historyOf}
-use Rattle.runs.specs.Work.{viewed, lineRoom}
-use Rattle.runs.specs.Callers.{sentOver}
+use Rattle.runs.specs.Run.{Told, Lined, answered, lineBy, runOf}
+use Rattle.runs.specs.Programs.{onPaper, onBoard, firstNumber, runOn}
 use Rattle.runs.proofs.AnyCourse.{boardRun}
-use Rattle.runs.proofs.WholeProgram.{whole-program}
 
 -- the arrays stand for a paper's desk of which that holds which holds of every started one
 record Same (d : board.Desk) (D : Desk) : Type 0 where
@@ -75,28 +68,3 @@ board-is-paper ls = same-run (record { stands = fresh-stands firstNumber; holds 
 pub text-run : (text : List ℕ) → boardRun text ≡ runOn text
 unfolding boardRun runOn
 text-run text = board-is-paper (linesOf text)
-
--- what the program of a view writes, from text to text
-unfoldable pub programOf : View → List ℕ → List ℕ
-programOf Answers text = answersOf text
-programOf History text = historyOf text
-
--- it is what is written of the run in that view
-program-is : (view : View) (text : List ℕ) → written (viewed view) (runOn text) ≡ programOf view text
-unfolding programOf answersOf historyOf viewed
-program-is Answers text = refl
-program-is History text = refl
-
--- THE PROGRAMS: however the input comes in chunks and whatever buffer has room for a line's records, all that is written out is what the paper says of the text
-pub program-writes : (view : View) (out : List ℕ) (chunks : List (List ℕ)) → lineRoom ≤ length out → sentOver view out chunks ≡ programOf view (joined chunks)
-program-writes view out chunks h = whole-program view out chunks h ∙ ap (written (viewed view)) (text-run (joined chunks)) ∙ program-is view (joined chunks)
-
--- the answering program
-pub answers-written : (out : List ℕ) (chunks : List (List ℕ)) → lineRoom ≤ length out → sentOver Answers out chunks ≡ answersOf (joined chunks)
-unfolding programOf
-answers-written out chunks h = program-writes Answers out chunks h
-
--- the history program
-pub history-written : (out : List ℕ) (chunks : List (List ℕ)) → lineRoom ≤ length out → sentOver History out chunks ≡ historyOf (joined chunks)
-unfolding programOf
-history-written out chunks h = program-writes History out chunks h

@@ -10,3 +10,7 @@ pub mod LastLine
 pub mod AnyCourse
 pub mod WholeProgram
 pub mod BoardIsPaper
+pub mod EarlyStop
+pub mod Programs
+pub mod SameShown
+pub mod StartedRun

@@ -102,10 +102,12 @@ called-over view s (c ∷ cs) {text} k =
     subst (λ t. Called view t (callsOver view (callsOn (suc (length c)) view s c 0) cs)) (append-assoc text c (joined cs))
     (called-over view (callsOn (suc (length c)) view s c 0) cs (called-on (length c) view s c 0 (omega arith) k))
 
--- THE WHOLE PROGRAM: however the input is cut into chunks and whatever buffer has room for the records of a line, all that is written out is what is written of the run of the text
-pub whole-program : (view : View) (out : List ℕ) (chunks : List (List ℕ)) → lineRoom ≤ length out → sentOver view out chunks ≡ written (viewed view) (boardRun (joined chunks))
-unfolding sentOver
-whole-program view out chunks h =
-    let s : Calling = record { clerk = startedClerk; sent = []; out = out } in
-    let k : Called view (joined chunks) (callsOver view s chunks) = called-over view s chunks (record { course = starts out; room = h }) in
-    course-finishes (k .course) (roomy-empty (callsOver view s chunks .out) (k .room))
+module _ (view : View) (out : List ℕ) (chunks : List (List ℕ)) (h : lineRoom ≤ length out) where
+  -- the programs' caller over all chunks
+  pub caller-course : Called view (joined chunks) (callsOver view (record { clerk = startedClerk; sent = []; out = out }) chunks)
+  caller-course = called-over view (record { clerk = startedClerk; sent = []; out = out }) chunks (record { course = starts out; room = h })
+
+  -- THE WHOLE PROGRAM: however the input is cut into chunks and whatever buffer has room for the records of a line, all that is written out is what is written of the run of the text
+  pub whole-program : sentOver view out chunks ≡ written (viewed view) (boardRun (joined chunks))
+  unfolding sentOver
+  whole-program = course-finishes (caller-course .course) (roomy-empty (callsOver view (record { clerk = startedClerk; sent = []; out = out }) chunks .out) (caller-course .room))

@@ -2,3 +2,4 @@ pub mod Run
 pub mod Programs
 pub mod Work
 pub mod Callers
+pub mod Shown

@@ -100,6 +100,10 @@ unended n = record { line = n; request = noRequest; said = No BadLine; wakes = [
 unfoldable pub owing : Splitter → Bool
 owing s = not (s .ended) && leb (s .line) requestLines
 
+-- every line that is to be read has been read: line 1,000,000 has its newline, or a further line has begun (01, Lines)
+unfoldable pub allRead : Splitter → Bool
+allRead s = pick (s .ended) (leb requestLines (s .line)) (ltb requestLines (s .line))
+
 -- the end of the input: a line that lacks its newline is answered by refusal 9 if its number is at most 1,000,000 (01, Lines)
 unfoldable pub finishOf : View → Clerk → List ℕ → ℕ → Finishing
 finishOf view c out at =

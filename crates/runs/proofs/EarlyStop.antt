@@ -1,0 +1,96 @@
+-- After line 1,000,000 nothing more is written, whatever follows: a program may stop reading there (01, Lines).
+-- Assumes nothing.
+use Prim.Native.Nat.{ℕ, _+_, _-_, _^_, _≤_, _<_}
+use mathlib.Core.Path.{_≡_, refl, sym, ap, ap₂, _∙_}
+use mathlib.Core.Bool.{Bool, true, false, not, _&&_}
+use mathlib.Core.List.{List, [], _∷_, _++_, append-assoc, append-nil}
+use native.Mathlib.Omega.{arith}
+use lib.Dec.{leb, ltb}
+use lib.ListN.{take}
+use borrow.Author.Tests.{leb-true, ltb-true, ltb-false, le-leb, lt-ltb, lt-leb}
+use Rattle.laws.specs.Choice.{pick, by-test, not-both}
+use Rattle.terms.specs.Limits.{requestLines}
+use Rattle.text.specs.declared.splitter.Splitter.{Splitter}
+use Rattle.text.specs.Split.{kept, following, fresh, taken, afterAll, Found, foundAt, foundNow, foundIn}
+use Rattle.text.proofs.Chunks.{after-append}
+use Rattle.runs.specs.declared.Clerk.{Clerk}
+use Rattle.runs.specs.declared.View.{View}
+use Rattle.runs.specs.Run.{Stepping, Told, written}
+use Rattle.runs.specs.Programs.{onBoard}
+use Rattle.runs.specs.Work.{startedClerk, viewed, unended, owing, allRead}
+use Rattle.runs.specs.Callers.{Course}
+use Rattle.runs.proofs.Tellings.{tellings}
+use Rattle.runs.proofs.Records.{clerkAfter, recordsIn, records-append}
+use Rattle.runs.proofs.AnyCourse.{boardRun, last-records, course-stands, seen-splitter}
+
+-- the number of the next line is past 1,000,000 where that of this one has come to it
+past-next : (n : ℕ) → requestLines ≤ n → requestLines < following n
+unfolding following
+past-next n h = by-test (ltb n (2 ^ 64 - 1)) (λ e. rw e (omega arith)) (λ e. rw e (omega (arith, ltb-false n (2 ^ 64 - 1) e)))
+
+-- where every line has been read, the next byte belongs to a line past the 1,000,000th
+past-taken : (s : Splitter) (b : ℕ) → allRead s ≡ true → requestLines < taken s b .line
+unfolding allRead taken
+past-taken s b h =
+    by-test (s .ended)
+    (λ e. rw e (past-next (s .line) (leb-true requestLines (s .line) (rw e at h))))
+    (λ e. let l = ltb-true requestLines (s .line) (rw e at h) in rw e (by-test (ltb (s .len) kept) (λ f. rw f l) (λ f. rw f l)))
+
+-- so every line has been read then too
+past-read : (s : Splitter) → requestLines < s .line → allRead s ≡ true
+unfolding allRead
+past-read s h = by-test (s .ended) (λ e. rw e (le-leb requestLines (s .line) (omega arith))) (λ e. rw e (lt-ltb requestLines (s .line) h))
+
+-- however many bytes follow
+read-after : (s : Splitter) (t : List ℕ) → allRead s ≡ true → allRead (afterAll s t) ≡ true
+unfolding afterAll
+read-after s [] h = h
+read-after s (b ∷ t) h = read-after (taken s b) t (past-read (taken s b) (past-taken s b h))
+
+-- of a line past the 1,000,000th nothing is told
+past-told : {S : Type 0} (step : Stepping S) (d : S) (s : Splitter) (fs : List Found) → requestLines < s .line → tellings step d (foundNow s ++ fs) ≡ tellings step d fs
+unfolding foundNow foundAt
+past-told step d s fs h = by-test (s .ended) (λ e. rw e (unfold tellings in rw (lt-leb (s .line) requestLines h))) (λ e. rw e)
+
+-- nor of any line that follows
+none-told : {S : Type 0} (step : Stepping S) (d : S) (s : Splitter) (t : List ℕ) → allRead s ≡ true → tellings step d (foundIn s t) ≡ []
+unfolding foundIn
+none-told step d s [] h = unfold tellings in refl
+none-told step d s (b ∷ t) h =
+    past-told step d (taken s b) (foundIn (taken s b) t) (past-taken s b h) ∙ none-told step d (taken s b) t (past-read (taken s b) (past-taken s b h))
+
+-- and no line is owed
+none-owed : (s : Splitter) → allRead s ≡ true → owing s ≡ false
+unfolding allRead owing
+none-owed s h = by-test (s .ended) (λ e. rw e) (λ e. rw (e, lt-leb (s .line) requestLines (ltb-true requestLines (s .line) (rw e at h))))
+
+-- a clerk who has read every line writes nothing more
+pub writes-no-more : (view : View) (c : Clerk) (t : List ℕ) → allRead (c .splitter) ≡ true → recordsIn view c t ≡ []
+unfolding recordsIn
+writes-no-more view c t h = ap (written (viewed view)) (none-told onBoard (c .desk) (c .splitter) t h) ∙ unfold written in refl
+
+-- what a clerk has written who has read every line is all that is written of the text
+read-written : (view : View) (text : List ℕ) → allRead (afterAll fresh text) ≡ true → recordsIn view startedClerk text ≡ written (viewed view) (boardRun text)
+read-written view text h =
+    sym (append-nil (recordsIn view startedClerk text))
+    ∙ ap (λ b. recordsIn view startedClerk text ++ pick b (viewed view (unended (afterAll fresh text .line))) []) (sym (none-owed (afterAll fresh text) h))
+    ∙ last-records view text
+
+-- and of the text with whatever follows
+more-written : (view : View) (text more : List ℕ) → allRead (afterAll fresh text) ≡ true → recordsIn view startedClerk text ≡ written (viewed view) (boardRun (text ++ more))
+more-written view text more h =
+    sym (append-nil (recordsIn view startedClerk text))
+    ∙ ap (λ l. recordsIn view startedClerk text ++ l) (sym (writes-no-more view (clerkAfter startedClerk text) more (unfold clerkAfter startedClerk in h)))
+    ∙ sym (records-append view startedClerk text more)
+    ∙ read-written view (text ++ more) (rw (after-append fresh text more) (read-after (afterAll fresh text) more h))
+
+-- so what follows writes nothing
+pub nothing-after : (view : View) (text more : List ℕ) → allRead (afterAll fresh text) ≡ true → written (viewed view) (boardRun text) ≡ written (viewed view) (boardRun (text ++ more))
+nothing-after view text more h = sym (read-written view text h) ∙ more-written view text more h
+
+-- A CALLER MAY STOP: once the clerk has read every line, all that has been written out and stands in the buffer is what is written of the text, whatever would follow
+pub course-stops : {view : View} {text sent : List ℕ} {c : Clerk} {out : List ℕ} {at : ℕ} → Course view text sent c out at → allRead (c .splitter) ≡ true → (more : List ℕ) →
+    sent ++ take at out ≡ written (viewed view) (boardRun (text ++ more))
+course-stops {view} {text} k h more =
+    let s = course-stands k in
+    s .said ∙ more-written view text more (ap allRead (sym (seen-splitter text (s .clerk))) ∙ h)
