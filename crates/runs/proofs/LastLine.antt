@@ -41,6 +41,7 @@ no-newline-bad which bytes f = go (readLine which bytes) refl
   where
     ends : (l : Letter) (job cell : ℕ) → hasNewline (lineRecord l job cell) ≡ true
     ends l job cell = unfold lineRecord in last-byte (byteOf l ∷ (field (hasJob l) job ++ field (hasCell l) cell)) newline
+
     go : (r : Reading) → readLine which bytes ≡ r → readLine which bytes ≡ Bad
     go (Good l job cell) e = not-both (ap hasNewline (good-is-record which bytes l job cell e .0) ∙ ends l job cell) f
     go Bad e = e
