@@ -860,6 +860,51 @@ fn put_step(out: &mut Vec<u8>, outcome: &Outcome) {
     out.push(b'\n');
 }
 
+/// For the bench: 24 hands, each with a job of its own, and a mix of steps drawn from a fixed
+/// sequence (x becomes 1,103,515,245 x + 12,345 modulo 2^32, and a draw is its upper half modulo a
+/// limit): hand, kind, cell. A hand without a job begins one, a hand whose job was sent back retries;
+/// of 32 other steps 15 read, 6 write, 4 increment, 5 commit, 1 gives up and 1 retries. Tells how many
+/// went, waited, went back and were refused, and how many woke.
+fn mix(count: u32) -> [usize; 5] {
+    let mut x: u32 = 1;
+    let mut draw = |limit: u32| {
+        let drawn = (x >> 16) % limit;
+        x = x.wrapping_mul(1_103_515_245).wrapping_add(12_345);
+        drawn
+    };
+    let mut desk = Desk::start(1).expect("1 is a first number");
+    let mut jobs = [0; 24];
+    let mut backs = [false; 24];
+    let mut tally = [0; 5];
+    for _ in 0..count {
+        let hand = draw(24) as usize;
+        let letter = match draw(32) {
+            _ if jobs[hand] == 0 => BEGIN,
+            _ if backs[hand] => RETRY,
+            0..=14 => READ,
+            15..=20 => WRITE,
+            21..=24 => INCREMENT,
+            25..=29 => COMMIT,
+            30 => GIVE_UP,
+            _ => RETRY,
+        };
+        let outcome = desk.step(Line { letter, job: jobs[hand], cell: draw(64) });
+        let place = match outcome.answer {
+            Answer::Go(job) => {
+                jobs[hand] = if letter == COMMIT || letter == GIVE_UP { 0 } else { job };
+                0
+            }
+            Answer::Wait(_) => 1,
+            Answer::Back(_) => 2,
+            Answer::No(_) => 3,
+        };
+        backs[hand] = place == 2;
+        tally[place] += 1;
+        tally[4] += outcome.wakes.len();
+    }
+    tally
+}
+
 // ------------------------------------------------------------------ chance
 
 /// Splitmix64: the same seed gives the same numbers for ever.
@@ -2055,7 +2100,7 @@ fn demands(seed: u64, count: u64) -> Result<(), String> {
 
 // ------------------------------------------------------------------ the command line
 
-const USAGE: &str = "usage: second answers | history | verdict | lines | steps FIRST
+const USAGE: &str = "usage: second answers | history | verdict | lines | steps FIRST | mix COUNT
        second make requests|histories|lines SEED LINES
        second make steps SEED COUNT [FIRST]
        second demands SEED STEPS";
@@ -2089,6 +2134,14 @@ fn run(words: &[&str], input: impl Read, output: &mut impl Write) -> io::Result<
                 eprintln!("second: a step is three numbers, kind job cell, parted by one blank");
                 return Ok(2);
             }
+        }
+        ["mix", count] => {
+            let Ok(count) = count.parse() else {
+                return usage();
+            };
+            let [go, wait, back, no, wakes] = mix(count);
+            output.write_all(format!("{go}\t{wait}\t{back}\t{no}\t{wakes}\n").as_bytes())?;
+            output.flush()?;
         }
         ["make", what, seed, count] => {
             let (Ok(seed), Ok(count)) = (seed.parse(), count.parse()) else {
