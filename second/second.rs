@@ -2872,7 +2872,8 @@ mod tests {
 
     #[test]
     fn cases_one_after_another() {
-        let input = "c\t9\n= 255\nw\t2\t0\nw\t1\t0\nc\t1\nc\t2\n= 254\nx\n=300\n=255\nc\t1\n\n= 9999\nr\t1\t0";
+        let input =
+            "c\t9\n= 255\nw\t2\t0\nw\t1\t0\nc\t1\nc\t2\n= 254\nx\n=300\n=255\nc\t1\n\n= 9999\nr\t1\t0";
         let wanted = "orderly\t2\t1\nno\t0\t14\norderly\nno\t2\t9\nline\t\nno\t1\t9\nline\tr\t1\t0\n";
         let (output, status) = printed(&["cases"], input.as_bytes());
         assert_eq!((shown(&output).as_str(), status), (wanted, 0));
