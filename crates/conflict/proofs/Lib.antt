@@ -17,6 +17,7 @@ pub mod Calm
 pub mod Strict
 pub mod LockMachine
 pub mod MoreModeLaws
+pub mod ExactNeeds
 pub mod OneEvent
 pub mod StillHeld
 pub mod Ways
