@@ -2,6 +2,7 @@ pub mod Moved
 pub mod Invariant
 pub mod Statuses
 pub mod Queue
+pub mod WakeOrder
 pub mod Tests
 pub mod Settle
 pub mod Release

@@ -14,17 +14,17 @@ use Rattle.rules.specs.Locks.{without}
 use Rattle.rules.proofs.Invariant.{In, first, later, Falling}
 
 -- nobody stands in an empty queue
-pub in-none : {P : Type 0} {w : Waiter} → In w [] → P
+pub in-none : {P A : Type 0} {w : A} → In w [] → P
 in-none = elim [ ]
 
 -- who stands in a queue is its first or stands in the rest
-pub in-split : {P : Type 0} {w v : Waiter} {q : List Waiter} → In w (v ∷ q) → (w ≡ v → P) → (In w q → P) → P
+pub in-split : {P A : Type 0} {w v : A} {q : List A} → In w (v ∷ q) → (w ≡ v → P) → (In w q → P) → P
 in-split first f g = f refl
 in-split (later h) f g = g h
 
 -- a queue's first stands in it
-pub is-first : {w v : Waiter} {q : List Waiter} → w ≡ v → In w (v ∷ q)
-is-first {w} {q = q} e = subst (λ x. In w (x ∷ q)) e first
+pub is-first : {A : Type 0} {w v : A} {q : List A} → w ≡ v → In w (v ∷ q)
+is-first {w = w} {q = q} e = subst (λ x. In w (x ∷ q)) e first
 
 -- who stands in the first of two lists stands in both put together
 pub in-left : {A : Type 0} {w : A} {p : List A} (q : List A) → In w p → In w (p ++ q)
@@ -36,8 +36,8 @@ pub in-right : {A : Type 0} {w : A} (p : List A) {q : List A} → In w q → In 
 in-right [] h = h
 in-right (v ∷ p) h = later (in-right p h)
 
--- who stands in two queues put together stands in one of them
-pub in-either : {P : Type 0} {w : Waiter} (p q : List Waiter) → In w (p ++ q) → (In w p → P) → (In w q → P) → P
+-- who stands in two lists put together stands in one of them
+pub in-either : {P A : Type 0} {w : A} (p q : List A) → In w (p ++ q) → (In w p → P) → (In w q → P) → P
 in-either [] q h f g = g h
 in-either (v ∷ p) q h f g = in-split h (λ e. f (is-first e)) (λ l. in-either p q l (λ k. f (later k)) g)
 

@@ -1,34 +1,32 @@
 -- One step of a waiter: it waits on or is granted its cell, unless it gives up; while it waits, its lock stays as it was, and whoever is in its way was so before and has not ended a run.
 -- Assumes nothing.
-use Prim.Native.Nat.{ℕ, zero, suc, _<_}
+use Prim.Native.Nat.{ℕ, _<_}
 use mathlib.Core.Path.{_≡_, refl, sym, ap, subst, _∙_}
 use mathlib.Core.Logic.{_≢_, _⊎_, inl, inr}
 use mathlib.Core.Bool.{true, false}
 use mathlib.Core.List.{List, []}
-use native.Mathlib.Omega.{arith}
-use borrow.Author.Tests.{eqb-true, eqb-false, ne-eqb}
+use borrow.Author.Tests.{ne-eqb}
 use Rattle.laws.specs.Choice.{by-test, not-both}
 use Rattle.terms.specs.declared.letters.Ask.{Ask}
 use Rattle.terms.specs.Limits.{cells}
 use Rattle.conflict.specs.Modes.{isFree}
-use Rattle.conflict.specs.Jobs.{same}
 use Rattle.conflict.specs.History.{History}
 use Rattle.conflict.specs.Runs.{isEnd, ended}
 use Rattle.conflict.proofs.MoreModeLaws.{free-is-free}
 use Rattle.conflict.proofs.OneEvent.{marked-none, marked-does, marked-ends}
 use Rattle.rules.specs.declared.Answer.{Answer}
 use Rattle.rules.specs.Desk.{Status, waiting, Waiter, Desk, Request}
-use Rattle.rules.specs.Locks.{Settled, wants}
-use Rattle.rules.specs.Rules.{Outcome, wake, wakesAt, wakesOf, isWoken, rowsAfter, rule4}
+use Rattle.rules.specs.Locks.{wants}
+use Rattle.rules.specs.Rules.{Outcome, isWoken, rowsAfter, rule4}
 use Rattle.rules.specs.Step.{step, wakeRecords, events}
-use Rattle.rules.specs.Waiting.{In, first, later, InWay, holds-it, ahead, IsWaiting, GivesUp, Granted}
+use Rattle.rules.specs.Waiting.{In, InWay, holds-it, ahead, IsWaiting, GivesUp, Granted}
 use Rattle.rules.proofs.Moved.{step-moved}
 use Rattle.rules.proofs.Invariant.{Inv}
 use Rattle.rules.proofs.Kept.{step-inv}
 use Rattle.rules.proofs.Statuses.{one-cell, one-ask}
-use Rattle.rules.proofs.Queue.{in-left, in-right}
 use Rattle.rules.proofs.Settle.{wants-covers}
 use Rattle.rules.proofs.Release.{holder-was, left-kept}
+use Rattle.rules.proofs.WakeOrder.{search-order}
 use Rattle.rules.proofs.RunEnd.{wakesAfter, row-releases, woken-waited, granted-woken, woken-after, others-after}
 use Rattle.rules.proofs.Written.{Wrote, nothing, action, mark, asking, step-wrote}
 use Rattle.rules.proofs.NoEventAfterEnd.{wakes-unmarked}
@@ -36,30 +34,12 @@ use Rattle.rules.proofs.AheadLaws.{ahead-in, ahead-younger, younger-ahe
 use Rattle.rules.proofs.InTheWay.{waiter-in}
 use Rattle.rules.proofs.WaiterSees.{Undisturbed, Sees, calm, run-ends, moved-sees}
 
--- a waiter granted at a cell is among the wakes of that cell
-in-wakes-at : (c : ℕ) {w : Waiter} {q : List Waiter} → In w q → In (wake c w) (wakesAt c q)
-unfolding wakesAt
-in-wakes-at c first = first
-in-wakes-at c (later h) = later (in-wakes-at c h)
-
--- and among those of the first n cells, if the cell is one of them
-in-wakes : (s : ℕ → Settled) (n c : ℕ) (w : Waiter) → c < n → In w (s c .woken) → In (wake c w) (wakesOf s n)
-unfolding wakesOf
-in-wakes s zero c w l h = absurd (omega arith)
-in-wakes s (suc n) c w l h =
-    by-test (same c n)
-    (λ t. in-right (wakesOf s n) (subst (λ x. In (wake c w) (wakesAt x (s x .woken))) (eqb-true c n t) (in-wakes-at c h)))
-    (λ f. in-left (wakesAt n (s n .woken)) (in-wakes s n c w (lower (eqb-false c n f)) h))
-  where
-    lower : (c ≡ n → ⊥) → c < n
-    lower e = omega arith
-
 module _ {d : Desk} (v : Inv d) (j c : ℕ) (w : Waiter) (k : IsWaiting d c w) where
   -- when another job's run ends, a waiter granted in its queue has its cell in the mode it asked for
   granted-there : (s : Status) (js : List ℕ) (said : Answer) → In w (rowsAfter d j c .woken) → Granted (rule4 d j s js said) c w (wants (d .row c .held) w)
   unfolding rule4
   granted-there s js said h = record {
-    woken = in-wakes (rowsAfter d j) cells c w (v .rows c .within w (waiter-in v c w k)) h;
+    woken = search-order (rowsAfter d j) cells .reached c w (v .rows c .within w (waiter-in v c w k)) h;
     runs = woken-after v j s (w .job) (granted-woken v j c w h);
     holds = row-releases v j c .takes w h;
     enough = wants-covers (d .row c .held) w;

@@ -1,20 +1,20 @@
 -- Who is among the wakes: exactly the jobs granted at some cell that is searched, and they run again; all others are as they were.
 -- Assumes nothing.
-use Prim.Native.Nat.{ℕ, zero, suc, _<_}
-use mathlib.Core.Path.{_≡_, refl, sym, subst, _∙_}
+use Prim.Native.Nat.{ℕ, _<_}
+use mathlib.Core.Path.{_≡_, refl, sym, ap, _∙_}
 use mathlib.Core.Bool.{true, false, _||_}
 use mathlib.Core.List.{List, [], _∷_, _++_}
-use native.Mathlib.Omega.{arith}
-use borrow.Author.Tests.{eqb-true, eqb-false}
+use borrow.Author.Tests.{eqb-true}
 use Rattle.laws.specs.Choice.{by-test, not-both}
 use Rattle.conflict.specs.declared.action.Action.{Action}
 use Rattle.conflict.specs.Jobs.{same}
 use Rattle.conflict.proofs.JobLists.{same-refl}
-use Rattle.conflict.proofs.Parts.{or-either, or-first, or-second}
+use Rattle.conflict.proofs.Parts.{or-either, or-second}
 use Rattle.rules.specs.Desk.{Status, running, Waiter}
 use Rattle.rules.specs.Locks.{Settled}
-use Rattle.rules.specs.Rules.{wake, wakesAt, wakesOf, isWoken, wakened}
+use Rattle.rules.specs.Rules.{wake, wakesOf, isWoken, wakened}
 use Rattle.rules.proofs.Invariant.{In, first, later}
+use Rattle.rules.proofs.WakeOrder.{search-order}
 
 -- a job is granted at one of the first n cells: where, and as which waiter
 pub record WokenAt (s : ℕ → Settled) (n j : ℕ) : Type 0 where
@@ -30,45 +30,33 @@ unfolding isWoken
 woken-either j [] b = refl
 woken-either j (x ∷ a) b = by-test (same (x .job) j) (λ t. rw t) (λ f. rw f (woken-either j a b))
 
--- who is among the wakes of a cell is granted there
-woken-there : (j c : ℕ) (q : List Waiter) → isWoken j (wakesAt c q) ≡ true → (w : Waiter) × In w q × (w .job ≡ j)
-unfolding isWoken wakesAt wake
-woken-there j c [] h = not-both h refl
-woken-there j c (v ∷ q) h = or-either (same (v .job) j) (isWoken j (wakesAt c q)) h (λ t. (v, first, eqb-true (v .job) j t)) (λ k. more (woken-there j c q k))
+-- who is among the wakes has one
+woken-in : (j : ℕ) (xs : List Action) → isWoken j xs ≡ true → (x : Action) × In x xs × (x .job ≡ j)
+unfolding isWoken
+woken-in j [] h = not-both h refl
+woken-in j (v ∷ xs) h = or-either (same (v .job) j) (isWoken j xs) h (λ t. (v, first, eqb-true (v .job) j t)) (λ k. more (woken-in j xs k))
   where
-    more : (w : Waiter) × In w q × (w .job ≡ j) → (w : Waiter) × In w (v ∷ q) × (w .job ≡ j)
-    more (w, h, e) = (w, later h, e)
+    more : (x : Action) × In x xs × (x .job ≡ j) → (x : Action) × In x (v ∷ xs) × (x .job ≡ j)
+    more (x, i, e) = (x, later i, e)
 
--- who is granted at a cell is among its wakes
-there-woken : (c : ℕ) {w : Waiter} {q : List Waiter} → In w q → isWoken (w .job) (wakesAt c q) ≡ true
-unfolding isWoken wakesAt wake
-there-woken c {w} first = rw (same-refl (w .job))
-there-woken c {w} (later {v = v} {q = q} h) = or-second (same (v .job) (w .job)) (isWoken (w .job) (wakesAt c q)) (there-woken c h)
+-- and who has one is among them
+in-woken : {x : Action} {xs : List Action} → In x xs → isWoken (x .job) xs ≡ true
+unfolding isWoken
+in-woken {x} first = rw (same-refl (x .job))
+in-woken {x} (later {v = v} {q = xs} h) = or-second (same (v .job) (x .job)) (isWoken (x .job) xs) (in-woken h)
 
 -- who is among the wakes is granted at a cell that is searched
 pub woken-at : (s : ℕ → Settled) (n j : ℕ) → isWoken j (wakesOf s n) ≡ true → WokenAt s n j
-unfolding wakesOf isWoken
-woken-at s zero j h = not-both h refl
-woken-at s (suc c) j h =
-    or-either (isWoken j (wakesOf s c)) (isWoken j (wakesAt c (s c .woken))) (sym (woken-either j (wakesOf s c) (wakesAt c (s c .woken))) ∙ h)
-    (λ k. more (woken-at s c j k))
-    (λ k. let (w, g, e) = woken-there j c (s c .woken) k in record { cell = c; within = omega arith; waiter = w; granted = g; is = e })
-  where
-    more : WokenAt s c j → WokenAt s (suc c) j
-    more t = record { cell = t .cell; within = omega (arith, t .within); waiter = t .waiter; granted = t .granted; is = t .is }
+unfolding wake
+woken-at s n j h =
+    let (x, i, e) = woken-in j (wakesOf s n) h in
+    let g = search-order s n .granted i in
+    record { cell = g .cell; within = g .below; waiter = g .waiter; granted = g .granted; is = sym (ap (λ t. t .job) (g .is)) ∙ e }
 
 -- who is granted at a cell that is searched is among the wakes
 pub at-woken : (s : ℕ → Settled) (n c : ℕ) (w : Waiter) → c < n → In w (s c .woken) → isWoken (w .job) (wakesOf s n) ≡ true
-unfolding wakesOf
-at-woken s zero c w l h = absurd (omega arith)
-at-woken s (suc n) c w l h =
-    woken-either (w .job) (wakesOf s n) (wakesAt n (s n .woken))
-    ∙ by-test (same c n)
-    (λ t. or-second (isWoken (w .job) (wakesOf s n)) (isWoken (w .job) (wakesAt n (s n .woken))) (there-woken n (subst (λ k. In w (s k .woken)) (eqb-true c n t) h)))
-    (λ f. or-first (isWoken (w .job) (wakesOf s n)) (isWoken (w .job) (wakesAt n (s n .woken))) (at-woken s n c w (lower (eqb-false c n f)) h))
-  where
-    lower : (c ≡ n → ⊥) → c < n
-    lower d = omega arith
+unfolding wake
+at-woken s n c w l h = in-woken (search-order s n .reached c w l h)
 
 -- the woken jobs run
 pub woken-runs : (stat : ℕ → Status) (wakes : List Action) (j : ℕ) → isWoken j wakes ≡ true → wakened stat wakes j ≡ running

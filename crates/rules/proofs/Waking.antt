@@ -1,11 +1,10 @@
 -- Wakes come of rule 4 alone. Each was waiting for its cell with its kind, runs after the step, stands in no queue and holds what covers its need (01, rule 4; 01, Refusals by number).
 -- Assumes nothing.
-use Prim.Native.Nat.{ℕ, zero, suc, _<_}
+use Prim.Native.Nat.{ℕ, _<_}
 use mathlib.Core.Path.{_≡_, refl, sym, ap, _∙_, subst}
 use mathlib.Core.Logic.{_≢_, _⊎_, inl, inr}
 use mathlib.Core.Bool.{true}
-use mathlib.Core.List.{List, [], _∷_, _++_}
-use native.Mathlib.Omega.{arith}
+use mathlib.Core.List.{List, [], _∷_}
 use Rattle.laws.specs.Choice.{not-both}
 use Rattle.terms.specs.declared.letters.Ask.{Ask}
 use Rattle.terms.specs.declared.letters.Letter.the-variants.{Commit, GiveUp}
@@ -18,13 +17,13 @@ use Rattle.conflict.specs.History.{History}
 use Rattle.rules.specs.declared.Answer.{Answer}
 use Rattle.rules.specs.declared.Answer.the-variants.{Go, Back}
 use Rattle.rules.specs.Desk.{Status, closed, running, sentback, waiting, vacated, Waiter, Desk, Request}
-use Rattle.rules.specs.Locks.{Settled}
-use Rattle.rules.specs.Rules.{Outcome, refused, wake, wakesAt, wakesOf, isWoken, rowsAfter, rule4, close, sendBack, grant, queued, rule1, retry, begin}
+use Rattle.rules.specs.Rules.{Outcome, refused, wake, isWoken, rowsAfter, rule4, close, sendBack, grant, queued, rule1, retry, begin}
 use Rattle.rules.specs.Step.{step, Started}
 use Rattle.rules.proofs.Kept.{started-inv}
 use Rattle.rules.proofs.Invariant.{In, first, later, Inv}
 use Rattle.rules.proofs.Moved.{Moved, refuses, begins, commits, gives-up, retries, has-it, promotes, waits-in-front, enters, waits-last, goes-back, step-moved}
 use Rattle.rules.proofs.Release.{woken-covers}
+use Rattle.rules.proofs.WakeOrder.{search-order}
 use Rattle.rules.proofs.RunEnd.{wakesAfter, row-releases, granted-woken, left-not-woken, woken-after}
 
 -- the step is a commit, a give-up or a sending back of the request's job
@@ -66,49 +65,14 @@ wakes-only-rule-4 d r = by-move (step-moved d r) refl
     by-move (waits-last b k f z w u) h = inl (unfold queued in ap (λ o. o .wakes) h)
     by-move (goes-back b k x) h = inr (by-back (unfold sendBack rule4 in ap (λ o. o .said) h))
 
--- a wake and the waiter it was: granted at a cell of the first n
-record Granted (s : ℕ → Settled) (n : ℕ) (a : Action) : Type 0 where
-  cell : ℕ
-  below : cell < n
-  waiter : Waiter
-  granted : In waiter (s cell .woken)
-  is : a ≡ wake cell waiter
-
 -- nothing is among no wakes
 among-none : {P : Type 0} {a : Action} → Among a [] → P
 among-none = elim [ ]
 
--- one of several wakes is the first or among the rest
-among-split : {P : Type 0} {a b : Action} {rest : List Action} → Among a (b ∷ rest) → (a ≡ b → P) → (Among a rest → P) → P
-among-split here f g = f refl
-among-split (further h) f g = g h
-
--- one of two lists of wakes is in the first or in the second
-among-either : {P : Type 0} {a : Action} (x y : List Action) → Among a (x ++ y) → (Among a x → P) → (Among a y → P) → P
-among-either [] y h f g = g h
-among-either {a = a} (b ∷ x) y h f g =
-    among-split h (λ e. f (subst (λ z. Among a (z ∷ x)) e here)) (λ k. among-either x y k (λ l. f (further l)) g)
-
--- a wake of one cell was granted there
-among-there : {a : Action} (c : ℕ) (q : List Waiter) → Among a (wakesAt c q) → (w : Waiter) × In w q × (a ≡ wake c w)
-unfolding wakesAt
-among-there c [] h = among-none h
-among-there {a = a} c (v ∷ q) h = among-split h (λ e. (v, first, e)) (λ k. more (among-there c q k))
-  where
-    more : (w : Waiter) × In w q × (a ≡ wake c w) → (w : Waiter) × In w (v ∷ q) × (a ≡ wake c w)
-    more (w, k, e) = (w, later k, e)
-
--- a wake was granted at a cell that is searched
-among-granted : (s : ℕ → Settled) (n : ℕ) (a : Action) → Among a (wakesOf s n) → Granted s n a
-unfolding wakesOf
-among-granted s zero a h = among-none h
-among-granted s (suc n) a h = among-either (wakesOf s n) (wakesAt n (s n .woken)) h (λ k. more (among-granted s n a k)) (λ k. last (among-there n (s n .woken) k))
-  where
-    more : Granted s n a → Granted s (suc n) a
-    more g = record { cell = g .cell; below = omega (arith, g .below); waiter = g .waiter; granted = g .granted; is = g .is }
-
-    last : (w : Waiter) × In w (s n .woken) × (a ≡ wake n w) → Granted s (suc n) a
-    last (w, k, e) = record { cell = n; below = omega arith; waiter = w; granted = k; is = e }
+-- what is among the wakes stands in their list
+among-in : {a : Action} {xs : List Action} → Among a xs → In a xs
+among-in here = first
+among-in (further h) = later (among-in h)
 
 module _ {d : Desk} (v : Inv d) (j : ℕ) (s : Status) (js : List ℕ) (said : Answer) where
   -- who is granted at a cell when job j's run ends
@@ -128,7 +92,7 @@ module _ {d : Desk} (v : Inv d) (j : ℕ) (s : Status) (js : List ℕ) (said : A
   -- who is among the wakes when job j's run ends
   rule4-wakes : (a : Action) → Among a (wakesAfter d j) → Woken d (rule4 d j s js said .desk) a
   rule4-wakes a h =
-      let g : Granted (rowsAfter d j) cells a = among-granted (rowsAfter d j) cells a h in
+      let g = search-order (rowsAfter d j) cells .granted (among-in h) in
       subst (Woken d (rule4 d j s js said .desk)) (sym (g .is)) (granted-wakes (g .cell) (g .waiter) (g .below) (g .granted))
 
 -- each wake was waiting for that cell with that kind before the step, and runs after it with what it asked for

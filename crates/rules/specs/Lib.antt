@@ -7,3 +7,4 @@ pub mod Start
 pub mod Runs
 pub mod Histories
 pub mod Waiting
+pub mod WakeOrder
