@@ -56,3 +56,6 @@ pub mod ServedInTime
 pub mod SomebodyRuns
 pub mod WaiterSees
 pub mod WaiterStep
+pub mod ExactModes
+pub mod WakesTold
+pub mod FourKinds
