@@ -41,3 +41,4 @@ pub mod DeskRecords
 pub mod DeskLocks
 pub mod DeskDeciding
 pub mod DeskRule1
+pub mod DeskExactly

@@ -6,5 +6,6 @@ pub mod Stands
 pub mod Runs
 pub mod Due
 pub mod Waiting
+pub mod WakeOrder
 pub mod Effects
 pub mod Asked
