@@ -3,3 +3,5 @@ pub mod Programs
 pub mod Work
 pub mod Callers
 pub mod Shown
+pub mod LinesTold
+pub mod VerdictLine

@@ -26,7 +26,7 @@ use Rattle.verdicts.specs.Answers.{noNewline}
 use Rattle.verdicts.specs.Written.{askBy, markLetter, eventLine, textOf}
 
 -- digits are no newlines
-digits-plain : (ds : List ℕ) → digitsOnly ds ≡ true → noNewline ds ≡ true
+pub digits-plain : (ds : List ℕ) → digitsOnly ds ≡ true → noNewline ds ≡ true
 unfolding digitsOnly noNewline isDigit
 digits-plain [] h = refl
 digits-plain (d ∷ ds) h =
@@ -35,7 +35,7 @@ digits-plain (d ∷ ds) h =
     rw (ne-eqb d newline (λ e. omega arith)) (digits-plain ds (and-second (leb 48 d && leb d 57) (digitsOnly ds) h))
 
 -- two parts without a newline have none together
-plain-append : (l m : List ℕ) → noNewline l ≡ true → noNewline m ≡ true → noNewline (l ++ m) ≡ true
+pub plain-append : (l m : List ℕ) → noNewline l ≡ true → noNewline m ≡ true → noNewline (l ++ m) ≡ true
 unfolding noNewline
 plain-append [] m h g = g
 plain-append (b ∷ l) m h g =
