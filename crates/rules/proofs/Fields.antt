@@ -57,5 +57,4 @@ unread d r s k e = step-alike d r s (letterOf (r .kind)) e ∙ ap (λ b. stepBy 
 -- and the same records
 pub unread-records : (d : Desk) (r s : Request) → r .kind ≡ s .kind → Alike (letterOf (r .kind)) r s → events d r ≡ events d s
 unfolding events recordsOf
-unread-records d r s k e =
-    ap (λ o. recordsOf r (o .said) (o .wakes)) (unread d r s k e) ∙ ap (λ h. h ++ wakeRecords (step d s .wakes)) (records-alike r s (step d s .said) k e)
+unread-records d r s k e = rw (unread d r s k e, records-alike r s (step d s .said) k e)
