@@ -43,7 +43,7 @@ module _ (d : Desk) (r : Request) (i : ℕ) (n : i ≢ named d r) where
   bystander = by-move (step-moved d r)
     where
       by-move : {o : Outcome} → Moved d r o → isWoken i (o .wakes) ≡ false → o .desk .stat i ≡ d .stat i
-      by-move (refuses why) h = unfold refused in refl
+      by-move (refuses why _) h = unfold refused in refl
       by-move (begins l m k) h = unfold begin in at-other (d .stat) (d .next) running i (not-next l)
       by-move (commits l s) h = unfold close in ended-others d (r .job) closed (vacated (r .job) (d .jobs)) (Go (r .job)) i (not-job l refl) h
       by-move (gives-up l s) h = unfold close in ended-others d (r .job) closed (vacated (r .job) (d .jobs)) (Go (r .job)) i (not-job l refl) h
@@ -60,7 +60,7 @@ module _ (d : Desk) (r : Request) (i : ℕ) (n : i ≢ named d r) where
   bystander-place z = by-move (step-moved d r)
     where
       by-move : {o : Outcome} → Moved d r o → member i (o .desk .jobs) ≡ member i (d .jobs)
-      by-move (refuses why) = unfold refused in refl
+      by-move (refuses why _) = unfold refused in refl
       by-move (begins l m k) = unfold begin in seated-others (d .next) (d .jobs) i (not-next l) z
       by-move (commits l s) = unfold close rule4 in vacated-others (r .job) (d .jobs) i (not-job l refl) z
       by-move (gives-up l s) = unfold close rule4 in vacated-others (r .job) (d .jobs) i (not-job l refl) z

@@ -37,7 +37,7 @@ module _ {d : Desk} (v : Inv d) (j : ℕ) (e : d .stat j ≡ closed) where
   -- every move leaves it closed, since its number was given
   moved-closed : {r : Request} {o : Outcome} → j < d .next → Moved d r o → o .desk .stat j ≡ closed
   unfolding refused begin close sendBack retry rule1 grant queued withRow withStatus
-  moved-closed l (refuses why) = e
+  moved-closed l (refuses why _) = e
   moved-closed l (begins b n m) = at-other (d .stat) (d .next) running j (below l) ∙ e
     where
       below : {i k : ℕ} → i < k → i ≢ k

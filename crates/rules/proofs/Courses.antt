@@ -17,8 +17,7 @@ use Rattle.terms.specs.Limits.{lastNumber}
 use Rattle.conflict.specs.declared.modes.Mode.{Mode}
 use Rattle.conflict.specs.declared.modes.Mode.the-variants.{Free}
 use Rattle.conflict.specs.Modes.{needed, covers, asked, isFree}
-use Rattle.conflict.specs.Jobs.{same, member}
-use Rattle.conflict.proofs.JobLists.{same-refl}
+use Rattle.conflict.specs.Jobs.{member}
 use Rattle.conflict.proofs.ModeLaws.{covers-refl, asked-free, asked-covers, asked-grows, is-free}
 use Rattle.rules.specs.declared.Answer.{Answer}
 use Rattle.rules.specs.declared.Answer.the-variants.{Go, Wait, Back, No}
@@ -26,6 +25,7 @@ use Rattle.rules.specs.Desk.{Status, closed, running, waiting, sentback,
 use Rattle.rules.specs.Rules.{Outcome, refused, rule4, close, sendBack, grant, queued, rule1, retry, begin}
 use Rattle.rules.specs.Step.{stepCommit, stepGiveUp, stepRetry, stepBegin, stepBy, step}
 use Rattle.rules.specs.Table.{letterIs}
+use Rattle.rules.proofs.Answers.{other-answer}
 use Rattle.rules.proofs.Moved.{Asking, Moved, refuses, begins, commits, gives-up, retries, has-it, promotes, waits-in-front, enters, waits-last, goes-back, step-moved}
 
 -- what an answer tells: of which job it is, the rule's outcome, and what held before
@@ -33,17 +33,6 @@ pub record Course (d : Desk) (r : Request) (i j : ℕ) (o : Outcome) (P : Type 0
   pub job : j ≡ i
   pub outcome : step d r ≡ o
   pub was : P
-
--- the four sorts of answer
-abbrev sort : Answer → ℕ
-sort (Go j) = 0
-sort (Wait j) = 1
-sort (Back j) = 2
-sort (No why) = 3
-
--- answers of two sorts are not equal
-other-answer : {P : Type 0} {x y : Answer} → x ≡ y → same (sort x) (sort y) ≡ false → P
-other-answer {y = y} e n = not-both (rw e (same-refl (sort y))) n
 
 -- two goes are of one job
 same-go : {i j : ℕ} → Go i ≡ Go j → j ≡ i
@@ -103,7 +92,7 @@ no-ask : {P : Type 0} {x : Lettered} {l : Letter} {a : Ask} → x ≡ Known l �
 no-ask p n q = not-both (ap (letterIs hasCell) q) (ap (letterIs hasCell) p ∙ n)
 
 -- a letter asks for one thing
-same-ask : {x : Lettered} {a b : Ask} → x ≡ Known (Asks a) → x ≡ Known (Asks b) → a ≡ b
+pub same-ask : {x : Lettered} {a b : Ask} → x ≡ Known (Asks a) → x ≡ Known (Asks b) → a ≡ b
 same-ask p q = cc
 
 -- what is granted to a job that holds nothing covers it
@@ -115,7 +104,7 @@ pub ask-went : (d : Desk) (r : Request) (a : Ask) (j : ℕ) → letterOf (r .kin
 ask-went d r a j e g = by-move (step-moved d r) refl g
   where
     by-move : {o : Outcome} → Moved d r o → step d r ≡ o → o .said ≡ Go j → (j ≡ r .job) × AskWent d r a
-    by-move (refuses why) h q = unfold refused in other-answer q refl
+    by-move (refuses why _) h q = unfold refused in other-answer q refl
     by-move (begins l n m) h q = no-ask l refl e
     by-move (commits l s) h q = no-ask l refl e
     by-move (gives-up l s) h q = no-ask l refl e
@@ -148,7 +137,7 @@ pub ask-waited : (d : Desk) (r : Request) (j : ℕ) → step d r .said ≡ Wait 
 ask-waited d r j g = by-move (step-moved d r) refl g
   where
     by-move : {o : Outcome} → Moved d r o → step d r ≡ o → o .said ≡ Wait j → Waited d r j
-    by-move (refuses why) h q = unfold refused in other-answer q refl
+    by-move (refuses why _) h q = unfold refused in other-answer q refl
     by-move (begins l n m) h q = unfold begin in other-answer q refl
     by-move (commits l s) h q = unfold close rule4 in other-answer q refl
     by-move (gives-up l s) h q = unfold close rule4 in other-answer q refl
@@ -169,7 +158,7 @@ pub ask-back : (d : Desk) (r : Request) (j : ℕ) → step d r .said ≡ Back j 
 ask-back d r j g = by-move (step-moved d r) refl g
   where
     by-move : {o : Outcome} → Moved d r o → step d r ≡ o → o .said ≡ Back j → Course d r (r .job) j (sendBack d (r .job)) ((a : Ask) × Asking d r a)
-    by-move (refuses why) h q = unfold refused in other-answer q refl
+    by-move (refuses why _) h q = unfold refused in other-answer q refl
     by-move (begins l n m) h q = unfold begin in other-answer q refl
     by-move (commits l s) h q = unfold close rule4 in other-answer q refl
     by-move (gives-up l s) h q = unfold close rule4 in other-answer q refl

@@ -53,7 +53,7 @@ pub step-gives : (d : Desk) (r : Request) → Gives d (givenBy r (step d r .said
 step-gives d r = by-move (step-moved d r)
   where
     by-move : {o : Outcome} → Moved d r o → Gives d (givenBy r (o .said)) (o .desk)
-    by-move (refuses why) = unfold refused in none-given (refusal-none r why) refl
+    by-move (refuses why _) = unfold refused in none-given (refusal-none r why) refl
     by-move (begins l m k) = unfold givenBy numberIn begin in one-given (rw l) m refl
     by-move (commits l s) = none-given (other-letter r l refl _) (unfold close rule4 in refl)
     by-move (gives-up l s) = none-given (other-letter r l refl _) (unfold close rule4 in refl)

@@ -34,7 +34,7 @@ same-back e = cc
 -- where a move answers back, an older job is live
 pub moved-back : {d : Desk} {r : Request} {o : Outcome} → Inv d → Moved d r o → (j : ℕ) → o .said ≡ Back j → (i : ℕ) × (i < j) × (isLive (d .stat i) ≡ true)
 unfolding refused begin close sendBack rule4 retry rule1 grant queued
-moved-back v (refuses why) j e = other-answer e refl
+moved-back v (refuses why _) j e = other-answer e refl
 moved-back v (begins l n m) j e = other-answer e refl
 moved-back v (commits l s) j e = other-answer e refl
 moved-back v (gives-up l s) j e = other-answer e refl
@@ -70,7 +70,7 @@ module _ {d : Desk} (v : Inv d) (j : ℕ) (live : isLive (d .stat j) ≡ true) w
   -- a live job that is sent back by a move is told so
   pub moved-told : {r : Request} {o : Outcome} → Moved d r o → o .desk .stat j ≡ sentback → o .said ≡ Back j
   unfolding refused begin close sendBack rule4 retry rule1 grant queued withRow withStatus
-  moved-told (refuses why) e = absurd (live-not-back live e)
+  moved-told (refuses why _) e = absurd (live-not-back live e)
   moved-told (begins l n m) e = not-back-at (d .next) running (live-not-back (running-live refl)) e
   moved-told {r} (commits l s) e = not-back-ended (r .job) closed (vacated (r .job) (d .jobs)) (Go (r .job)) closed-not-back e
   moved-told {r} (gives-up l s) e = not-back-ended (r .job) closed (vacated (r .job) (d .jobs)) (Go (r .job)) closed-not-back e

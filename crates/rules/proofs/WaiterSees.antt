@@ -84,7 +84,7 @@ module _ {d : Desk} (v : Inv d) (r : Request) (c : ℕ) (w : Waiter) (k : IsWait
   -- every move is one of these to it
   pub moved-sees : {o : Outcome} → Moved d r o → Sees d r c w o
   unfolding refused begin close sendBack retry rule1 grant queued withRow withStatus
-  moved-sees (refuses why) = calm k (same-row w (d .row c))
+  moved-sees (refuses why _) = calm k (same-row w (d .row c))
   moved-sees (begins l n m) = calm (waits-still (d .next) running next-other) (same-row w (d .row c))
   moved-sees (commits l s) = run-ends closed (vacated (r .job) (d .jobs)) (Go (r .job)) (λ p. absurd (runs-other (r .job) s p))
   moved-sees (gives-up l s) = run-ends closed (vacated (r .job) (d .jobs)) (Go (r .job)) (λ p. (l, sym p))

@@ -54,7 +54,7 @@ pub wakes-only-rule-4 : (d : Desk) (r : Request) → (step d r .wakes ≡ []) �
 wakes-only-rule-4 d r = by-move (step-moved d r) refl
   where
     by-move : {o : Outcome} → Moved d r o → step d r ≡ o → (step d r .wakes ≡ []) ⊎ RunEnds d r
-    by-move (refuses why) h = inl (unfold refused in ap (λ o. o .wakes) h)
+    by-move (refuses why _) h = inl (unfold refused in ap (λ o. o .wakes) h)
     by-move (begins l n m) h = inl (unfold begin in ap (λ o. o .wakes) h)
     by-move (commits l s) h = inr (by-commit l (unfold close rule4 in ap (λ o. o .said) h))
     by-move (gives-up l s) h = inr (by-give-up l (unfold close rule4 in ap (λ o. o .said) h))
@@ -136,7 +136,7 @@ pub woken : {d : Desk} {h : History} → Started d h → (r : Request) (a : Acti
 woken {d} s r a = by-move (step-moved d r)
   where
     by-move : {o : Outcome} → Moved d r o → Among a (o .wakes) → Woken d (o .desk) a
-    by-move (refuses why) h = unfold refused in among-none h
+    by-move (refuses why _) h = unfold refused in among-none h
     by-move (begins l n m) h = unfold begin in among-none h
     by-move (commits l q) h = unfold close in rule4-wakes (started-inv s) (r .job) closed (vacated (r .job) (d .jobs)) (Go (r .job)) a (unfold rule4 in h)
     by-move (gives-up l q) h = unfold close in rule4-wakes (started-inv s) (r .job) closed (vacated (r .job) (d .jobs)) (Go (r .job)) a (unfold rule4 in h)

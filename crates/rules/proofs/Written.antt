@@ -89,7 +89,7 @@ module _ (d : Desk) (r : Request) (v : Inv d) where
   -- every move, by what it writes
   moved-wrote : {o : Outcome} → Moved d r o → Wrote d r o (recordsOf r (o .said) (o .wakes))
   unfolding recordsOf ownRecords wentBy wakeRecords refused begin close sendBack rule4 retry rule1 grant queued withRow withStatus asking
-  moved-wrote (refuses why) = nothing (same-rows d v)
+  moved-wrote (refuses why _) = nothing (same-rows d v)
   moved-wrote (begins e n m) = rw e (nothing (same-rows d v))
   moved-wrote (commits e s) = rw e (mark Commit closed (vacated (r .job) (d .jobs)) (Go (r .job)) (running-open s) (λ _. refl))
   moved-wrote (gives-up e s) = rw e (mark GiveUp closed (vacated (r .job) (d .jobs)) (Go (r .job)) s (λ _. refl))
