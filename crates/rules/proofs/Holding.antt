@@ -18,9 +18,8 @@ use Rattle.conflict.specs.History.{History, marked}
 use Rattle.conflict.proofs.ModeLaws.{covers-refl, asked-grows}
 use Rattle.conflict.proofs.JobLists.{same-sym}
 use Rattle.rules.specs.declared.Answer.{Answer}
-use Rattle.rules.specs.declared.Answer.the-variants.{Go, Back as sent-back}
-use Rattle.rules.specs.Desk.{Status, closed, sentback, vacated, Waiter, Desk, Request, at}
-use Rattle.rules.specs.Rules.{Outcome, refused, withRow, withStatus, rule4, close, sendBack, grant, queued, rule1, retry, begin}
+use Rattle.rules.specs.Desk.{Status, Waiter, Desk, Request, at}
+use Rattle.rules.specs.Rules.{Outcome, refused, withRow, withStatus, rule4, grant, queued}
 use Rattle.rules.specs.Step.{step, events, Started}
 use Rattle.conflict.specs.Runs.{isEnd, ended}
 use Rattle.rules.proofs.Kept.{started-inv}

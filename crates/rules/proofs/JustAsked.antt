@@ -4,7 +4,7 @@ use Prim.Native.Nat.{ℕ}
 use mathlib.Core.Path.{_≡_, refl, sym, subst}
 use mathlib.Core.Logic.{_↔_}
 use mathlib.Core.Bool.{true, false}
-use mathlib.Core.List.{List, [], _∷_, _++_}
+use mathlib.Core.List.{List}
 use Rattle.laws.specs.Choice.{not-both}
 use Rattle.terms.specs.declared.letters.Ask.{Ask}
 use Rattle.terms.specs.declared.letters.Letter.the-variants.{Asks}
@@ -18,8 +18,8 @@ use Rattle.rules.specs.Step.{step, Started}
 use Rattle.rules.specs.Waiting.{In, Ahead, InWay, holds-it, ahead, asker, WasInWay, held-it, stood-ahead, IsWaiting}
 use Rattle.rules.proofs.Kept.{started-inv}
 use Rattle.rules.proofs.Statuses.{running-not-waiting}
-use Rattle.rules.proofs.Courses.{same-ask}
-use Rattle.rules.proofs.Queueing.{Joined, promotion, newcomer, Waits, waits}
+use Rattle.rules.proofs.Courses.{same-ask, Joins, promotion, newcomer}
+use Rattle.rules.proofs.Queueing.{Waits, waits}
 use Rattle.rules.proofs.KeptStatus.{no-place}
 use Rattle.rules.proofs.AheadLaws.{ahead-split, ahead-of, before-last, ahead-before-last}
 
@@ -37,12 +37,12 @@ module _ {d : Desk} {h : History} (s : Started d h) (r : Request) (a : Ask) (l :
   no-place-yet m = no-place (started-inv s .rows (r .cell)) (r .job) (λ a. running-not-waiting (just-asked .asking .runs)) (asker r a) m refl
 
   -- who stands ahead of it stood in the queue when it asked, and it holds nothing
-  ahead-stood : (v : Waiter) (q : List Waiter) → Joined (isFree (d .row (r .cell) .held (r .job))) (asker r a) (d .row (r .cell) .queue) q → Ahead v (asker r a) q → WasInWay d r (v .job)
+  ahead-stood : (v : Waiter) (q : List Waiter) → Joins d r a q → Ahead v (asker r a) q → WasInWay d r (v .job)
   ahead-stood v q (promotion f) b = absurd (ahead-split b (λ _ m. no-place-yet m) (λ m. no-place-yet (ahead-of m)))
   ahead-stood v q (newcomer f) b = stood-ahead f v refl (ahead-before-last (d .row (r .cell) .queue) b)
 
   -- and who stood in the queue when it asked stands ahead of it, if it holds nothing
-  stood-is-ahead : (v : Waiter) (q : List Waiter) → Joined (isFree (d .row (r .cell) .held (r .job))) (asker r a) (d .row (r .cell) .queue) q → isFree (d .row (r .cell) .held (r .job)) ≡ true → In v (d .row (r .cell) .queue) → Ahead v (asker r a) q
+  stood-is-ahead : (v : Waiter) (q : List Waiter) → Joins d r a q → isFree (d .row (r .cell) .held (r .job)) ≡ true → In v (d .row (r .cell) .queue) → Ahead v (asker r a) q
   stood-is-ahead v q (promotion f) t m = not-both t f
   stood-is-ahead v q (newcomer f) t m = before-last m
 
