@@ -1,7 +1,7 @@
 -- The rules as a relation, one constructor to a rule with its tests as premises, and that every step is such a move: the one place that follows the tests.
 -- Assumes nothing.
 use Prim.Native.Nat.{ℕ, suc, _<_, _≤_}
-use mathlib.Core.Path.{_≡_, refl, sym, subst}
+use mathlib.Core.Path.{_≡_, refl}
 use mathlib.Core.Bool.{Bool, true, false, _&&_}
 use mathlib.Core.List.{List, [], _∷_, _++_}
 use lib.Dec.{ltb, leb}
@@ -18,6 +18,7 @@ use Rattle.terms.specs.Limits.{cells, lastNumber}
 use Rattle.conflict.specs.declared.modes.Mode.{Mode}
 use Rattle.conflict.specs.Modes.{needed, covers, asked, isFree}
 use Rattle.conflict.specs.Jobs.{member}
+use Rattle.conflict.proofs.Parts.{and-first, and-second}
 use Rattle.rules.specs.declared.Answer.the-variants.{Go, Wait, Back}
 use Rattle.rules.specs.Desk.{Status, closed, running, waiting, sentback, Desk, Request, Waiter, isOpen, at, seated, vacated}
 use Rattle.rules.specs.Locks.{agrees, alone, olderThanHolders, olderThanWaiters, isEmpty}
@@ -79,21 +80,16 @@ either : {d : Desk} {r : Request} (b : Bool) {x y : Outcome} → (b ≡ true →
 either true f g = f refl
 either false f g = g refl
 
+-- where two tests hold, each does
 both : (a b : Bool) → (a && b) ≡ true → (a ≡ true) × (b ≡ true)
-both true b e = (refl, e)
-both false b e = absurd (elim-false e)
-  where
-    holds : Bool → Type 0
-    holds true = Unit {0}
-    holds false = ⊥
+both a b e = (and-first a b e, and-second a b e)
 
-    elim-false : false ≡ true → ⊥
-    elim-false e = subst holds (sym e) tt
+-- where two tests do not both hold, one of them fails
+one-fails : {P : Type 0} (a b : Bool) → (a && b) ≡ false → (a ≡ false → P) → (b ≡ false → P) → P
+one-fails true b e f g = g e
+one-fails false b e f g = f refl
 
-not-both : {P : Type 0} (a b : Bool) → (a && b) ≡ false → (a ≡ false → P) → (b ≡ false → P) → P
-not-both true b e f g = g e
-not-both false b e f g = f refl
-
+-- a running job that asks moves by rule 1, 2 or 3
 ask-moved : (d : Desk) (r : Request) (a : Ask) → Asking d r a → Moved d r (ask d (r .job) (r .cell) a)
 unfolding ask rule1 rule2 rule3 grant queued sendBack
 ask-moved d r a k =
@@ -103,7 +99,7 @@ ask-moved d r a k =
     (λ e. let p = both _ _ e in enters a k f (p .0) (p .1))
     (λ e. either (olderThanHolders (d .jobs) (d .row (r .cell) .held) (r .job) && olderThanWaiters (d .row (r .cell) .queue) (r .job))
     (λ o. let p = both _ _ o in waits-last a k f e (p .0) (p .1))
-    (λ o. not-both _ _ o (λ h. goes-back a k (holder h)) (λ w. goes-back a k (waiter f w)))))
+    (λ o. one-fails _ _ o (λ h. goes-back a k (holder h)) (λ w. goes-back a k (waiter f w)))))
     (λ f. either (alone (d .jobs) (d .row (r .cell) .held) (r .job)) (promotes a k n f)
     (λ e. either (olderThanHolders (d .jobs) (d .row (r .cell) .held) (r .job)) (waits-in-front a k n f e) (λ h. goes-back a k (holder h)))))
 
