@@ -237,12 +237,12 @@ beside-x X = refl
 beside-x I = refl
 
 -- a promotion is granted next to another job only where that one holds nothing
-pub promotion-alone : (held other : Mode) (a : Ask) → isFree held ≡ false → covers held (needed a) ≡ false → grants other (asked held (needed a)) ≡ isFree other
+pub promotion-alone : (held other : Mode) (a : Ask) → isFree held ≡ false → grants other (asked held (needed a)) ≡ isFree other
 unfolding asked grants isFree
-promotion-alone Free other a n c = not-both refl n
-promotion-alone S other a n c = beside-x other
-promotion-alone X other a n c = beside-x other
-promotion-alone I other a n c = beside-x other
+promotion-alone Free other a n = not-both refl n
+promotion-alone S other a n = beside-x other
+promotion-alone X other a n = beside-x other
+promotion-alone I other a n = beside-x other
 
 -- a mode's code is read as that mode
 pub mode-code : (m : Mode) → modeOf (codeOf m) ≡ m
