@@ -10,13 +10,13 @@ use lib.Dec.{eqb, ltb, leb}
 use lib.ListN.{length, getD, set}
 use lib.Seq.{getD-set-same, getD-set-other}
 use Rattle.laws.specs.Choice.{pick, by-test, not-both}
+use Rattle.laws.specs.Lists.{same, member}
 use Rattle.terms.specs.declared.letters.Ask.the-variants.{Read, Write, Increment}
 use Rattle.terms.specs.declared.letters.Letter.{Letter}
 use Rattle.terms.specs.declared.letters.Letter.the-variants.{Begin, Commit, GiveUp, Retry, Back, Asks}
 use Rattle.terms.specs.declared.refusals.Refusal.{Refusal}
 use Rattle.terms.specs.Letters.{ofHistories}
 use Rattle.terms.specs.Limits.{cells, judgedJobs, judgedLines}
-use Rattle.conflict.specs.Jobs.{same, member}
 use Rattle.conflict.specs.Modes.{recorded}
 use Rattle.text.specs.declared.reader.Reading.{Reading}
 use Rattle.text.specs.declared.reader.Reading.the-variants.{Good, Bad}

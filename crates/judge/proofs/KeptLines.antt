@@ -10,10 +10,10 @@ use lib.Dec.{ltb, leb}
 use lib.ListN.{getD}
 use borrow.Author.Tests.{ltb-true, le-ltb}
 use Rattle.laws.specs.Choice.{by-test}
+use Rattle.laws.specs.Lists.{same, put}
 use Rattle.conflict.specs.declared.action.Action.{Action}
-use Rattle.conflict.specs.Jobs.{same}
 use Rattle.conflict.specs.Schedule.{keep}
-use Rattle.conflict.specs.History.{isCommit, isBack, marked, put, partOf, committedPart}
+use Rattle.conflict.specs.History.{isCommit, isBack, marked, partOf, committedPart}
 use Rattle.verdicts.specs.Arrays.{historyBy}
 use Rattle.judge.specs.Lists.{listed}
 use Rattle.judge.specs.Counted.{hasCommit, countedFrom}

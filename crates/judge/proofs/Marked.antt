@@ -10,7 +10,7 @@ use lib.Dec.{eqb, ltb, leb}
 use lib.ListN.{getD}
 use borrow.Author.Tests.{lt-leb, le-leb, le-ltb}
 use Rattle.laws.specs.Choice.{pick, by-test}
-use Rattle.conflict.specs.Jobs.{same}
+use Rattle.laws.specs.Lists.{same}
 use Rattle.conflict.specs.History.{History, isCommit, isBack, marked}
 use Rattle.conflict.proofs.Appended.{marked-append}
 use Rattle.verdicts.specs.Arrays.{historyBy}

@@ -9,12 +9,11 @@ use lib.Dec.{eqb, ltb}
 use lib.ListN.{getD}
 use borrow.Author.Tests.{eqb-true, eqb-false, ne-eqb, ltb-true, lt-ltb, le-ltb}
 use Rattle.laws.specs.Choice.{by-test, not-both}
+use Rattle.laws.specs.Lists.{same, member, put}
+use Rattle.laws.proofs.Lists.{member-first, member-more}
+use Rattle.laws.proofs.Parts.{and-first, and-second}
 use Rattle.conflict.specs.declared.action.Action.{Action}
-use Rattle.conflict.specs.Jobs.{same, member}
 use Rattle.conflict.specs.Schedule.{agree, conflicts, keep, touches, edge}
-use Rattle.conflict.specs.History.{put}
-use Rattle.conflict.proofs.Parts.{and-first, and-second}
-use Rattle.conflict.proofs.JobLists.{member-first, member-more}
 use Rattle.judge.specs.Lists.{listed}
 use Rattle.judge.specs.Meeting.{kindBy, clashing, meetsLater, meetings}
 use Rattle.judge.proofs.Codes.{actionBy}

@@ -9,10 +9,10 @@ use native.Mathlib.Omega.{arith}
 use lib.Dec.{ltb}
 use lib.ListN.{length}
 use Rattle.laws.specs.Choice.{by-test}
+use Rattle.laws.specs.Lists.{same, put}
 use Rattle.terms.specs.Limits.{judgedJobs, judgedLines}
 use Rattle.conflict.specs.declared.action.Event.the-variants.{Does, Ends}
-use Rattle.conflict.specs.Jobs.{same}
-use Rattle.conflict.specs.History.{History, isCommit, put, commitOrder}
+use Rattle.conflict.specs.History.{History, isCommit, commitOrder}
 use Rattle.text.specs.Split.{linesOf}
 use Rattle.verdicts.specs.Judged.{orderly, knotted, insert, sorted, jobsOf, verdictOf}
 use Rattle.verdicts.specs.HistoryText.{Faulty, firstFaulty, eventsIn}

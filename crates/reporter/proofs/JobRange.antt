@@ -10,6 +10,8 @@ use borrow.Author.Tests.{eqb-true, eqb-false, ltb-false}
 use lib.Dec.{eqb, ltb}
 use lib.ListN.{length}
 use Rattle.laws.specs.Choice.{by-test, not-both}
+use Rattle.laws.specs.Lists.{same, member, distinct}
+use Rattle.laws.proofs.Parts.{and-first, or-either, nor-first, nor-second}
 use Rattle.terms.specs.declared.letters.Letter.{Letter}
 use Rattle.terms.specs.declared.letters.Letter.the-variants.{Begin, Commit, GiveUp, Retry, Back, Asks}
 use Rattle.terms.specs.declared.refusals.Refusal.{Refusal}
@@ -17,10 +19,8 @@ use Rattle.terms.specs.Letters.{ofHistories}
 use Rattle.terms.specs.Limits.{judgedJobs, judgedLines}
 use Rattle.conflict.specs.declared.action.Mark.{Mark}
 use Rattle.conflict.specs.declared.action.Event.the-variants.{Ends}
-use Rattle.conflict.specs.Jobs.{same, member, distinct}
 use Rattle.conflict.specs.History.{isCommit, marked}
 use Rattle.conflict.proofs.Appended.{marked-append}
-use Rattle.conflict.proofs.Parts.{and-first, or-either, nor-first, nor-second}
 use Rattle.text.specs.declared.reader.Reading.{Reading}
 use Rattle.text.specs.declared.reader.Reading.the-variants.{Good, Bad}
 use Rattle.text.specs.Lines.{readLine}

@@ -12,14 +12,14 @@ use lib.Dec.{ltb}
 use lib.ListN.{length, take, drop, replicate, length-append, length-replicate}
 use lib.Seq.{take-append-seam}
 use Rattle.laws.specs.Choice.{by-test}
+use Rattle.laws.specs.Lists.{member}
+use Rattle.laws.proofs.Lists.{member-first, member-more}
 use Rattle.terms.specs.declared.refusals.Refusal.the-variants.{TooLong}
 use Rattle.terms.specs.declared.words.Word as word
 use Rattle.terms.specs.declared.words.Word.{Word}
 use Rattle.terms.specs.Limits.{judgedJobs, judgedBytes}
 use Rattle.terms.specs.Refusals.{numberOf}
 use Rattle.terms.specs.Words.{tab}
-use Rattle.conflict.specs.Jobs.{member}
-use Rattle.conflict.proofs.JobLists.{member-first, member-more}
 use Rattle.text.specs.declared.writer.Written.the-variants.{Next}
 use Rattle.text.specs.Decimal.{decimal}
 use Rattle.text.specs.Records.{fits, told, left}

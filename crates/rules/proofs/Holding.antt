@@ -13,10 +13,10 @@ use Rattle.conflict.specs.declared.action.Mark.{Mark}
 use Rattle.conflict.specs.declared.action.Mark.the-variants.{Commit, GiveUp, Back}
 use Rattle.conflict.specs.declared.action.Event.the-variants.{Ends}
 use Rattle.conflict.specs.Modes.{needed, covers}
-use Rattle.conflict.specs.Jobs.{same}
+use Rattle.laws.specs.Lists.{same}
 use Rattle.conflict.specs.History.{History, marked}
 use Rattle.conflict.proofs.ModeLaws.{covers-refl, asked-grows}
-use Rattle.conflict.proofs.JobLists.{same-sym}
+use Rattle.laws.proofs.Lists.{same-sym}
 use Rattle.rules.specs.declared.Answer.{Answer}
 use Rattle.rules.specs.declared.Answer.the-variants.{Go, Back as sent-back}
 use Rattle.rules.specs.Desk.{Status, closed, sentback, vacated, Waiter, Desk, Request, at}

@@ -17,7 +17,7 @@ use Rattle.terms.specs.declared.refusals.Refusal.{Refusal}
 use Rattle.terms.specs.Letters.{letterOf}
 use Rattle.terms.specs.Limits.{cells, lastNumber}
 use Rattle.conflict.specs.Modes.{needed, covers, asked, isFree}
-use Rattle.conflict.specs.Jobs.{member}
+use Rattle.laws.specs.Lists.{member}
 use Rattle.rules.specs.Desk.{Status, closed, running, waiting, sentback, Desk, Request, Waiter, isOpen}
 use Rattle.rules.specs.Locks.{agrees, alone, olderThanHolders, olderThanWaiters, isEmpty}
 use Rattle.rules.specs.Rules.{Outcome, refused, close, sendBack, grant, queued, rule1, rule2, rule3, ask, retry, begin}

@@ -13,7 +13,7 @@ use Rattle.terms.specs.declared.letters.Letter.the-variants.{Begin}
 use Rattle.terms.specs.declared.letters.Lettered.the-variants.{Known}
 use Rattle.terms.specs.Letters.{letterOf}
 use Rattle.terms.specs.Limits.{lastNumber}
-use Rattle.conflict.specs.Jobs.{member}
+use Rattle.laws.specs.Lists.{member}
 use Rattle.conflict.specs.History.{History}
 use Rattle.rules.specs.declared.Answer.the-variants.{Go, Back}
 use Rattle.rules.specs.Desk.{Status, closed, running, waiting, sentback, Desk, Request, isOpen, isLive}

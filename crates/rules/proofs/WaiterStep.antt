@@ -11,7 +11,7 @@ use Rattle.laws.specs.Choice.{by-test, not-both}
 use Rattle.terms.specs.declared.letters.Ask.{Ask}
 use Rattle.terms.specs.Limits.{cells}
 use Rattle.conflict.specs.Modes.{isFree}
-use Rattle.conflict.specs.Jobs.{same}
+use Rattle.laws.specs.Lists.{same}
 use Rattle.conflict.specs.History.{History}
 use Rattle.conflict.specs.Runs.{isEnd, ended}
 use Rattle.conflict.proofs.MoreModeLaws.{free-is-free}

@@ -9,6 +9,7 @@ use lib.Dec.{leb, ltb}
 use lib.ListN.{length, length-append}
 use borrow.Author.Tests.{leb-true, ltb-true}
 use Rattle.laws.specs.Choice.{not-both}
+use Rattle.laws.proofs.Parts.{and-first, and-second}
 use Rattle.terms.specs.declared.letters.Letter.the-variants.{Commit, GiveUp, Back, Asks}
 use Rattle.terms.specs.Letters.{ofHistories}
 use Rattle.conflict.specs.declared.action.Kind.{Kind}
@@ -20,7 +21,6 @@ use Rattle.conflict.specs.declared.action.Event.{Event}
 use Rattle.conflict.specs.declared.action.Event.the-variants.{Does, Ends}
 use Rattle.conflict.specs.Modes.{recorded}
 use Rattle.conflict.specs.History.{History}
-use Rattle.conflict.proofs.Parts.{and-first, and-second}
 use Rattle.text.specs.declared.reader.Reading.the-variants.{Good}
 use Rattle.text.specs.Lines.{readLine}
 use Rattle.text.proofs.ReadBack.{reads-record}
