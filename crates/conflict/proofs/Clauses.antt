@@ -46,17 +46,27 @@ pub touches-none : (a : Action) (j : ℕ) → touches a j [] ≡ false
 unfolding touches
 touches-none a j = refl
 
--- of a longer one the first action does, or a later one
-pub touches-next : (a : Action) (j : ℕ) (b : Action) (s : Schedule) → touches a j (b ∷ s) ≡ ((same (b .job) j && conflicts a b) || touches a j s)
+-- where job j is the first of a longer one, its action does, or a later one
+pub touches-own : (a : Action) (j : ℕ) (b : Action) (s : Schedule) → same (b .job) j ≡ true → touches a j (b ∷ s) ≡ (conflicts a b || touches a j s)
 unfolding touches
-touches-next a j b s = refl
+touches-own a j b s t = rw t
+
+-- where another is, a later one does
+pub touches-past : (a : Action) (j : ℕ) (b : Action) (s : Schedule) → same (b .job) j ≡ false → touches a j (b ∷ s) ≡ touches a j s
+unfolding touches
+touches-past a j b s f = rw f
 
 -- an empty schedule has no edge
 pub edge-none : (i j : ℕ) → edge [] i j ≡ false
 unfolding edge
 edge-none i j = refl
 
--- an edge of a longer one goes from its first action, or is one of the later ones
-pub edge-next : (a : Action) (s : Schedule) (i j : ℕ) → edge (a ∷ s) i j ≡ ((same (a .job) i && touches a j s) || edge s i j)
+-- an edge from the job of the first action goes from that action, or is one of the later ones
+pub edge-own : (a : Action) (s : Schedule) (i j : ℕ) → same (a .job) i ≡ true → edge (a ∷ s) i j ≡ (touches a j s || edge s i j)
 unfolding edge
-edge-next a s i j = refl
+edge-own a s i j t = rw t
+
+-- an edge from another job is one of the later actions
+pub edge-past : (a : Action) (s : Schedule) (i j : ℕ) → same (a .job) i ≡ false → edge (a ∷ s) i j ≡ edge s i j
+unfolding edge
+edge-past a s i j f = rw f
