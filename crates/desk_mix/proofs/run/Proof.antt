@@ -1,0 +1,94 @@
+-- `desk_mix::run` is safe and ends. The loop's measure is the steps that are left.
+-- Assumes nothing.
+use borrow.Author.Needs.{needs}
+use Rattle.desk_mix.proofs.run.Statement.{statement}
+use Rattle.desk_mix.proofs.run.Tie as tie
+
+abbrev Inv-loop : tie.InvT-loop
+Inv-loop now₀ x₀ jobs₀ backs₀ tally₀ left₀ now x jobs backs tally left = Unit {0}
+
+abbrev μ-loop : tie.MeasureT-loop
+μ-loop now₀ x₀ jobs₀ backs₀ tally₀ left₀ now x jobs backs tally left = left
+
+loop-holds : tie.Need-loop-holds Inv-loop μ-loop
+loop-holds c = search needs
+
+hand-by-requires : tie.Need-hand-by-requires Inv-loop μ-loop
+hand-by-requires c κs = search needs
+
+next-requires : tie.Need-next-requires Inv-loop μ-loop
+next-requires c κs = search needs
+
+mul-step : tie.Need-mul-step Inv-loop μ-loop
+mul-step c = search needs
+
+array-read-step : tie.Need-array-read-step Inv-loop μ-loop
+array-read-step c = search needs
+
+array-read-t15 : tie.Need-array-read-t15 Inv-loop μ-loop
+array-read-t15 c = search needs
+
+kind-by-requires : tie.Need-kind-by-requires Inv-loop μ-loop
+kind-by-requires c κs = search needs
+
+next-requires-2 : tie.Need-next-requires-2 Inv-loop μ-loop
+next-requires-2 c κs = search needs
+
+step-requires : tie.Need-step-requires Inv-loop μ-loop
+step-requires c κs = search needs
+
+next-requires-3 : tie.Need-next-requires-3 Inv-loop μ-loop
+next-requires-3 c κs = search needs
+
+hand-after-requires : tie.Need-hand-after-requires Inv-loop μ-loop
+hand-after-requires c κs = search needs
+
+mul-jobs : tie.Need-mul-jobs Inv-loop μ-loop
+mul-jobs c = search needs
+
+array-write-jobs : tie.Need-array-write-jobs Inv-loop μ-loop
+array-write-jobs c = search needs
+
+array-write-backs : tie.Need-array-write-backs Inv-loop μ-loop
+array-write-backs c = search needs
+
+counted-requires : tie.Need-counted-requires Inv-loop μ-loop
+counted-requires c κs = search needs
+
+sub-left : tie.Need-sub-left Inv-loop μ-loop
+sub-left c = search needs
+
+loop-less : tie.Need-loop-less Inv-loop μ-loop
+loop-less c = search needs
+
+loop-again : tie.Need-loop-again Inv-loop μ-loop
+loop-again c = search needs
+
+returns : tie.Need-returns Inv-loop μ-loop
+returns c = search needs
+
+pub run-spec : {M : Type 1} → statement M
+run-spec =
+    tie.close
+    (tie.spec
+    Inv-loop
+    μ-loop
+    loop-holds
+    hand-by-requires
+    next-requires
+    mul-step
+    array-read-step
+    array-read-t15
+    kind-by-requires
+    next-requires-2
+    step-requires
+    next-requires-3
+    hand-after-requires
+    mul-jobs
+    array-write-jobs
+    array-write-backs
+    counted-requires
+    sub-left
+    loop-less
+    loop-again
+    returns)
