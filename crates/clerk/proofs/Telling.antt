@@ -14,6 +14,7 @@ use Rattle.terms.proofs.Alphabet.{letter-of-byte}
 use Rattle.conflict.specs.declared.action.Action.{Action}
 use Rattle.conflict.specs.Modes.{recorded}
 use Rattle.conflict.specs.History.{History}
+use Rattle.conflict.proofs.Clauses.{records-read, records-write, records-increment}
 use Rattle.text.specs.Records.{lineRecord}
 use Rattle.rules.specs.declared.Answer.{Answer}
 use Rattle.rules.specs.declared.Answer.the-variants.{Go, Wait, Back as goes-back, No}
@@ -30,10 +31,10 @@ use Rattle.clerk.specs.Parts.{notedGo, noted, notedBytes, firstRecord, w
 
 -- what is asked is the letter of the kind that is recorded of it
 ask-recorded : (a : Ask) → askBy (recorded a) ≡ a
-unfolding askBy recorded
-ask-recorded Read = refl
-ask-recorded Write = refl
-ask-recorded Increment = refl
+unfolding askBy
+ask-recorded Read = rw records-read
+ask-recorded Write = rw records-write
+ask-recorded Increment = rw records-increment
 
 -- the records of some events and then of others
 pub events-append : (h k : History) → eventLines (h ++ k) ≡ eventLines h ++ eventLines k

@@ -9,7 +9,7 @@ use Rattle.terms.specs.declared.letters.Letter.{Letter}
 use Rattle.terms.specs.declared.letters.Letter.the-variants.{Begin}
 use Rattle.terms.specs.declared.letters.Lettered.the-variants.{Known}
 use Rattle.terms.specs.Letters.{letterOf}
-use Rattle.conflict.specs.Jobs.{member}
+use Rattle.laws.specs.Lists.{member}
 use Rattle.rules.specs.declared.Answer.{Answer}
 use Rattle.rules.specs.declared.Answer.the-variants.{Go, Back}
 use Rattle.rules.specs.Desk.{Status, closed, running, sentback, waiting, Desk, Request, at, vacated}

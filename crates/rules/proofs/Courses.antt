@@ -17,7 +17,7 @@ use Rattle.terms.specs.Limits.{lastNumber}
 use Rattle.conflict.specs.declared.modes.Mode.{Mode}
 use Rattle.conflict.specs.declared.modes.Mode.the-variants.{Free}
 use Rattle.conflict.specs.Modes.{needed, covers, asked, isFree}
-use Rattle.conflict.specs.Jobs.{member}
+use Rattle.laws.specs.Lists.{member}
 use Rattle.conflict.proofs.ModeLaws.{covers-refl, asked-free, asked-covers, asked-grows, is-free}
 use Rattle.rules.specs.declared.Answer.{Answer}
 use Rattle.rules.specs.declared.Answer.the-variants.{Go, Wait, Back, No}

@@ -11,7 +11,7 @@ use Rattle.terms.specs.declared.letters.Ask.{Ask}
 use Rattle.conflict.specs.declared.modes.Mode.{Mode}
 use Rattle.conflict.specs.Modes.{needed, covers, grants, isFree}
 use Rattle.conflict.proofs.ModeLaws.{covers-free, is-free, grants-free}
-use Rattle.conflict.proofs.Parts.{and-both}
+use Rattle.laws.proofs.Parts.{and-both}
 use Rattle.conflict.specs.History.{History}
 use Rattle.rules.specs.declared.Answer.the-variants.{Go, Wait, Back}
 use Rattle.rules.specs.Desk.{Waiter, Desk, Request}

@@ -13,10 +13,11 @@ use Rattle.conflict.specs.declared.action.Mark.{Mark}
 use Rattle.conflict.specs.declared.action.Mark.the-variants.{Commit, GiveUp, Back}
 use Rattle.conflict.specs.declared.action.Event.the-variants.{Ends}
 use Rattle.conflict.specs.Modes.{needed, covers}
-use Rattle.conflict.specs.Jobs.{same}
-use Rattle.conflict.specs.History.{History, marked}
+use Rattle.laws.specs.Lists.{same}
+use Rattle.conflict.specs.History.{History}
 use Rattle.conflict.proofs.ModeLaws.{covers-refl, asked-grows}
-use Rattle.conflict.proofs.JobLists.{same-sym}
+use Rattle.conflict.proofs.OneEvent.{marked-ends, any-ends, ended-is}
+use Rattle.laws.proofs.Lists.{same-sym}
 use Rattle.rules.specs.declared.Answer.{Answer}
 use Rattle.rules.specs.Desk.{Status, Waiter, Desk, Request, at}
 use Rattle.rules.specs.Rules.{Outcome, refused, withRow, withStatus, rule4, grant, queued}
@@ -36,8 +37,7 @@ Keeps d e i c = covers (e .row c .held i) (d .row c .held i) ≡ true
 
 -- a history that begins with a mark of a job ends a run of it
 first-ends : (m : Mark) (j i : ℕ) (h : History) → same i j ≡ true → ended i (Ends m j ∷ h) ≡ true
-unfolding isEnd ended marked
-first-ends m j i h t = rw (same-sym j i ∙ t)
+first-ends m j i h t = ended-is i (Ends m j ∷ h) ∙ marked-ends isEnd i m j h ∙ rw (same-sym j i ∙ t, any-ends m)
 
 -- the end of another job's run
 rule4-keeps : {d : Desk} → Inv d → (j : ℕ) (s : Status) (js : List ℕ) (said : Answer) (i c : ℕ) → i ≢ j → Keeps d (rule4 d j s js said .desk) i c

@@ -17,8 +17,8 @@ use Rattle.terms.specs.Letters.{letterOf}
 use Rattle.terms.specs.Limits.{cells, lastNumber}
 use Rattle.conflict.specs.declared.modes.Mode.{Mode}
 use Rattle.conflict.specs.Modes.{needed, covers, asked, isFree}
-use Rattle.conflict.specs.Jobs.{member}
-use Rattle.conflict.proofs.Parts.{and-first, and-second}
+use Rattle.laws.specs.Lists.{member}
+use Rattle.laws.proofs.Parts.{and-first, and-second}
 use Rattle.rules.specs.declared.Answer.the-variants.{Go, Wait, Back}
 use Rattle.rules.specs.Desk.{Status, closed, running, waiting, sentback, Desk, Request, Waiter, isOpen, at, seated, vacated}
 use Rattle.rules.specs.Locks.{agrees, alone, olderThanHolders, olderThanWaiters, isEmpty}

@@ -13,9 +13,9 @@ use Rattle.terms.specs.declared.letters.Lettered.the-variants.{Known}
 use Rattle.terms.specs.declared.refusals.Refusal.{Refusal}
 use Rattle.terms.specs.Letters.{letterOf}
 use Rattle.terms.specs.Limits.{lastNumber}
-use Rattle.conflict.specs.Jobs.{same, member, distinct}
-use Rattle.conflict.proofs.Parts.{or-either, and-both}
-use Rattle.conflict.proofs.JobLists.{member-first, member-more}
+use Rattle.laws.specs.Lists.{same, member, distinct}
+use Rattle.laws.proofs.Parts.{or-either, and-both}
+use Rattle.laws.proofs.Lists.{member-first, member-more}
 use Rattle.rules.specs.declared.Answer.{Answer}
 use Rattle.rules.specs.declared.Answer.the-variants.{Go, No}
 use Rattle.rules.specs.Desk.{Desk, Request}

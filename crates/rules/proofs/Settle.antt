@@ -9,7 +9,7 @@ use native.Mathlib.Omega.{arith}
 use Rattle.laws.specs.Choice.{by-test}
 use Rattle.conflict.specs.declared.modes.Mode.{Mode}
 use Rattle.conflict.specs.Modes.{needed, covers, beside, grants, asked, isFree}
-use Rattle.conflict.specs.Jobs.{member}
+use Rattle.laws.specs.Lists.{member}
 use Rattle.conflict.proofs.ModeLaws.{beside-sym, grants-beside, covers-refl, covers-trans, asked-grows, asked-covers}
 use Rattle.rules.specs.Desk.{Waiter, at}
 use Rattle.rules.specs.Locks.{agrees, wants, woke, Settled, settle}

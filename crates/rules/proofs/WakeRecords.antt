@@ -7,7 +7,7 @@ use mathlib.Core.List.{List, [], _∷_, _++_}
 use Rattle.conflict.specs.declared.action.Action.{Action}
 use Rattle.conflict.specs.declared.action.Event.{Event}
 use Rattle.conflict.specs.declared.action.Event.the-variants.{Does}
-use Rattle.conflict.specs.Jobs.{same}
+use Rattle.laws.specs.Lists.{same}
 use Rattle.conflict.specs.History.{History, lineOf}
 use Rattle.conflict.proofs.OneEvent.{line-none, line-does}
 use Rattle.rules.specs.Desk.{Waiter}

@@ -2,10 +2,10 @@
 -- Assumes nothing.
 use mathlib.Core.Path.{_≡_, refl}
 use mathlib.Core.List.{List, map}
+use Rattle.laws.specs.Lists.{member, distinct, pos, put}
 use Rattle.conflict.specs.Modes.{needed, recorded, covers, beside, grants, asked, lets, isFree, codeOf, modeOf}
-use Rattle.conflict.specs.Jobs.{member, distinct, pos}
 use Rattle.conflict.specs.Schedule.{agree, conflicts, keep, own, serial, touches, edge, names, path, knot}
-use Rattle.conflict.specs.History.{isCommit, isBack, marked, partOf, committedPart, commits, committed, put, commitOrder, lineOf, endsForGood, undisturbed, strict}
+use Rattle.conflict.specs.History.{isCommit, isBack, marked, partOf, committedPart, commits, committed, commitOrder, lineOf, endsForGood, undisturbed, strict}
 use Rattle.text.specs.Decimal.{digitsIn, decimal}
 use Rattle.text.specs.Records.{answerRecord, field, lineRecord, fits, told, left}
 use Rattle.text.specs.Lines.{isDigit, digitsOf, afterDigits, valueFrom, shortest, numberThen, ending, cellPart, jobPart, letterPart, readLine}

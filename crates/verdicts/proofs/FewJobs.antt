@@ -11,6 +11,8 @@ use lib.Dec.{leb}
 use lib.ListN.{length, getD}
 use borrow.Author.Tests.{eqb-true, eqb-false, leb-true, not-false}
 use Rattle.laws.specs.Choice.{pick, by-test, not-both}
+use Rattle.laws.specs.Lists.{same, member, distinct}
+use Rattle.laws.proofs.Parts.{and-first, and-second, or-either}
 use Rattle.terms.specs.declared.letters.Letter.the-variants.{Begin, Commit, GiveUp, Retry, Back, Asks}
 use Rattle.terms.specs.declared.refusals.Refusal.{Refusal}
 use Rattle.terms.specs.declared.refusals.Refusal.the-variants.{BadLine, CellAbove, TooManyLines, JobOutside, Ended}
@@ -18,9 +20,7 @@ use Rattle.terms.specs.Letters.{ofHistories}
 use Rattle.conflict.specs.declared.action.Mark.{Mark}
 use Rattle.conflict.specs.declared.action.Mark.the-variants.{Commit as commits, GiveUp as gives-up, Back as goes-back}
 use Rattle.conflict.specs.declared.action.Event.the-variants.{Ends}
-use Rattle.conflict.specs.Jobs.{same, member, distinct}
 use Rattle.conflict.specs.History.{History, isCommit, marked}
-use Rattle.conflict.proofs.Parts.{and-first, and-second, or-either}
 use Rattle.conflict.proofs.OneEvent.{marked-none, marked-does, marked-ends}
 use Rattle.text.specs.declared.reader.Reading.{Reading}
 use Rattle.text.specs.declared.reader.Reading.the-variants.{Good, Bad}

@@ -12,13 +12,13 @@ use lib.ListN.{length, length-append}
 use lib.Seq.{take-at, getD-at}
 use borrow.Author.Tests.{eqb-true, eqb-false, eq-eqb, ne-eqb, ltb-true, ltb-false, le-leb, lt-leb}
 use Rattle.laws.specs.Choice.{pick, by-test}
+use Rattle.laws.specs.Lists.{member}
+use Rattle.laws.proofs.Parts.{or-swap}
 use Rattle.terms.specs.declared.letters.Letter.the-variants.{Begin, Commit, GiveUp, Retry, Back, Asks}
 use Rattle.terms.specs.declared.refusals.Refusal.{Refusal}
 use Rattle.terms.specs.declared.refusals.Refusal.the-variants.{TooManyLines}
 use Rattle.terms.specs.Letters.{ofHistories}
 use Rattle.terms.specs.Limits.{judgedJobs, judgedLines}
-use Rattle.conflict.specs.Jobs.{member}
-use Rattle.conflict.proofs.Parts.{or-swap}
 use Rattle.text.specs.declared.reader.Reading.{Reading}
 use Rattle.text.specs.declared.reader.Reading.the-variants.{Good, Bad}
 use Rattle.text.specs.Lines.{readLine}

@@ -7,6 +7,7 @@ use mathlib.Core.List.{List, [], _∷_, _++_, map, dropLast}
 use native.Mathlib.Omega.{arith}
 use lib.Dec.{eqb, leb}
 use borrow.Author.Tests.{leb-true, ne-eqb}
+use Rattle.laws.proofs.Parts.{and-first, and-second, and-both}
 use Rattle.terms.specs.declared.letters.Ask.the-variants.{Read as asks-read, Write as asks-write, Increment as asks-increment}
 use Rattle.terms.specs.declared.letters.Letter.{Letter}
 use Rattle.terms.specs.declared.letters.Letter.the-variants.{Begin, Commit, GiveUp, Retry, Back, Asks}
@@ -15,7 +16,6 @@ use Rattle.terms.specs.Words.{newline}
 use Rattle.conflict.specs.declared.action.Event.{Event}
 use Rattle.conflict.specs.declared.action.Event.the-variants.{Does, Ends}
 use Rattle.conflict.specs.History.{History}
-use Rattle.conflict.proofs.Parts.{and-first, and-second, and-both}
 use Rattle.text.specs.Lines.{isDigit}
 use Rattle.text.specs.Decimal.{decimal}
 use Rattle.text.specs.Records.{field, lineRecord}

@@ -9,6 +9,7 @@ use lib.Dec.{leb, ltb}
 use lib.ListN.{length, length-append}
 use borrow.Author.Tests.{leb-true, ltb-true}
 use Rattle.laws.specs.Choice.{not-both}
+use Rattle.laws.proofs.Parts.{and-first, and-second}
 use Rattle.terms.specs.declared.letters.Letter.the-variants.{Commit, GiveUp, Back, Asks}
 use Rattle.terms.specs.Letters.{ofHistories}
 use Rattle.conflict.specs.declared.action.Kind.{Kind}
@@ -20,7 +21,7 @@ use Rattle.conflict.specs.declared.action.Event.{Event}
 use Rattle.conflict.specs.declared.action.Event.the-variants.{Does, Ends}
 use Rattle.conflict.specs.Modes.{recorded}
 use Rattle.conflict.specs.History.{History}
-use Rattle.conflict.proofs.Parts.{and-first, and-second}
+use Rattle.conflict.proofs.Clauses.{records-read, records-write, records-increment}
 use Rattle.text.specs.declared.reader.Reading.the-variants.{Good}
 use Rattle.text.specs.Lines.{readLine}
 use Rattle.text.proofs.ReadBack.{reads-record}
@@ -59,10 +60,10 @@ reads-mark goes-back j w = let b = mark-within goes-back j w in reads-record ofH
 
 -- a kind's letter asks for that kind
 kind-back : (k : Kind) → recorded (askBy k) ≡ k
-unfolding recorded askBy
-kind-back Read = refl
-kind-back Write = refl
-kind-back Increment = refl
+unfolding askBy
+kind-back Read = records-read
+kind-back Write = records-write
+kind-back Increment = records-increment
 
 -- a mark's letter says that mark
 mark-back : (m : Mark) (j : ℕ) → eventOf (Good (markLetter m) j 0) ≡ Ends m j ∷ []

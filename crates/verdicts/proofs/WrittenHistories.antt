@@ -11,6 +11,9 @@ use lib.Dec.{leb}
 use lib.ListN.{length}
 use borrow.Author.Tests.{eqb-true, ne-eqb, le-ltb, lt-leb}
 use Rattle.laws.specs.Choice.{by-test, not-both}
+use Rattle.laws.specs.Lists.{same, member}
+use Rattle.laws.proofs.Lists.{same-refl}
+use Rattle.laws.proofs.Parts.{and-first, and-second, or-either, or-first, nor-second}
 use Rattle.terms.specs.declared.letters.Letter.{Letter}
 use Rattle.terms.specs.declared.letters.Letter.the-variants.{Asks}
 use Rattle.terms.specs.Letters.{ofHistories, hasCell}
@@ -19,11 +22,8 @@ use Rattle.conflict.specs.declared.action.Action.{Action}
 use Rattle.conflict.specs.declared.action.Mark.{Mark}
 use Rattle.conflict.specs.declared.action.Mark.the-variants.{Commit as commits, GiveUp as gives-up, Back as goes-back}
 use Rattle.conflict.specs.declared.action.Event.the-variants.{Does, Ends}
-use Rattle.conflict.specs.Jobs.{same, member}
 use Rattle.conflict.specs.Schedule.{ConflictSerializable}
 use Rattle.conflict.specs.History.{History, lineOf, endsForGood, committedPart}
-use Rattle.conflict.proofs.Parts.{and-first, and-second, or-either, or-first, nor-second}
-use Rattle.conflict.proofs.JobLists.{same-refl}
 use Rattle.conflict.proofs.Marks.{ended-alone, ends-rest}
 use Rattle.conflict.proofs.OneEvent.{line-does, line-ends, good-does, commit-not-back, give-up-not-back}
 use Rattle.text.specs.declared.reader.Reading.the-variants.{Good}

@@ -5,10 +5,10 @@ use mathlib.Core.Bool.{Bool, true, not, _&&_}
 use mathlib.Core.List.{List, [], _∷_, _++_}
 use lib.Dec.{eqb}
 use lib.ListN.{length, take, drop}
+use Rattle.laws.specs.Lists.{member, distinct}
 use Rattle.terms.specs.declared.refusals.Refusal.{Refusal}
 use Rattle.terms.specs.declared.refusals.Refusal.the-variants.{ShortOrder}
 use Rattle.terms.specs.Words.{newline}
-use Rattle.conflict.specs.Jobs.{member, distinct}
 use Rattle.conflict.specs.Schedule.{Equivalent, serial, edge}
 use Rattle.conflict.specs.History.{History, isCommit, marked, committedPart}
 use Rattle.text.specs.Split.{linesOf, joined}
