@@ -50,6 +50,7 @@ pub mod JustAsked
 pub mod NotForgotten
 pub mod Oldest
 pub mod Pigeonhole
+pub mod RecordLimits
 pub mod SentBack
 pub mod ServedInTime
 pub mod SomebodyRuns
