@@ -14,3 +14,5 @@ pub mod EarlyStop
 pub mod Programs
 pub mod SameShown
 pub mod StartedRun
+pub mod StartedTexts
+pub mod EndToEnd
