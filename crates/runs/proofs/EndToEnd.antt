@@ -85,7 +85,7 @@ module _ (text : List ℕ) where
       absurd (omega arith))
       (λ f. let other′ : n ≢ 0 = eqb-false n 0 f in history-fault n why (refused-exactly (historyOf text) buffer n why (omega arith) .0 e .1))
 
-  -- and he never finds a knot in it
+  -- and the judge never finds a knot in it
   pub history-no-knot : (buffer : List ℕ) (n : ℕ) → judgementOf (historyOf text) buffer .said ≡ Knot n → ⊥
   history-no-knot buffer n e =
       let k = knot-said (historyOf text) buffer n e in

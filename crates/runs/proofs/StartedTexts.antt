@@ -1,4 +1,4 @@
--- The text of a history that a started desk has written: the judge reads every line of it back, and within the judge's limits he says orderly (demand 2; 01, Refusals by number).
+-- The text of a history that a started desk has written: the judge reads every line of it back, and within its limits it says orderly (demand 2; 01, Refusals by number).
 -- Assumes nothing.
 use Prim.Native.Nat.{ℕ, _≤_, _<_}
 use mathlib.Core.Path.{_≡_, refl, sym, _∙_, subst}
