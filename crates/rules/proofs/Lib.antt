@@ -51,6 +51,7 @@ pub mod NotForgotten
 pub mod Oldest
 pub mod Pigeonhole
 pub mod RecordLimits
+pub mod OneRecordEach
 pub mod SentBack
 pub mod ServedInTime
 pub mod SomebodyRuns
