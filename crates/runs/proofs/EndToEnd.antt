@@ -6,7 +6,7 @@ use mathlib.Core.Logic.{_≢_, _⊎_}
 use mathlib.Core.List.{List}
 use native.Mathlib.Omega.{arith}
 use lib.Dec.{eqb}
-use lib.ListN.{length, length-map, length-replicate, take, replicate}
+use lib.ListN.{length, length-replicate, take, replicate}
 use borrow.Author.Tests.{eqb-true, eqb-false, le-ltb}
 use Rattle.laws.specs.Choice.{by-test}
 use Rattle.terms.specs.declared.words.Word.the-variants.{Orderly as the-word-orderly}
@@ -26,15 +26,15 @@ use Rattle.verdicts.specs.Judgement.{judgementOf}
 use Rattle.verdicts.specs.Meant.{SmallestFirst}
 use Rattle.verdicts.specs.LineTable.{FirstFault, AllReadBack, AllFaultless}
 use Rattle.verdicts.specs.Answers.{InOrder}
-use Rattle.verdicts.specs.Written.{eventLine, KeepsLimits}
+use Rattle.verdicts.specs.Written.{KeepsLimits}
 use Rattle.verdicts.proofs.JudgedTexts.{knot-said, knot-said-exactly}
-use Rattle.verdicts.proofs.RecordLines.{text-lines}
 use Rattle.verdicts.proofs.ReadBack.{only-limits}
 use Rattle.verdicts.proofs.Refusing.{short-exactly, line-0-short, refused-exactly}
 use Rattle.runs.specs.Programs.{runOn, historyOf, wordLine, sayLine, judgedLine, verdictOf}
 use Rattle.runs.specs.Shown.{givenIn, historyOn}
 use Rattle.runs.proofs.SameShown.{history-is}
 use Rattle.runs.proofs.StartedRun.{history-started, history-jobs}
+use Rattle.runs.proofs.RunLength.{history-no-longer}
 use Rattle.runs.proofs.StartedTexts.{started-read-back, started-says, started-fits, started-faultless, started-orderly, started-order}
 
 -- the order buffer of the verdict program
@@ -91,12 +91,9 @@ module _ (text : List ℕ) where
       let k = knot-said (historyOf text) buffer n e in
       knot-said-exactly (historyOf text) buffer (k .0) (k .1) .0 (n, e) (subst (λ h. ConflictSerializable (committedPart h)) (sym history-says) (committed-jobs-serializable started))
 
-  -- the judge's limits, by what comes in and what goes out: at most 255 begins that go, and at most 4,096 lines written
-  pub few-begins : length (givenIn (runOn text)) ≤ judgedJobs → length (linesOf (historyOf text)) ≤ judgedLines → KeepsLimits (historyOn text)
-  few-begins begun lines = record {
-    jobs = λ j l. omega (arith, history-jobs text j l);
-    events = omega (arith, ap (λ t. length (linesOf t)) (history-is text), ap length (text-lines (historyOn text)), length-map (historyOn text) eventLine);
-  }
+  -- the judge's limits by what comes in alone: at most 255 begins that go, and at most 4,096 lines
+  pub small-input : length (givenIn (runOn text)) ≤ judgedJobs → length (linesOf text) ≤ judgedLines → KeepsLimits (historyOn text)
+  small-input begun lines = record { jobs = λ j l. omega (arith, history-jobs text j l); events = omega (arith, history-no-longer text) }
 
   module _ (limits : KeepsLimits (historyOn text)) where
     -- within the judge's limits no line of it is faulty

@@ -35,11 +35,11 @@ abbrev WroteTo : History → ℕ → Type 0
 WroteTo h next = (D : Desk) × Started D h × (D .next ≡ next)
 
 -- the history records of what is told
-abbrev recorded : Told → History
+abbrev pub recorded : Told → History
 recorded t = recordsOf (t .request) (t .said) (t .wakes)
 
 -- a bad line has none
-bad-records : recordsOf noRequest (No BadLine) [] ≡ []
+pub bad-records : recordsOf noRequest (No BadLine) [] ≡ []
 unfolding recordsOf ownRecords wakeRecords
 bad-records = refl
 
