@@ -50,10 +50,10 @@ pub mod JustAsked
 pub mod NotForgotten
 pub mod Oldest
 pub mod Pigeonhole
-pub mod RecordLimits
-pub mod OneRecordEach
 pub mod SentBack
 pub mod ServedInTime
 pub mod SomebodyRuns
 pub mod WaiterSees
 pub mod WaiterStep
+pub mod RecordLimits
+pub mod OneRecordEach

@@ -1,7 +1,7 @@
 -- From end to end, of texts alone: whatever text comes in, the text that `history` writes is read back by the judge's reader, and where it keeps within the judge's limits the judge says orderly, and so does `verdict` (01, What is delivered; demand 2).
 -- Assumes nothing.
 use Prim.Native.Nat.{ℕ, _≤_, _<_}
-use mathlib.Core.Path.{_≡_, refl, sym, ap, _∙_, subst}
+use mathlib.Core.Path.{_≡_, sym, ap, _∙_, subst}
 use mathlib.Core.Logic.{_≢_, _⊎_}
 use mathlib.Core.List.{List}
 use native.Mathlib.Omega.{arith}
@@ -11,7 +11,7 @@ use borrow.Author.Tests.{eqb-true, eqb-false, le-ltb}
 use Rattle.laws.specs.Choice.{by-test}
 use Rattle.terms.specs.declared.words.Word.the-variants.{Orderly as the-word-orderly}
 use Rattle.terms.specs.declared.refusals.Refusal.{Refusal}
-use Rattle.terms.specs.declared.refusals.Refusal.the-variants.{TooManyLines, JobOutside, ShortOrder}
+use Rattle.terms.specs.declared.refusals.Refusal.the-variants.{TooManyLines, JobOutside}
 use Rattle.terms.specs.Limits.{judgedBytes, judgedJobs, judgedLines}
 use Rattle.conflict.specs.Schedule.{ConflictSerializable, edge}
 use Rattle.conflict.specs.History.{committedPart, commitOrder}

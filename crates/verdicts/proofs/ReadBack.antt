@@ -3,7 +3,7 @@
 use Prim.Native.Nat.{ℕ, suc, _-_, _≤_}
 use mathlib.Core.Path.{_≡_, refl, sym, ap, ap₂, _∙_, subst}
 use mathlib.Core.Logic.{_≢_, _⊎_, inl, inr}
-use mathlib.Core.Bool.{true, false, _&&_}
+use mathlib.Core.Bool.{true, false}
 use mathlib.Core.List.{List, [], _∷_, _++_, map, map-append}
 use native.Mathlib.Omega.{arith}
 use lib.Dec.{eqb}
@@ -30,7 +30,7 @@ use Rattle.text.specs.declared.reader.Reading.the-variants.{Good}
 use Rattle.text.specs.Lines.{readLine}
 use Rattle.text.specs.Split.{linesOf}
 use Rattle.verdicts.specs.LineTable.{lineAt, linesBefore, isBad, above, ends, endedIn, overAlready, holds, holdsAt, AllReadBack, FirstFault}
-use Rattle.verdicts.specs.Written.{askBy, markLetter, eventLine, textOf, within, allWithin}
+use Rattle.verdicts.specs.Written.{markLetter, eventLine, textOf, within, allWithin}
 use Rattle.verdicts.proofs.RecordLines.{text-lines}
 use Rattle.verdicts.proofs.RecordsSay.{action-within, reads-action, reads-mark}
 use Rattle.verdicts.proofs.Refusing.{due-holds}

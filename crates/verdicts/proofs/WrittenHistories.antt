@@ -1,7 +1,7 @@
 -- No history text is refused that the desk could write: the text of a history within the judge's limits, in which jobs end for good, is faultless, and its lines say that history (01, Lines; 01, Refusals by number).
 -- Assumes nothing.
 use Prim.Native.Nat.{ℕ, _≤_}
-use mathlib.Core.Path.{_≡_, refl, ap, _∙_, subst}
+use mathlib.Core.Path.{_≡_, ap, _∙_, subst}
 use mathlib.Core.Logic.{_↔_}
 use mathlib.Core.Bool.{Bool, true, false}
 use mathlib.Core.List.{List}
