@@ -43,7 +43,7 @@ wakes-end (a ∷ xs) = good-does a (wakeRecords xs) ∙ wakes-end xs
 
 module _ {d : Desk} (v : Inv d) {r : Request} where
   -- who has an event in a step was open before it
-  line-open : {o : Outcome} {g : History} → Wrote d r o g → (j : ℕ) → lineOf j g ≡ true → isOpen (d .stat j) ≡ true
+  pub line-open : {o : Outcome} {g : History} → Wrote d r o g → (j : ℕ) → lineOf j g ≡ true → isOpen (d .stat j) ≡ true
   unfolding asking
   line-open (nothing w) j h = not-both h (line-none j)
   line-open (action a k w c) j h =

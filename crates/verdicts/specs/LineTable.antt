@@ -81,6 +81,14 @@ holds n before r ShortOrder = false
 holds n before r NoRoom = false
 holds n before r TooLong = false
 
+-- the row of this refusal holds for line n of the lines
+abbrev pub holdsAt : List (List ℕ) → ℕ → Refusal → Bool
+holdsAt ls n why = holds n (linesBefore ls n) (readLine ofHistories (lineAt ls n)) why
+
+-- every line is read back: none is a bad line, none has a cell above 63, and none is for a job that has committed or given up before it (01, refusals 9, 2 and 13)
+abbrev pub AllReadBack : List (List ℕ) → Type 0
+AllReadBack ls = (n : ℕ) → 1 ≤ n → n ≤ length ls → (holdsAt ls n BadLine ≡ false) × (holdsAt ls n CellAbove ≡ false) × (holdsAt ls n Ended ≡ false)
+
 -- the order of the tests: on one line 11, 9, 12, 2, 13
 unfoldable pub order : List Refusal
 order = TooManyLines ∷ BadLine ∷ JobOutside ∷ CellAbove ∷ Ended ∷ []
