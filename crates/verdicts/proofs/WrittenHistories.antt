@@ -1,6 +1,6 @@
 -- No history text is refused that the desk could write: the text of a history within the judge's limits, in which jobs end for good, is faultless, and its lines say that history (01, Lines; 01, Refusals by number).
 -- Assumes nothing.
-use Prim.Native.Nat.{ℕ, _≤_}
+use Prim.Native.Nat.{ℕ, suc, _≤_}
 use mathlib.Core.Path.{_≡_, ap, _∙_, subst}
 use mathlib.Core.Logic.{_↔_}
 use mathlib.Core.Bool.{Bool, true, false}
@@ -31,8 +31,8 @@ use Rattle.verdicts.proofs.ReadBack.{line-of, event-within, row-of, wri
 
 -- a record whose job is 1 to 255 is for no job outside
 record-inside : (e : Event) → within judgedJobs e ≡ true → within lastNumber e ≡ true → outside (readLine ofHistories (eventLine e)) ≡ false
-record-inside (Does a) w v = let b = action-within judgedJobs a w in rw (reads-action a v, le-leb 1 (a .job) (b .0), le-leb (a .job) 255 (b .1))
-record-inside (Ends m j) w v = let b = mark-within judgedJobs m j w in rw (reads-mark m j v, le-leb 1 j (b .0), le-leb j 255 (b .1))
+record-inside (Does a) w v = let b = action-within judgedJobs a w in rw (reads-action a v, le-leb 1 (a .job) (b .0), le-leb (a .job) judgedJobs (b .1))
+record-inside (Ends m j) w v = let b = mark-within judgedJobs m j w in rw (reads-mark m j v, le-leb 1 j (b .0), le-leb j judgedJobs (b .1))
 
 -- no line of the text is for a job outside
 lines-inside : (h : History) → allWithin judgedJobs h ≡ true → (n : ℕ) → 1 ≤ n → n ≤ length (linesOf (textOf h)) → holdsAt (linesOf (textOf h)) n JobOutside ≡ false
@@ -44,7 +44,7 @@ lines-inside h w n from to =
 -- nor is a line up to 4,096 line 4,097
 few-lines : (ls : List (List ℕ)) (n : ℕ) → n ≤ judgedLines → holdsAt ls n TooManyLines ≡ false
 unfolding holds
-few-lines ls n h = ne-eqb n 4_097 (omega arith)
+few-lines ls n h = ne-eqb n (suc judgedLines) (omega arith)
 
 -- where none of the rows holds the table says nothing
 no-row : (f : Refusal → Bool) → f TooManyLines ≡ false → f BadLine ≡ false → f JobOutside ≡ false → f CellAbove ≡ false → f Ended ≡ false → firstOf f order ≡ none
