@@ -56,6 +56,8 @@ pub mod ServedInTime
 pub mod SomebodyRuns
 pub mod WaiterSees
 pub mod WaiterStep
+pub mod RecordLimits
+pub mod OneRecordEach
 pub mod ExactModes
 pub mod WakesTold
 pub mod FourKinds

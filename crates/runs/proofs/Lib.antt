@@ -14,6 +14,9 @@ pub mod EarlyStop
 pub mod Programs
 pub mod SameShown
 pub mod StartedRun
+pub mod RunLength
+pub mod StartedTexts
+pub mod EndToEnd
 pub mod BadLines
 pub mod FromOne
 pub mod VerdictLine

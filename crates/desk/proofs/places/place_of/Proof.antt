@@ -5,7 +5,7 @@ use mathlib.Core.Path.{_≡_}
 use native.Mathlib.Omega.{arith}
 use lib.ListN.{drop}
 use borrow.Author.Needs.{needs}
-use Rattle.conflict.specs.Jobs.{pos}
+use Rattle.laws.specs.Lists.{pos}
 use Rattle.desk.proofs.Found.{found-here, found-later, found-nowhere}
 use Rattle.desk.proofs.places.place_of.Statement.{statement}
 use Rattle.desk.proofs.places.place_of.Tie as tie
