@@ -79,7 +79,7 @@ text-started : (text : List ℕ) → WroteTo (historyOn text) (firstNumber + len
 unfolding runOn
 text-started text = unfold freshDesk in run-started (fresh firstNumber (omega arith) (omega arith)) 1 (linesOf text)
 
--- THE HISTORY IS A STARTED DESK'S: what the history program writes is the history of a desk that was started at 1
+-- THE HISTORY IS A STARTED DESK'S: what the history program writes is the history of a started desk; that this desk was started at 1 is `history-from-one`
 pub history-started : (text : List ℕ) → Wrote (historyOn text)
 history-started text = (text-started text .0, text-started text .1)
 
