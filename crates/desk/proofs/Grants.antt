@@ -18,7 +18,7 @@ use Rattle.board.specs.declared.state.Woken.{Woken}
 use Rattle.board.specs.Codes.{askOf}
 use Rattle.board.specs.Places.{spot, youngest, agreesAt, wantsAt}
 use Rattle.board.specs.Settling.{Settling, woken, granted, grantFront, settleCell}
-use Rattle.desk.proofs.Tests.{and-fails}
+use Rattle.moves.proofs.Tests.{and-fails}
 
 module _ (number cell ask : List ℕ) (c : ℕ) where
   -- who is in front of the queue

@@ -1,27 +1,33 @@
 // Rule 4 over the arrays: a job's locks are dropped, and waiters are granted from the front of each queue (01, rule 4).
-use crate::places::agrees;
-use crate::places::front_of;
-use crate::places::mode_at;
-use crate::places::wide;
+use board::codes::FREE;
 use board::codes::RUNNING;
+use board::codes::SENT_BACK;
 use board::codes::WAITING;
 use board::codes::ask_of;
 use board::state::Woken;
 use conflict::action::Action;
+use conflict::action::Kind;
 use conflict::modes::Mode;
 use conflict::modes::asked_mode;
 use conflict::modes::code_of;
 use conflict::modes::needed_mode;
 use conflict::modes::recorded_kind;
+use moves::agrees;
+use moves::front_of;
+use moves::mode_at;
+use moves::wide;
 use terms::letters::Ask;
 ghost use Prim.Native.Nat.{_+_, _≤_, _<_};
 ghost use mathlib.Core.Path.{_≡_};
 ghost use lib.ListN.{length};
 ghost use Rattle.board.specs.Places.{waiters, wantsAt};
+ghost use Rattle.board.specs.Steps.{settled};
+ghost use Rattle.moves.specs.Plan.{over};
+ghost use Rattle.desk.specs.Answers.{codeAfter};
 ghost use Rattle.board.specs.Settling.{droppedBy, wanted, woken, settleCell, settleAll};
 
 // A place drops all its locks.
-pub fn drop_locks(held: &mut [u8; 2048], p: usize)
+fn drop_locks(held: &mut [u8; 2048], p: usize)
     requires { ⌜ p < 32 ⌝ }
     ensures { λ r. ⌜ now (held .exit) ≡ droppedBy (now (held .entry)) p 64 ⌝ }
 {
@@ -108,7 +114,7 @@ fn settle_cell<'a>(
 }
 
 // The same for every cell from 0 to 63; a cell that nobody waits for is passed over.
-pub fn settle_all<'a>(
+fn settle_all<'a>(
     held: &mut [u8; 2048],
     number: &'a [u32; 32],
     cell: &'a [u8; 32],
@@ -129,4 +135,43 @@ pub fn settle_all<'a>(
         c += 1;
     }
     s
+}
+
+// What a place is once its run has ended: free, or sent back.
+fn code_after(closed: bool) -> u8
+    ensures { λ r. ⌜ r ≡ codeAfter closed ⌝ }
+{
+    if closed {
+        return FREE;
+    }
+    SENT_BACK
+}
+
+// The run of a place ends, closed or sent back: its locks are dropped and the cells settled, the modes where they stand.
+pub fn end_run(
+    number: [u32; 32],
+    status: [u8; 32],
+    cell: [u8; 32],
+    ask: [u8; 32],
+    held: &mut [u8; 2048],
+    p: usize,
+    closed: bool,
+) -> Woken
+    requires { ⌜ p < 32 ⌝ }
+    ensures { λ r. ⌜ (r ≡ settled (over 0 number status cell ask (now (held .entry))) p (codeAfter closed) .told) × (now (held .exit) ≡ settled (over 0 number status cell ask (now (held .entry))) p (codeAfter closed) .held) ⌝ }
+{
+    let a = Action {
+        kind: Kind::Read,
+        job: 0,
+        cell: 0,
+    };
+    let mut after = status;
+    after[p] = code_after(closed);
+    let t = Woken {
+        status: after,
+        wakes: [a; 32],
+        count: 0,
+    };
+    drop_locks(held, p);
+    settle_all(held, &number, &cell, &ask, t)
 }
