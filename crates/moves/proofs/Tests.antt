@@ -1,6 +1,6 @@
 -- Tests joined by && and ||, taken one after the other as code does.
 -- Assumes nothing.
-use mathlib.Core.Path.{_≡_, refl}
+use mathlib.Core.Path.{_≡_, refl, sym}
 use mathlib.Core.Bool.{Bool, true, false, _&&_, _||_}
 use Rattle.laws.specs.Choice.{not-both}
 
@@ -20,3 +20,8 @@ or-rest false false c h = refl
 pub and-fails : (a : Bool) {b : Bool} → b ≡ false → (a && b) ≡ false
 and-fails true h = h
 and-fails false h = refl
+
+-- where the second of two holds, the first decides
+pub and-holds : (a : Bool) {b : Bool} → b ≡ true → a ≡ (a && b)
+and-holds true h = sym h
+and-holds false h = refl

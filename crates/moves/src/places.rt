@@ -134,13 +134,13 @@ pub fn wide(byte: u8) -> usize
     byte as usize
 }
 
-// Whether a place waits for the cell.
+// Whether a place waits for the cell; few places have its number, so that is looked at first.
 pub fn waits_for<'a>(status: &'a [u8; 32], cell: &'a [u8; 32], c: usize, q: usize) -> bool
     requires { ⌜ q < 32 ⌝ }
     ensures { λ r. ⌜ r ≡ waitsAt (now (status .entry)) (now (cell .entry)) c q ⌝ }
 {
-    if status[q] == WAITING {
-        return wide(cell[q]) == c;
+    if wide(cell[q]) == c {
+        return status[q] == WAITING;
     }
     false
 }
