@@ -759,24 +759,81 @@ fn verdict(input: impl Read, output: &mut impl Write) -> io::Result<()> {
     output.flush()
 }
 
-fn verdict_line(text: &[u8]) -> Vec<u8> {
-    let mut order = [0; HISTORY_JOBS];
-    let verdict = if text.len() > HISTORY_BYTES {
+/// 01, The judge's rules, last paragraph: 16 is tested before anything else.
+fn judge_within<'a>(text: &'a [u8], order: &mut [u8]) -> Verdict<'a> {
+    if text.len() > HISTORY_BYTES {
         Verdict::No { line: 0, refusal: TEXT_LONG, text: b"" }
     } else {
-        judge(text, &mut order)
-    };
-    let (word, numbers): (&str, Vec<u64>) = match verdict {
+        judge(text, order)
+    }
+}
+
+fn verdict_line(text: &[u8]) -> Vec<u8> {
+    let mut order = [0; HISTORY_JOBS];
+    let verdict = judge_within(text, &mut order);
+    let mut out = Vec::new();
+    put_verdict(&mut out, &verdict, &order);
+    out
+}
+
+fn put_verdict(out: &mut Vec<u8>, verdict: &Verdict, order: &[u8]) {
+    let (word, numbers): (&str, Vec<u64>) = match *verdict {
         Verdict::Orderly(count) => ("orderly", order[..count].iter().map(|&job| u64::from(job)).collect()),
         Verdict::Knot(count) => ("knot", order[..count].iter().map(|&job| u64::from(job)).collect()),
         Verdict::No { line, refusal, .. } => ("no", vec![line as u64, u64::from(refusal)]),
     };
-    let mut out = word.as_bytes().to_vec();
+    out.extend_from_slice(word.as_bytes());
     for number in numbers {
-        put_field(&mut out, number);
+        put_field(out, number);
     }
     out.push(b'\n');
-    out
+}
+
+/// The most places that a case lends, and what its header begins with.
+const CASE_PLACES: usize = 300;
+const CASE_MARK: u8 = b'=';
+
+/// The judge by cases. A line that begins with `=` is a header: its digits tell how many
+/// places are lent, 300 at most, and the lines up to the next header are the history. What
+/// stands before the first header, and a header without its newline, is no case.
+fn cases(mut input: impl Read, output: &mut impl Write) -> io::Result<()> {
+    let mut all = Vec::new();
+    // A failing read leaves in `all` what came before it.
+    let _ = input.read_to_end(&mut all);
+    let mut case: Option<(usize, Vec<u8>)> = None;
+    let mut out = Vec::new();
+    for line in all.split_inclusive(|&byte| byte == b'\n') {
+        if line[0] == CASE_MARK {
+            put_case(&mut out, case.take());
+            if line.ends_with(b"\n") {
+                case = Some((places_of(line), Vec::new()));
+            }
+        } else if let Some((_, text)) = &mut case {
+            text.extend_from_slice(line);
+        }
+    }
+    put_case(&mut out, case);
+    write_out(output, &mut out)
+}
+
+fn places_of(header: &[u8]) -> usize {
+    let digits = header.iter().filter(|byte| byte.is_ascii_digit());
+    digits.fold(0, |places, &digit| (10 * places + usize::from(digit - b'0')).min(CASE_PLACES))
+}
+
+/// The verdict's line, and the line handed back where there is one.
+fn put_case(out: &mut Vec<u8>, case: Option<(usize, Vec<u8>)>) {
+    let Some((places, text)) = case else {
+        return;
+    };
+    let mut order = vec![0; places];
+    let verdict = judge_within(&text, &mut order);
+    put_verdict(out, &verdict, &order);
+    if let Verdict::No { line: 1.., text, .. } = verdict {
+        out.extend_from_slice(b"line\t");
+        out.extend_from_slice(text);
+        out.push(b'\n');
+    }
 }
 
 /// For tests of the text layer: what the two line readers say of each line.
@@ -1460,7 +1517,7 @@ const CONFLICTS: &[(u8, u8)] = &[
     (INCREMENT, READ),
 ];
 
-/// A history with a cycle of a wanted length, and jobs before, behind and beside it.
+/// A history with a cycle of some length.
 fn knotted_history(chance: &mut Chance, count: usize) -> Vec<Line> {
     let wanted = match chance.below(4) {
         0 => chance.between(2, 4),
@@ -1468,6 +1525,11 @@ fn knotted_history(chance: &mut Chance, count: usize) -> Vec<Line> {
         2 => chance.between(64, 255),
         _ => chance.of(&[2, 3, 63, 64, 254, 255, 255, 255]),
     };
+    knot_history(chance, wanted, count)
+}
+
+/// A history with a cycle of a wanted length, and jobs before, behind and beside it.
+fn knot_history(chance: &mut Chance, wanted: usize, count: usize) -> Vec<Line> {
     let length = wanted.min(count / 3);
     if length < 2 {
         return loose_history(chance, count);
@@ -1582,6 +1644,149 @@ fn desk_history(seed: u64, count: usize, last_begin: u32) -> Vec<Line> {
     events
 }
 
+// ------------------------------------------------------------------ the makers of cases
+
+/// The kinds of case, which come in turn.
+const CASE_KINDS: u64 = 16;
+
+/// One case of `make cases`: its header and its history, each line with its newline.
+fn case_text(chance: &mut Chance, number: u64) -> Vec<u8> {
+    let places = chance.of(&[255, 255, 255, 255, 255, 256, 257, 299, 300, 300, 300, 254]);
+    let places = if number % 40 == 39 { chance.of(&[0, 1, 32, 200, 254, 254]) } else { places };
+    let mut text = format!("= {places}\n").into_bytes();
+    for mut line in case_lines(chance, number) {
+        if line.first() == Some(&CASE_MARK) {
+            line[0] = b'-';
+        }
+        text.extend(line);
+        text.push(b'\n');
+    }
+    text
+}
+
+fn case_lines(chance: &mut Chance, number: u64) -> Vec<Vec<u8>> {
+    let count = chance.of(&[3, 6, 12, 30, 60, 120, 240]);
+    let kind = number % CASE_KINDS;
+    let events = match kind {
+        0 => ranked_history(chance, count),
+        1 => knot_case(chance, 2, 4),
+        2 => knot_case(chance, 5, 62),
+        3 => knot_case(chance, 63, 64),
+        4 => knot_case(chance, 65, 253),
+        5 => knot_case(chance, 254, 255),
+        6 => loose_history(chance, count),
+        7 => desk_history(chance.number(), count, 255),
+        8 => backed_history(chance, count),
+        9 => edge_jobs_history(chance, count),
+        10 => return full_lines(chance, number),
+        _ => some_history(chance, count),
+    };
+    let mut lines: Vec<Vec<u8>> = events.iter().map(|&event| fields_of(event)).collect();
+    if kind > 10 && !lines.is_empty() {
+        put_case_fault(chance, kind, &events, &mut lines);
+    }
+    lines
+}
+
+/// An orderly history, a knot or a loose one, with no fault.
+fn some_history(chance: &mut Chance, count: usize) -> Vec<Line> {
+    match chance.below(3) {
+        0 => ranked_history(chance, count),
+        1 => knotted_history(chance, count),
+        _ => loose_history(chance, count),
+    }
+}
+
+/// A knot of a length between two, with a few more lines than it needs.
+fn knot_case(chance: &mut Chance, low: usize, high: usize) -> Vec<Line> {
+    let wanted = chance.between(low, high);
+    let more = chance.of(&[0, 1, 7, 50]);
+    knot_history(chance, wanted, 3 * wanted + more)
+}
+
+/// A history with a `k` put in at several places: before all, after all, before a commit,
+/// twice, of a job that does nothing else; and where its job has ended, which is a fault.
+fn backed_history(chance: &mut Chance, count: usize) -> Vec<Line> {
+    let mut events = some_history(chance, count);
+    for _ in 0..chance.of(&[1, 1, 1, 2, 5, 20]) {
+        let anywhere = chance.below(events.len() + 1);
+        let at = chance.of(&[0, events.len(), anywhere, anywhere]);
+        let stranger = chance.between(1, HISTORY_JOBS) as u32;
+        let job = if events.is_empty() || chance.percent(10) {
+            stranger
+        } else {
+            events[chance.below(events.len())].job
+        };
+        let ended = |event: &Line| matches!(event.letter, COMMIT | GIVE_UP) && event.job == job;
+        if chance.percent(15) || !events[..at].iter().any(ended) {
+            events.insert(at, Line { letter: SENT_BACK, job, cell: 0 });
+        }
+    }
+    events
+}
+
+/// Jobs at the edges of 1 to 255; a line of 256, which is a fault, in two of five.
+fn edge_jobs_history(chance: &mut Chance, count: usize) -> Vec<Line> {
+    let jobs = [1, 2, 127, 128, 254, 255];
+    let mut events = Vec::new();
+    for _ in 0..count {
+        let letter = chance.of(b"rrwwik");
+        events.push(Line { letter, job: chance.of(&jobs), cell: chance.below(3) as u32 });
+    }
+    events.extend(jobs.iter().map(|&job| Line { letter: COMMIT, job, cell: 0 }));
+    if chance.percent(40) {
+        let at = chance.below(events.len() + 1);
+        let letter = chance.of(HISTORY_LETTERS);
+        events.insert(at, Line { letter, job: 256, cell: chance.below(CELLS) as u32 });
+    }
+    events
+}
+
+/// 4,096 lines, and in two of three cases one or two more: a good, a bad or an empty one.
+fn full_lines(chance: &mut Chance, number: u64) -> Vec<Vec<u8>> {
+    let events = some_history(chance, HISTORY_LINES);
+    let mut lines: Vec<Vec<u8>> = events.iter().map(|&event| fields_of(event)).collect();
+    for _ in 0..number / CASE_KINDS % 3 {
+        let more = [b"c\t1".to_vec(), Vec::new(), b"r\t256\t64".to_vec(), odd_line(chance)];
+        lines.push(more[chance.below(more.len())].clone());
+    }
+    lines
+}
+
+/// One fault of a kind on a line: 9, 12, 2, 13, and several on one line or on several.
+fn put_case_fault(chance: &mut Chance, kind: u64, events: &[Line], lines: &mut [Vec<u8>]) {
+    let ends = |event: &&Line| matches!(event.letter, COMMIT | GIVE_UP);
+    let first_end = events.iter().position(|event| ends(&event)).unwrap_or(0);
+    let at = if kind < 14 { chance.below(lines.len()) } else { chance.between(first_end, lines.len() - 1) };
+    let ended: Vec<u32> = events[..at].iter().filter(ends).map(|event| event.job).collect();
+    let outside = chance.of(&[0, 256, 257, 1_000, 65_536, LAST_NUMBER]);
+    let above = chance.of(&[64, 65, 99]);
+    let mut event = events[at];
+    match kind {
+        11 => {
+            lines[at] = spoil_line(chance, &lines[at]);
+            return;
+        }
+        12 => event.job = outside,
+        13 => {
+            event.letter = chance.of(b"rwi");
+            event.cell = above;
+        }
+        14 => {
+            event.letter = chance.of(HISTORY_LETTERS);
+            event.job = if ended.is_empty() { event.job } else { chance.of(&ended) };
+        }
+        _ => {
+            event.letter = chance.of(b"rwi");
+            event.cell = above;
+            event.job = if ended.is_empty() || chance.percent(50) { outside } else { chance.of(&ended) };
+            let other = chance.below(lines.len());
+            lines[other] = spoil_line(chance, &lines[other]);
+        }
+    }
+    lines[at] = fields_of(event);
+}
+
 // ------------------------------------------------------------------ the make command
 
 /// Puts so many lines, each with a newline, but the last without one if `torn`.
@@ -1633,6 +1838,20 @@ fn make_steps(seed: u64, count: u64, first: u32, output: &mut impl Write) -> io:
         maker.desk.step(asked);
         format!("{} {} {}", asked.letter, asked.job, asked.cell).into_bytes()
     })
+}
+
+/// The last case lacks its last newline if the seed is odd.
+fn make_cases(seed: u64, count: u64, output: &mut impl Write) -> io::Result<()> {
+    let mut chance = Chance(seed);
+    let mut out = Vec::new();
+    for number in 0..count {
+        out.extend(case_text(&mut chance, number));
+        if number + 1 == count && seed % 2 == 1 {
+            out.pop();
+        }
+        write_out(output, &mut out)?;
+    }
+    Ok(())
 }
 
 // ------------------------------------------------------------------ the demands
@@ -2100,8 +2319,9 @@ fn demands(seed: u64, count: u64) -> Result<(), String> {
 
 // ------------------------------------------------------------------ the command line
 
-const USAGE: &str = "usage: second answers | history | verdict | lines | steps FIRST | mix COUNT
+const USAGE: &str = "usage: second answers | history | verdict | lines | cases | steps FIRST | mix COUNT
        second make requests|histories|lines SEED LINES
+       second make cases SEED COUNT
        second make steps SEED COUNT [FIRST]
        second demands SEED STEPS";
 
@@ -2126,6 +2346,7 @@ fn run(words: &[&str], input: impl Read, output: &mut impl Write) -> io::Result<
         ["history"] => history(input, output)?,
         ["verdict"] => verdict(input, output)?,
         ["lines"] => lines(input, output)?,
+        ["cases"] => cases(input, output)?,
         ["steps", first] => {
             let Ok(first) = first.parse() else {
                 return usage();
@@ -2151,6 +2372,7 @@ fn run(words: &[&str], input: impl Read, output: &mut impl Write) -> io::Result<
                 "requests" => make_requests(seed, count, output)?,
                 "histories" => make_histories(seed, count, output)?,
                 "lines" => make_lines(seed, count, output)?,
+                "cases" => make_cases(seed, count, output)?,
                 "steps" => make_steps(seed, count, 1, output)?,
                 _ => return usage(),
             }
@@ -2699,6 +2921,54 @@ mod tests {
         assert!(orders > 50 && knots > 50, "{orders} orders, {knots} knots");
     }
 
+    // ---- the judge by cases
+
+    #[test]
+    fn cases_one_after_another() {
+        let input =
+            "c\t9\n= 255\nw\t2\t0\nw\t1\t0\nc\t1\nc\t2\n= 254\nx\n=300\n=255\nc\t1\n\n= 9999\nr\t1\t0";
+        let wanted = "orderly\t2\t1\nno\t0\t14\norderly\nno\t2\t9\nline\t\nno\t1\t9\nline\tr\t1\t0\n";
+        let (output, status) = printed(&["cases"], input.as_bytes());
+        assert_eq!((shown(&output).as_str(), status), (wanted, 0));
+        assert_eq!(printed(&["cases"], b"= 255\nc\t3\n= 25").0, b"orderly\t3\n");
+        assert_eq!(printed(&["cases"], b"").0, b"");
+    }
+
+    #[test]
+    fn cases_up_to_their_length() {
+        let full = [b"= 255\n".to_vec(), vec![b'7'; HISTORY_BYTES - 1], b"\n".to_vec()].concat();
+        let line = [b"no\t1\t9\nline\t".to_vec(), vec![b'7'; HISTORY_BYTES - 1], b"\n".to_vec()].concat();
+        assert_eq!(printed(&["cases"], &full).0, line);
+        let more = [b"= 255\n".to_vec(), vec![b'7'; HISTORY_BYTES], b"\n= 3\n".to_vec()].concat();
+        assert_eq!(printed(&["cases"], &more).0, b"no\t0\t16\nno\t0\t14\n");
+    }
+
+    #[test]
+    fn cases_reach_every_verdict() {
+        let mut counts: BTreeMap<String, usize> = BTreeMap::new();
+        let mut lengths = BTreeSet::new();
+        for seed in 0..20u64 {
+            let input = made(&["make", "cases", &seed.to_string(), "64"]);
+            let headers = input.split(|&byte| byte == b'\n').filter(|line| line.starts_with(b"= "));
+            assert_eq!(headers.count(), 64);
+            assert_eq!(input.ends_with(b"\n"), seed % 2 == 0);
+            for line in shown(&printed(&["cases"], &input).0).lines() {
+                let words: Vec<&str> = line.split('\t').collect();
+                let word = if words[0] == "no" { format!("no {}", words[2]) } else { words[0].to_string() };
+                *counts.entry(word).or_insert(0) += 1;
+                if words[0] == "knot" {
+                    lengths.insert(words.len() - 1);
+                }
+            }
+        }
+        for wanted in ["orderly", "knot", "no 2", "no 9", "no 11", "no 12", "no 13", "no 14", "line"] {
+            let count = counts.get(wanted).copied().unwrap_or(0);
+            assert!(count >= 20, "{wanted} in {count} of 1280 cases: {counts:?}");
+        }
+        assert!(lengths.len() > 100, "knots of {lengths:?}");
+        assert!([2, 3, 63, 64, 254, 255].iter().all(|length| lengths.contains(length)), "{lengths:?}");
+    }
+
     // ---- the makers
 
     fn made(words: &[&str]) -> Vec<u8> {
@@ -2722,12 +2992,20 @@ mod tests {
                 (0..24u64).map(|seed| made(&["make", what, &seed.to_string(), "700"])).collect();
             found.push(hash(&all.concat()));
         }
+        let cases: Vec<Vec<u8>> =
+            (0..24u64).map(|seed| made(&["make", "cases", &seed.to_string(), "48"])).collect();
+        found.push(hash(&cases.concat()));
         assert_eq!(found, PINNED, "the makers' bytes have changed");
     }
 
     /// The hashes of what the makers made when they were finished.
-    const PINNED: [u64; 4] =
-        [10730013811433798341, 7003461445568691286, 1787414104871834272, 848319494135559834];
+    const PINNED: [u64; 5] = [
+        10730013811433798341,
+        7003461445568691286,
+        1787414104871834272,
+        848319494135559834,
+        3068943878721212739,
+    ];
 
     /// What one step shows of the features wanted.
     fn features(before: &Desk, asked: Line, outcome: &Outcome, after: &Desk) -> Vec<String> {

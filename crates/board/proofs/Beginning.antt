@@ -11,9 +11,9 @@ use lib.Dec.{ltb}
 use lib.ListN.{getD, set, length-set}
 use lib.Seq.{getD-set-same, getD-set-other}
 use Rattle.laws.specs.Choice.{by-test}
+use Rattle.laws.specs.Lists.{member, pos}
 use Rattle.terms.specs.Limits.{places, lastNumber}
 use Rattle.conflict.specs.declared.modes.Mode.the-variants.{Free}
-use Rattle.conflict.specs.Jobs.{member, pos}
 use Rattle.rules.specs.declared.Answer.the-variants.{Go}
 use Rattle.rules.specs.Desk.{closed, running, Waiter, at}
 use Rattle.rules.specs.Rules.{begin}

@@ -7,7 +7,7 @@ use mathlib.Core.Bool.{false}
 use mathlib.Core.List.{List}
 use lib.ListN.{length, getD}
 use Rattle.laws.specs.Choice.{by-test}
-use Rattle.conflict.specs.Jobs.{pos}
+use Rattle.laws.specs.Lists.{pos}
 use Rattle.rules.specs.Desk.{at}
 use Rattle.rules.proofs.Invariant.{Once}
 use Rattle.rules.proofs.Tests.{at-same, at-other, at-all}

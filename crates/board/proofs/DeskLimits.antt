@@ -10,12 +10,12 @@ use lib.Dec.{eqb}
 use lib.ListN.{length}
 use borrow.Author.Tests.{eqb-true, eqb-false, ne-eqb}
 use Rattle.laws.specs.Choice.{by-test}
+use Rattle.laws.specs.Lists.{member, distinct}
 use Rattle.terms.specs.declared.letters.Lettered.{Lettered}
 use Rattle.terms.specs.declared.refusals.Refusal.{Refusal}
 use Rattle.terms.specs.declared.refusals.Refusal.the-variants.{StartedAtZero}
 use Rattle.terms.specs.Refusals.{numberOf}
 use Rattle.terms.specs.Limits.{places, lastNumber}
-use Rattle.conflict.specs.Jobs.{member, distinct}
 use Rattle.conflict.specs.History.{History}
 use Rattle.rules.specs.Desk.{Request, isOpen}
 use Rattle.rules.specs.Step as paper-step

@@ -4,8 +4,8 @@ use Prim.Native.Nat.{ℕ, _<_, _≤_}
 use mathlib.Core.Path.{_≡_}
 use mathlib.Core.Bool.{true}
 use mathlib.Core.List.{List}
+use Rattle.laws.specs.Lists.{distinct}
 use Rattle.terms.specs.Limits.{lastNumber}
-use Rattle.conflict.specs.Jobs.{distinct}
 use Rattle.conflict.specs.Schedule.{Equivalent, serial, ConflictSerializable, edge, knot}
 use Rattle.conflict.specs.History.{History, committedPart, committed, commitOrder, endsForGood, strict}
 use Rattle.rules.specs.Desk.{Request}

@@ -6,9 +6,9 @@ use mathlib.Core.Logic.{_≢_, _⊎_, inl, inr}
 use mathlib.Core.Bool.{false}
 use mathlib.Core.List.{List, []}
 use lib.ListN.{length, getD}
+use Rattle.laws.specs.Lists.{member}
 use Rattle.terms.specs.Letters.{letterOf}
 use Rattle.conflict.specs.declared.action.Action.{Action}
-use Rattle.conflict.specs.Jobs.{member}
 use Rattle.conflict.specs.History.{History}
 use Rattle.rules.specs.Desk as paper
 use Rattle.rules.specs.Rules.{isWoken}

@@ -7,7 +7,7 @@ use mathlib.Core.List.{List, [], _∷_}
 use native.Mathlib.Omega.{arith}
 use lib.ListN.{length, getD}
 use Rattle.laws.specs.Choice.{by-test, not-both}
-use Rattle.conflict.proofs.Parts.{and-first, and-second, and-both}
+use Rattle.laws.proofs.Parts.{and-first, and-second, and-both}
 use Rattle.rules.specs.Locks.{every}
 use Rattle.board.specs.Places.{allBelow}
 use Rattle.board.proofs.Cases.{by-last}

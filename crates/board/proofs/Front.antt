@@ -10,8 +10,8 @@ use lib.Dec.{ltb}
 use lib.ListN.{length, getD, List·getD-eq-default}
 use borrow.Author.Tests.{ltb-true, lt-ltb}
 use Rattle.laws.specs.Choice.{by-test}
+use Rattle.laws.proofs.Parts.{and-first, and-second}
 use Rattle.terms.specs.Limits.{places}
-use Rattle.conflict.proofs.Parts.{and-first, and-second}
 use Rattle.board.specs.Places.{waitsAt, youngest}
 use Rattle.board.proofs.Cases.{by-last}
 

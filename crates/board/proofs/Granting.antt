@@ -11,13 +11,13 @@ use lib.Dec.{eqb}
 use lib.ListN.{length, getD, set, take, length-set}
 use lib.Seq.{getD-set-other, take-suc-set}
 use borrow.Author.Tests.{eqb-true}
+use Rattle.laws.proofs.Parts.{and-first}
 use Rattle.terms.specs.declared.letters.Ask.{Ask}
 use Rattle.terms.specs.Limits.{places, cells}
 use Rattle.conflict.specs.declared.modes.Mode.{Mode}
 use Rattle.conflict.specs.declared.modes.Mode.the-variants.{Free}
 use Rattle.conflict.specs.declared.action.Action.{Action}
 use Rattle.conflict.specs.Modes.{needed, recorded, asked, codeOf}
-use Rattle.conflict.proofs.Parts.{and-first}
 use Rattle.rules.specs.Desk.{Status, closed, running, at}
 use Rattle.board.specs.declared.state.Woken.{Woken}
 use Rattle.board.specs.Codes.{freeCode, runningCode, waitingCode}

@@ -10,9 +10,9 @@ use lib.Dec.{ltb}
 use lib.ListN.{length, getD}
 use borrow.Author.Tests.{ltb-true, lt-ltb, not-true}
 use Rattle.laws.specs.Choice.{by-test, not-both}
+use Rattle.laws.specs.Lists.{pos}
 use Rattle.terms.specs.declared.letters.Ask.{Ask}
 use Rattle.terms.specs.Limits.{places}
-use Rattle.conflict.specs.Jobs.{pos}
 use Rattle.rules.specs.Desk.{Status, closed, running, waiting, Waiter, at}
 use Rattle.rules.specs.Locks.{isEmpty, olderThanWaiters}
 use Rattle.rules.proofs.Invariant.{In, first, later, Falling, Once}

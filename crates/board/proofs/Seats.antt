@@ -10,9 +10,9 @@ use lib.Dec.{eqb, ltb}
 use lib.ListN.{length, getD}
 use borrow.Author.Tests.{eqb-true, eqb-false, eq-eqb, ne-eqb, ltb-true, lt-ltb, not-true}
 use Rattle.laws.specs.Choice.{by-test, not-both}
-use Rattle.conflict.specs.Jobs.{same, member, pos}
-use Rattle.conflict.proofs.JobLists.{pos-first, pos-later, member-first, member-later, member-more}
-use Rattle.conflict.proofs.Parts.{and-first, and-second}
+use Rattle.laws.specs.Lists.{same, member, pos}
+use Rattle.laws.proofs.Lists.{pos-first, pos-later, member-first, member-later, member-more}
+use Rattle.laws.proofs.Parts.{and-first, and-second}
 use Rattle.rules.proofs.Invariant.{Once}
 use Rattle.board.specs.Stands.{isSeated}
 

@@ -9,8 +9,8 @@ use lib.ListN.{length, getD, set, length-set}
 use lib.Seq.{getD-set-same, getD-set-other, lt-length-set}
 use borrow.Author.Tests.{eqb-true}
 use Rattle.laws.specs.Choice.{by-test, not-both}
-use Rattle.conflict.specs.Jobs.{same, member, pos}
-use Rattle.conflict.proofs.JobLists.{pos-first, pos-later, member-first, member-later}
+use Rattle.laws.specs.Lists.{same, member, pos}
+use Rattle.laws.proofs.Lists.{pos-first, pos-later, member-first, member-later}
 use Rattle.rules.specs.Desk.{at, seated, vacated}
 use Rattle.rules.proofs.Invariant.{Once}
 use Rattle.rules.proofs.Tests.{at-each, at-all}

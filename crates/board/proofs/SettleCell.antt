@@ -10,11 +10,11 @@ use lib.Dec.{eqb}
 use lib.ListN.{length, getD}
 use borrow.Author.Tests.{eqb-true, lt-ltb}
 use Rattle.laws.specs.Choice.{pick, by-test}
+use Rattle.laws.specs.Lists.{pos}
+use Rattle.laws.proofs.Parts.{and-first}
 use Rattle.terms.specs.Limits.{places, cells}
 use Rattle.conflict.specs.declared.modes.Mode.the-variants.{Free}
 use Rattle.conflict.specs.Modes.{needed, asked}
-use Rattle.conflict.specs.Jobs.{pos}
-use Rattle.conflict.proofs.Parts.{and-first}
 use Rattle.rules.specs.Desk.{Waiter, at}
 use Rattle.rules.specs.Locks.{agrees, wants, woke, Settled, settle}
 use Rattle.rules.specs.Rules.{wake, wakesAt, isWoken, wakened}

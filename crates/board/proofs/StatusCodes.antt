@@ -11,9 +11,9 @@ use lib.ListN.{length, getD, set, List·getD-eq-default}
 use lib.Seq.{getD-set-same, getD-set-other}
 use borrow.Author.Tests.{eqb-true, eqb-false, eq-eqb}
 use Rattle.laws.specs.Choice.{by-test, not-both}
+use Rattle.laws.proofs.Parts.{and-first, and-second, and-both}
 use Rattle.terms.specs.declared.letters.Ask.{Ask}
 use Rattle.terms.specs.declared.letters.Ask.the-variants.{Read, Write, Increment}
-use Rattle.conflict.proofs.Parts.{and-first, and-second, and-both}
 use Rattle.rules.specs.Desk.{Status, closed, running, waiting, sentback, isOpen, at}
 use Rattle.rules.proofs.Statuses.{running-open, waiting-open, sentback-open, closed-not-open, running-not-waiting, sentback-not-waiting, not-open-not-waiting, one-cell, one-ask}
 use Rattle.rules.proofs.Tests.{at-all}

@@ -8,8 +8,6 @@ use Rattle.board.proofs.codes.ask_of.Reads as ask-of
 use Rattle.board.proofs.codes.ask_of.Kinds as ask-ofK
 use Rattle.board.proofs.state.with_no_wakes.Reads as with-no-wakes
 use Rattle.board.proofs.state.with_no_wakes.Kinds as with-no-wakesK
-use Rattle.board.proofs.state.Desk.empty.Reads as empty
-use Rattle.board.proofs.state.Desk.empty.Kinds as emptyK
 use Rattle.board.proofs.state.Desk.start.Reads as start
 use Rattle.board.proofs.state.Desk.start.Kinds as startK
 use Rattle.board.proofs.state.Desk.wait.Reads as wait
@@ -25,9 +23,6 @@ ask-of-unique κs a x y e f p q = p ∙ sym q
 
 pub with-no-wakes-unique : Unique with-no-wakesK.ps with-no-wakesK.r with-no-wakes.Post
 with-no-wakes-unique κs a x y e f p q = p ∙ sym q
-
-pub empty-unique : Unique emptyK.ps emptyK.r empty.Post
-empty-unique κs a x y e f p q = p ∙ sym q
 
 pub start-unique : Unique startK.ps startK.r start.Post
 start-unique κs a x y e f p q = p ∙ sym q

@@ -5,9 +5,9 @@ use mathlib.Core.Path.{_≡_, refl, ap, _∙_, fun-ext}
 use mathlib.Core.Bool.{Bool, true, false}
 use mathlib.Core.List.{List, [], _∷_, _++_}
 use Rattle.laws.specs.Choice.{pick, by-test}
+use Rattle.laws.specs.Lists.{same}
+use Rattle.laws.proofs.Lists.{same-sym}
 use Rattle.conflict.specs.declared.action.Action.{Action}
-use Rattle.conflict.specs.Jobs.{same}
-use Rattle.conflict.proofs.JobLists.{same-sym}
 use Rattle.rules.specs.Desk.{Status, running, Waiter, at}
 use Rattle.rules.specs.Rules.{wake, wakesAt, isWoken, wakened}
 use Rattle.rules.proofs.Wakes.{woken-either}

@@ -3,6 +3,7 @@ use Prim.Native.Nat.{ℕ, suc, _<_}
 use mathlib.Core.Path.{_≡_}
 use mathlib.Core.Logic.{_≢_}
 use mathlib.Core.Bool.{true, false}
+use Rattle.laws.specs.Lists.{member}
 use Rattle.terms.specs.declared.letters.Ask.{Ask}
 use Rattle.terms.specs.declared.letters.Letter.the-variants.{Commit, GiveUp}
 use Rattle.terms.specs.declared.letters.Lettered.the-variants.{Known}
@@ -11,7 +12,6 @@ use Rattle.terms.specs.Limits.{cells}
 use Rattle.conflict.specs.declared.modes.Mode.the-variants.{Free}
 use Rattle.conflict.specs.declared.action.Action.{Action}
 use Rattle.conflict.specs.Modes.{needed, recorded, covers, isFree}
-use Rattle.conflict.specs.Jobs.{member}
 use Rattle.rules.specs.declared.Answer.the-variants.{Go, Back}
 use Rattle.rules.specs.Desk.{closed, running, waiting, sentback}
 use Rattle.board.specs.declared.state.Desk.{Desk}

@@ -6,12 +6,12 @@ use mathlib.Core.List.{List, [], _++_}
 use lib.Dec.{eqb}
 use lib.ListN.{length, getD, take}
 use Rattle.laws.specs.Choice.{pick}
+use Rattle.laws.specs.Lists.{member, pos}
 use Rattle.terms.specs.declared.letters.Ask.{Ask}
 use Rattle.terms.specs.Limits.{places, lastNumber}
 use Rattle.conflict.specs.declared.modes.Mode.{Mode}
 use Rattle.conflict.specs.declared.modes.Mode.the-variants.{Free}
 use Rattle.conflict.specs.declared.action.Action.{Action}
-use Rattle.conflict.specs.Jobs.{member, pos}
 use Rattle.conflict.specs.History.{History}
 use Rattle.rules.specs.Desk as paper
 use Rattle.rules.specs.Desk.{Status, closed, running, waiting, sentback}

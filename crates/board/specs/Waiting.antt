@@ -5,11 +5,11 @@ use mathlib.Core.Logic.{_≢_}
 use mathlib.Core.Bool.{true, false}
 use mathlib.Core.List.{List, [], _∷_, _++_}
 use lib.ListN.{length}
+use Rattle.laws.specs.Lists.{member, distinct}
 use Rattle.terms.specs.declared.letters.Ask.{Ask}
 use Rattle.conflict.specs.declared.modes.Mode.{Mode}
 use Rattle.conflict.specs.declared.action.Action.{Action}
 use Rattle.conflict.specs.Modes.{needed, recorded, covers, asked, isFree}
-use Rattle.conflict.specs.Jobs.{member, distinct}
 use Rattle.conflict.specs.Runs.{ended}
 use Rattle.rules.specs.Desk.{running, waiting, Request, isOpen, isLive}
 use Rattle.rules.specs.Waiting.{In, GivesUp}

@@ -80,7 +80,7 @@ pub fn with_no_wakes(answer: Answer) -> Said
 
 impl Desk {
     // A desk whose places are all free; its next number is the one given.
-    pub fn empty(first: u32) -> Desk
+    fn empty(first: u32) -> Desk
         ensures { λ r. ⌜ r ≡ emptyDesk first ⌝ }
     {
         Desk {

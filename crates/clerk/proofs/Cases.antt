@@ -16,7 +16,8 @@ use Rattle.rules.specs.declared.Answer.{Answer}
 use Rattle.runs.specs.declared.View.{View}
 use Rattle.runs.specs.declared.View.the-variants.{Answers, History}
 use Rattle.rules.specs.Step.{recordsOf, ownRecords, wakeRecords}
-use Rattle.runs.specs.Run.{wordOf, numberBeside, askBy, answerLines, historyLines, wakeLines, eventLines}
+use Rattle.verdicts.specs.Written.{askBy, textOf}
+use Rattle.runs.specs.Run.{wordOf, numberBeside, answerLines, historyLines, wakeLines}
 use Rattle.runs.specs.Work.{viewed, unended}
 use Rattle.clerk.specs.declared.records.Noted.{Noted}
 use Rattle.clerk.specs.declared.records.Noted.the-variants.{Nothing, Line}
@@ -60,5 +61,5 @@ bad-answer view line n e f = rw (e, f) (sym (append-nil _))
 
 -- a bad line gives the history nothing
 pub bad-noted : (view : View) (line : ℕ) → view ≡ History → [] ≡ viewed view (unended line)
-unfolding viewed unended historyLines recordsOf ownRecords wakeRecords eventLines
+unfolding viewed unended historyLines recordsOf ownRecords wakeRecords textOf
 bad-noted view line e = rw e

@@ -2,7 +2,7 @@
 -- Assumes nothing.
 use Prim.Native.Nat.{ℕ}
 use mathlib.Core.Path.{_≡_, refl, sym, ap, ap₂, _∙_}
-use mathlib.Core.List.{List, [], _∷_, _++_, append-assoc, append-nil}
+use mathlib.Core.List.{List, [], _∷_, _++_, append-nil}
 use lib.ListN.{take}
 use Rattle.terms.specs.declared.letters.Ask.{Ask}
 use Rattle.terms.specs.declared.letters.Ask.the-variants.{Read, Write, Increment}
@@ -13,7 +13,7 @@ use Rattle.terms.specs.Letters.{byteOf, letterOf}
 use Rattle.terms.proofs.Alphabet.{letter-of-byte}
 use Rattle.conflict.specs.declared.action.Action.{Action}
 use Rattle.conflict.specs.Modes.{recorded}
-use Rattle.conflict.specs.History.{History}
+use Rattle.conflict.proofs.Clauses.{records-read, records-write, records-increment}
 use Rattle.text.specs.Records.{lineRecord}
 use Rattle.rules.specs.declared.Answer.{Answer}
 use Rattle.rules.specs.declared.Answer.the-variants.{Go, Wait, Back as goes-back, No}
@@ -21,25 +21,21 @@ use Rattle.rules.specs.Desk.{Request}
 use Rattle.rules.specs.Step.{wentBy, ownRecords, recordsOf}
 use Rattle.rules.specs.Step as step
 use Rattle.board.specs.declared.state.Said.{Said}
+use Rattle.verdicts.specs.Written.{askBy, markLetter, eventLine, textOf}
+use Rattle.verdicts.proofs.RecordLines.{text-append}
 use Rattle.runs.specs.declared.View.{View}
 use Rattle.runs.specs.declared.View.the-variants.{Answers, History as TheHistory}
-use Rattle.runs.specs.Run.{Told, askBy, markLetter, eventLine, eventLines, wakeLines, answerLines, historyLines}
+use Rattle.runs.specs.Run.{wakeLines, answerLines, historyLines}
 use Rattle.runs.specs.Work.{viewed}
 use Rattle.runs.proofs.Turns.{toldBy}
 use Rattle.clerk.specs.Parts.{notedGo, noted, notedBytes, firstRecord, wakeRecord, wakeRecords, lineRecords}
 
 -- what is asked is the letter of the kind that is recorded of it
 ask-recorded : (a : Ask) → askBy (recorded a) ≡ a
-unfolding askBy recorded
-ask-recorded Read = refl
-ask-recorded Write = refl
-ask-recorded Increment = refl
-
--- the records of some events and then of others
-pub events-append : (h k : History) → eventLines (h ++ k) ≡ eventLines h ++ eventLines k
-unfolding eventLines
-events-append [] k = refl
-events-append (e ∷ h) k = ap (λ l. eventLine e ++ l) (events-append h k) ∙ sym (append-assoc (eventLine e) (eventLines h) (eventLines k))
+unfolding askBy
+ask-recorded Read = rw records-read
+ask-recorded Write = rw records-write
+ask-recorded Increment = rw records-increment
 
 module _ (job cell : ℕ) where
   -- the request of a line that says it
@@ -47,8 +43,8 @@ module _ (job cell : ℕ) where
   asking l = record { kind = byteOf l; job = job; cell = cell }
 
   -- what the history notes of a request that goes
-  went-noted : (l : Letter) (j : ℕ) → notedBytes (notedGo l j cell) ≡ eventLines (wentBy (asking l) j (Known l))
-  unfolding notedGo notedBytes wentBy eventLines eventLine markLetter
+  went-noted : (l : Letter) (j : ℕ) → notedBytes (notedGo l j cell) ≡ textOf (wentBy (asking l) j (Known l))
+  unfolding notedGo notedBytes wentBy textOf eventLine markLetter
   went-noted Begin j = refl
   went-noted Commit j = sym (append-nil _)
   went-noted GiveUp j = sym (append-nil _)
@@ -57,9 +53,9 @@ module _ (job cell : ℕ) where
   went-noted (Asks a) j = ap (λ b. lineRecord (Asks b) j cell) (sym (ask-recorded a)) ∙ sym (append-nil _)
 
   -- and of its answer
-  own-noted : (l : Letter) (a : Answer) → notedBytes (noted l cell a) ≡ eventLines (ownRecords (asking l) a)
-  unfolding noted ownRecords notedBytes eventLines eventLine markLetter
-  own-noted l (Go j) = went-noted l j ∙ ap (λ k. eventLines (wentBy (asking l) j k)) (sym (letter-of-byte l))
+  own-noted : (l : Letter) (a : Answer) → notedBytes (noted l cell a) ≡ textOf (ownRecords (asking l) a)
+  unfolding noted ownRecords notedBytes textOf eventLine markLetter
+  own-noted l (Go j) = went-noted l j ∙ ap (λ k. textOf (wentBy (asking l) j k)) (sym (letter-of-byte l))
   own-noted l (Wait j) = refl
   own-noted l (goes-back j) = sym (append-nil _)
   own-noted l (No why) = refl
@@ -71,8 +67,8 @@ wakes-answered line [] = refl
 wakes-answered line (a ∷ ws) = ap (λ l. wakeRecord Answers line a ++ l) (wakes-answered line ws)
 
 -- the wakes in the history
-wakes-noted : (line : ℕ) (ws : List Action) → wakeRecords TheHistory line ws ≡ eventLines (step.wakeRecords ws)
-unfolding wakeRecords wakeRecord step.wakeRecords eventLines eventLine
+wakes-noted : (line : ℕ) (ws : List Action) → wakeRecords TheHistory line ws ≡ textOf (step.wakeRecords ws)
+unfolding wakeRecords wakeRecord step.wakeRecords textOf eventLine
 wakes-noted line [] = refl
 wakes-noted line (a ∷ ws) = ap (λ l. wakeRecord TheHistory line a ++ l) (wakes-noted line ws)
 
@@ -83,4 +79,4 @@ unfolding lineRecords viewed firstRecord answerLines historyLines recordsOf
 records-told Answers line l job cell said = ap (λ r. firstRecord Answers line l cell (said .answer) ++ r) (wakes-answered line (take (said .count) (said .wakes)))
 records-told TheHistory line l job cell said =
     ap₂ (λ h k. h ++ k) (own-noted job cell l (said .answer)) (wakes-noted line (take (said .count) (said .wakes)))
-    ∙ sym (events-append (ownRecords (record { kind = byteOf l; job = job; cell = cell }) (said .answer)) (step.wakeRecords (take (said .count) (said .wakes))))
+    ∙ sym (text-append (ownRecords (record { kind = byteOf l; job = job; cell = cell }) (said .answer)) (step.wakeRecords (take (said .count) (said .wakes))))

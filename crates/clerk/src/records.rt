@@ -20,7 +20,8 @@ ghost use Rattle.terms.specs.Limits.{requestLines, lastNumber};
 ghost use Rattle.text.specs.Records.{answerRecord, lineRecord};
 ghost use Rattle.text.specs.Wrote.{Wrote};
 ghost use Rattle.text.proofs.Length.{ofAnswers};
-ghost use Rattle.runs.specs.Run.{wordOf, numberBeside, askBy};
+ghost use Rattle.verdicts.specs.Written.{askBy};
+ghost use Rattle.runs.specs.Run.{wordOf, numberBeside};
 ghost use Rattle.runs.specs.Work.{viewed, unended, lineRoom};
 ghost use Rattle.clerk.specs.Parts.{Added, notedGo, noted, notedBytes, firstRecord, wakeRecord, wakeRecords, lineRecords};
 

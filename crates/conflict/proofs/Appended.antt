@@ -6,16 +6,16 @@ use mathlib.Core.Bool.{Bool, true, false, not, _&&_, _||_, cond, or-assoc}
 use mathlib.Core.List.{List, [], _∷_, _++_}
 use borrow.Author.Tests.{eqb-true, not-true}
 use Rattle.laws.specs.Choice.{by-test, not-both}
+use Rattle.laws.specs.Lists.{same, put}
+use Rattle.laws.proofs.Lists.{same-refl}
+use Rattle.laws.proofs.Parts.{and-first, and-second, and-both, nor-first, nor-second, or-either, or-second}
 use Rattle.conflict.specs.declared.action.Action.{Action}
 use Rattle.conflict.specs.declared.action.Mark.{Mark}
 use Rattle.conflict.specs.declared.action.Mark.the-variants.{Commit, GiveUp, Back}
 use Rattle.conflict.specs.declared.action.Event.the-variants.{Does, Ends}
-use Rattle.conflict.specs.Jobs.{same}
 use Rattle.conflict.specs.Schedule.{Schedule, keep}
-use Rattle.conflict.specs.History.{History, isCommit, isBack, marked, commits, committed, put, commitOrder, lineOf, endsForGood}
+use Rattle.conflict.specs.History.{History, isCommit, isBack, marked, commits, committed, commitOrder, lineOf, endsForGood}
 use Rattle.conflict.specs.Runs.{isLast, isEnd, ended, kept}
-use Rattle.conflict.proofs.Parts.{and-first, and-second, and-both, nor-first, nor-second, or-either, or-second}
-use Rattle.conflict.proofs.JobLists.{same-refl}
 use Rattle.conflict.proofs.Marks.{ended-alone, ends-rest}
 
 -- a line of a job stands in the first part or in the second

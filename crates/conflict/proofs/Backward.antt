@@ -8,13 +8,13 @@ use mathlib.Core.List.{List, [], _∷_, _++_}
 use native.Mathlib.Omega.{arith}
 use borrow.Author.Tests.{eqb-true}
 use Rattle.laws.specs.Choice.{by-test, not-both}
+use Rattle.laws.specs.Lists.{same, member, distinct, pos}
+use Rattle.laws.proofs.Lists.{first-ahead, pos-both, once-first, once-rest, member-other}
+use Rattle.laws.proofs.Parts.{and-first, and-second, or-swap, and-swap}
 use Rattle.conflict.specs.declared.action.Action.{Action}
-use Rattle.conflict.specs.Jobs.{same, member, distinct, pos}
 use Rattle.conflict.specs.Schedule.{Schedule, conflicts, Swap, Equivalent, keep, own, serial, names, touches, edge, Forward, ConflictSerializable, path, knot}
 use Rattle.conflict.specs.Schedule.Swap.{here, later}
 use Rattle.conflict.specs.Schedule.Equivalent.{done, after}
-use Rattle.conflict.proofs.Parts.{and-first, and-second, or-swap, and-swap}
-use Rattle.conflict.proofs.JobLists.{first-ahead, pos-both, once-first, once-rest, member-other}
 use Rattle.conflict.proofs.Swaps.{conflicts-sym}
 use Rattle.conflict.proofs.Edges.{touches-other, edge-cases, edge-names}
 use Rattle.conflict.proofs.OwnActions.{names-serial}

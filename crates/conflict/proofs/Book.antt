@@ -8,13 +8,13 @@ use mathlib.Core.List.{[], _∷_}
 use lib.Dec.{lit<}
 use borrow.Author.Tests.{eqb-true, eqb-false}
 use Rattle.laws.specs.Choice.{not-both}
+use Rattle.laws.specs.Lists.{same, member, distinct, pos}
+use Rattle.laws.proofs.Parts.{or-either}
 use Rattle.conflict.specs.declared.action.Kind.the-variants.{Read, Write}
 use Rattle.conflict.specs.declared.action.Action.{Action}
-use Rattle.conflict.specs.Jobs.{same, member, distinct, pos}
 use Rattle.conflict.specs.Schedule.{Schedule, agree, conflicts, Swap, Equivalent, keep, own, serial, touches, edge, names, Forward, ConflictSerializable, path, knot}
 use Rattle.conflict.specs.Schedule.Swap.{here, later}
 use Rattle.conflict.specs.Schedule.Equivalent.{done, after}
-use Rattle.conflict.proofs.Parts.{or-either}
 use Rattle.conflict.proofs.Edges.{edge-names}
 use Rattle.conflict.proofs.Forward.{forward}
 use Rattle.conflict.proofs.Backward.{backward, refuted}

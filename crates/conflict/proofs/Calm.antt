@@ -5,14 +5,14 @@ use mathlib.Core.Path.{_≡_, refl, sym, ap, ap₂, _∙_}
 use mathlib.Core.Bool.{Bool, true, false, not, _&&_, _||_, and-assoc, and-true}
 use mathlib.Core.List.{[], _∷_, _++_}
 use Rattle.laws.specs.Choice.{by-test}
+use Rattle.laws.specs.Lists.{same}
+use Rattle.laws.proofs.Parts.{and-both, or-second}
 use Rattle.conflict.specs.declared.action.Action.{Action}
 use Rattle.conflict.specs.declared.action.Mark.{Mark}
 use Rattle.conflict.specs.declared.action.Event.the-variants.{Does, Ends}
-use Rattle.conflict.specs.Jobs.{same}
 use Rattle.conflict.specs.Schedule.{conflicts}
 use Rattle.conflict.specs.History.{History, marked, undisturbed, strict}
 use Rattle.conflict.specs.Runs.{isEnd, ended, calm}
-use Rattle.conflict.proofs.Parts.{and-both, or-second}
 
 -- until its run ends nothing of the first part disturbs an action, nor, if its run has not ended there, of the second
 pub undisturbed-append : (a : Action) (h g : History) → undisturbed a (h ++ g) ≡ (undisturbed a h && (ended (a .job) h || undisturbed a g))

@@ -6,15 +6,15 @@ use mathlib.Core.Bool.{true, false, not, _&&_, and-false}
 use mathlib.Core.List.{[], _∷_}
 use borrow.Author.Tests.{eqb-true}
 use Rattle.laws.specs.Choice.{by-test, not-both}
+use Rattle.laws.specs.Lists.{same, member, distinct, put}
+use Rattle.laws.proofs.Lists.{same-refl, member-more}
+use Rattle.laws.proofs.Parts.{and-both, or-first, or-second}
 use Rattle.conflict.specs.declared.action.Mark.{Mark}
 use Rattle.conflict.specs.declared.action.Mark.the-variants.{Commit, GiveUp, Back}
 use Rattle.conflict.specs.declared.action.Event.the-variants.{Does, Ends}
-use Rattle.conflict.specs.Jobs.{same, member, distinct}
 use Rattle.conflict.specs.Schedule.{keep, names}
-use Rattle.conflict.specs.History.{History, isCommit, isBack, marked, partOf, committedPart, commits, committed, put, commitOrder, lineOf, endsForGood}
-use Rattle.conflict.proofs.Parts.{and-both, or-first, or-second}
-use Rattle.conflict.proofs.JobLists.{same-refl}
-use Rattle.conflict.proofs.CommitOrder.{names-more}
+use Rattle.conflict.specs.History.{History, isCommit, isBack, marked, partOf, committedPart, commits, committed, commitOrder, lineOf, endsForGood}
+use Rattle.conflict.proofs.CommittedJobs.{names-wider}
 use Rattle.conflict.proofs.Marks.{unmarked, listed, commits-marked, commits-is, ended-alone, ends-rest}
 
 -- what has gone by of the whole has no c of a job that still has lines: such a job has a c in the whole exactly if it has one in the rest
@@ -64,7 +64,7 @@ committed-has (Does a ∷ h) =
     (λ t. rw t (and-both (member (a .job) (commitOrder h)) (names (commitOrder h) (committed h)) (listed (a .job) h ∙ commits-marked (a .job) h t) (committed-has h)))
     (λ f. rw f (committed-has h))
 committed-has (Ends m i ∷ h) =
-    by-test (isCommit m) (λ t. rw t (names-more i (commitOrder h) (committed h) (committed-has h))) (λ f. rw f (committed-has h))
+    by-test (isCommit m) (λ t. rw t (names-wider (commitOrder h) (i ∷ commitOrder h) (committed h) (λ j m. member-more i (commitOrder h) j m) (committed-has h))) (λ f. rw f (committed-has h))
 
 -- where jobs end for good, none commits twice
 pub commit-order-once : (h : History) → endsForGood h ≡ true → distinct (commitOrder h) ≡ true

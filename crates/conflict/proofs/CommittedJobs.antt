@@ -5,11 +5,11 @@ use mathlib.Core.Path.{_≡_, refl}
 use mathlib.Core.Bool.{true, not, _&&_}
 use mathlib.Core.List.{List, [], _∷_}
 use Rattle.laws.specs.Choice.{by-test}
+use Rattle.laws.specs.Lists.{member}
+use Rattle.laws.proofs.Parts.{and-first, and-second, and-both}
 use Rattle.conflict.specs.declared.action.Event.the-variants.{Does, Ends}
-use Rattle.conflict.specs.Jobs.{member}
 use Rattle.conflict.specs.Schedule.{Schedule, keep, names}
 use Rattle.conflict.specs.History.{History, isCommit, isBack, marked, partOf, committedPart}
-use Rattle.conflict.proofs.Parts.{and-first, and-second, and-both}
 
 -- a list that has every job of one that names a schedule's jobs names them too
 pub names-wider : (part order : List ℕ) (s : Schedule) → ((j : ℕ) → member j part ≡ true → member j order ≡ true) → names part s ≡ true → names order s ≡ true

@@ -6,10 +6,10 @@ use mathlib.Core.Bool.{true, false, not, _&&_}
 use mathlib.Core.List.{List, [], _∷_}
 use borrow.Author.Tests.{eqb-true, not-true}
 use Rattle.laws.specs.Choice.{by-test, not-both}
+use Rattle.laws.specs.Lists.{same, member}
+use Rattle.laws.proofs.Parts.{and-first, and-second, or-either, or-second}
 use Rattle.conflict.specs.declared.action.Action.{Action}
-use Rattle.conflict.specs.Jobs.{same, member}
 use Rattle.conflict.specs.Schedule.{Schedule, agree, conflicts, names, touches, edge}
-use Rattle.conflict.proofs.Parts.{and-first, and-second, or-either, or-second}
 
 -- an action conflicts with one of job j that comes next
 pub touches-here : (a : Action) (j : ℕ) (b : Action) (s : Schedule) → same (b .job) j ≡ true → conflicts a b ≡ true → touches a j (b ∷ s) ≡ true

@@ -6,13 +6,13 @@ use mathlib.Core.Bool.{true, false, _&&_}
 use mathlib.Core.List.{List, [], _∷_, _++_}
 use borrow.Author.Tests.{eqb-true, eqb-false}
 use Rattle.laws.specs.Choice.{by-test, not-both}
+use Rattle.laws.specs.Lists.{same}
+use Rattle.laws.proofs.Lists.{same-refl, same-sym, pos-rest, none-ahead, once-first, once-rest}
+use Rattle.laws.proofs.Parts.{nor-first, nor-second}
 use Rattle.conflict.specs.declared.action.Action.{Action}
-use Rattle.conflict.specs.Jobs.{same}
 use Rattle.conflict.specs.Schedule.{Schedule, conflicts, Equivalent, keep, own, serial, touches, edge, Forward, ConflictSerializable}
 use Rattle.conflict.specs.Schedule.Swap.{here}
 use Rattle.conflict.specs.Schedule.Equivalent.{done, after}
-use Rattle.conflict.proofs.Parts.{nor-first, nor-second}
-use Rattle.conflict.proofs.JobLists.{same-refl, same-sym, pos-rest, none-ahead, once-first, once-rest}
 use Rattle.conflict.proofs.Swaps.{equivalent-trans, equivalent-later, equivalent-behind}
 use Rattle.conflict.proofs.Edges.{touches-here, touches-later, touches-cases, edge-here, edge-later, edge-cases}
 use Rattle.conflict.proofs.OwnActions.{others, serial-others, serial-again, names-others, names-none}

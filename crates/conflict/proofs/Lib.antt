@@ -1,5 +1,3 @@
-pub mod Parts
-pub mod JobLists
 pub mod Swaps
 pub mod Edges
 pub mod OwnActions
@@ -9,7 +7,7 @@ pub mod Book
 pub mod ModeLaws
 pub mod Matrix
 pub mod Unique
-pub mod CommitOrder
+pub mod CommittedJobs
 pub mod Marks
 pub mod Committed
 pub mod Appended
@@ -17,8 +15,8 @@ pub mod Calm
 pub mod Strict
 pub mod LockMachine
 pub mod MoreModeLaws
+pub mod Clauses
 pub mod OneEvent
 pub mod StillHeld
 pub mod Ways
-pub mod CommittedJobs
 pub mod CodeLaws

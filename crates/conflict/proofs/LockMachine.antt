@@ -7,17 +7,17 @@ use mathlib.Core.Bool.{Bool, true, false, not, _&&_, _||_}
 use mathlib.Core.List.{[], _∷_, _++_}
 use borrow.Author.Tests.{eqb-true, eqb-false}
 use Rattle.laws.specs.Choice.{by-test, not-both}
+use Rattle.laws.specs.Lists.{same}
+use Rattle.laws.proofs.Lists.{same-refl}
+use Rattle.laws.proofs.Parts.{and-first, and-second, and-both, or-either, or-first, or-second, nor-second}
 use Rattle.conflict.specs.declared.action.Action.{Action}
 use Rattle.conflict.specs.declared.action.Mark.{Mark}
 use Rattle.conflict.specs.declared.action.Event.the-variants.{Does, Ends}
-use Rattle.conflict.specs.Jobs.{same}
 use Rattle.conflict.specs.Schedule.{conflicts, Equivalent, serial}
 use Rattle.conflict.specs.History.{History, marked, committedPart, commitOrder, endsForGood, undisturbed, strict}
 use Rattle.conflict.specs.Runs.{isEnd, ended, calm}
 use Rattle.conflict.specs.LockMachine.{Table, AtLeast, Together, allows, Ran}
 use Rattle.conflict.specs.LockMachine.Ran.{start, grows, acts, stops}
-use Rattle.conflict.proofs.Parts.{and-first, and-second, and-both, or-either, or-first, or-second, nor-second}
-use Rattle.conflict.proofs.JobLists.{same-refl}
 use Rattle.conflict.proofs.ModeLaws.{free-beside, keeps-out, lets-grows}
 use Rattle.conflict.proofs.Appended.{ended-append}
 use Rattle.conflict.proofs.Calm.{strict-mark, strict-action}

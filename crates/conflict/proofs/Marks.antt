@@ -6,13 +6,13 @@ use mathlib.Core.Bool.{Bool, true, false, not, _&&_, _||_, and-false}
 use mathlib.Core.List.{[], _∷_}
 use borrow.Author.Tests.{eqb-true, not-true}
 use Rattle.laws.specs.Choice.{by-test}
+use Rattle.laws.specs.Lists.{same, member}
+use Rattle.laws.proofs.Lists.{member-put}
+use Rattle.laws.proofs.Parts.{and-first, and-second, nor-first, nor-second}
 use Rattle.conflict.specs.declared.action.Mark.{Mark}
 use Rattle.conflict.specs.declared.action.Mark.the-variants.{Commit, GiveUp, Back}
 use Rattle.conflict.specs.declared.action.Event.the-variants.{Does, Ends}
-use Rattle.conflict.specs.Jobs.{same, member}
 use Rattle.conflict.specs.History.{History, isCommit, isBack, marked, commits, commitOrder, lineOf, endsForGood}
-use Rattle.conflict.proofs.CommitOrder.{member-put}
-use Rattle.conflict.proofs.Parts.{and-first, and-second, nor-first, nor-second}
 
 -- a job of which no line stands has no mark
 pub unmarked : (f : Mark → Bool) (j : ℕ) (h : History) → lineOf j h ≡ false → marked f j h ≡ false

@@ -219,9 +219,18 @@ keeps-out I S k l b h g = not-both b refl
 keeps-out I X k l b h g = not-both b refl
 keeps-out I I k l b h g = rw (lets-increments k h, lets-increments l g)
 
--- actions whose needs may be held together agree
-pub needs-agree : (a b : Ask) → beside (needed a) (needed b) ≡ true → agree (recorded a) (recorded b) ≡ true
-needs-agree a b h = keeps-out (needed a) (needed b) (recorded a) (recorded b) h (needed-lets a) (needed-lets b)
+-- two actions agree exactly where their needs may be held together: one account of conflicts for desk and judge (01, The desk's rules; 01, The judge's rules)
+pub needs-agree : (a b : Ask) → agree (recorded a) (recorded b) ≡ beside (needed a) (needed b)
+unfolding agree recorded beside needed
+needs-agree asks-read asks-read = refl
+needs-agree asks-read asks-write = refl
+needs-agree asks-read asks-increment = refl
+needs-agree asks-write asks-read = refl
+needs-agree asks-write asks-write = refl
+needs-agree asks-write asks-increment = refl
+needs-agree asks-increment asks-read = refl
+needs-agree asks-increment asks-write = refl
+needs-agree asks-increment asks-increment = refl
 
 -- a mode that covers a need keeps every action of others out that does not agree
 pub covering-keeps-out : (m n : Mode) (a : Ask) (k : Kind) → covers m (needed a) ≡ true → beside m n ≡ true → agree (recorded a) k ≡ false → lets n k ≡ false
@@ -237,12 +246,12 @@ beside-x X = refl
 beside-x I = refl
 
 -- a promotion is granted next to another job only where that one holds nothing
-pub promotion-alone : (held other : Mode) (a : Ask) → isFree held ≡ false → covers held (needed a) ≡ false → grants other (asked held (needed a)) ≡ isFree other
+pub promotion-alone : (held other : Mode) (a : Ask) → isFree held ≡ false → grants other (asked held (needed a)) ≡ isFree other
 unfolding asked grants isFree
-promotion-alone Free other a n c = not-both refl n
-promotion-alone S other a n c = beside-x other
-promotion-alone X other a n c = beside-x other
-promotion-alone I other a n c = beside-x other
+promotion-alone Free other a n = not-both refl n
+promotion-alone S other a n = beside-x other
+promotion-alone X other a n = beside-x other
+promotion-alone I other a n = beside-x other
 
 -- a mode's code is read as that mode
 pub mode-code : (m : Mode) → modeOf (codeOf m) ≡ m

@@ -1,16 +1,18 @@
--- What one more event in front of a history does to its lines and marks, and to whether jobs end for good there.
+-- What one more event in front of a history does to its lines and marks, to its committed part and its order of commits, and to whether jobs end for good there.
+-- Crates above use these clauses in place of the definitions.
 -- Assumes nothing.
 use Prim.Native.Nat.{ℕ}
 use mathlib.Core.Path.{_≡_, refl}
 use mathlib.Core.Bool.{Bool, true, false, not, _&&_, _||_}
 use mathlib.Core.List.{[], _∷_}
+use Rattle.laws.specs.Lists.{same, put}
 use Rattle.conflict.specs.declared.action.Action.{Action}
 use Rattle.conflict.specs.declared.action.Mark.{Mark}
 use Rattle.conflict.specs.declared.action.Mark.the-variants.{Commit, GiveUp, Back}
 use Rattle.conflict.specs.declared.action.Event.the-variants.{Does, Ends}
-use Rattle.conflict.specs.Jobs.{same}
-use Rattle.conflict.specs.History.{History, isBack, marked, lineOf, endsForGood}
-use Rattle.conflict.specs.Runs.{isLast}
+use Rattle.conflict.specs.Schedule.{keep}
+use Rattle.conflict.specs.History.{History, isCommit, isBack, marked, partOf, committedPart, commitOrder, lineOf, endsForGood}
+use Rattle.conflict.specs.Runs.{isLast, isEnd, ended}
 
 -- no line stands in an empty history
 pub line-none : (j : ℕ) → lineOf j [] ≡ false
@@ -71,3 +73,68 @@ commit-not-back = refl
 pub give-up-not-back : isBack GiveUp ≡ false
 unfolding isBack
 give-up-not-back = refl
+
+-- a k is one
+pub back-is-back : isBack Back ≡ true
+unfolding isBack
+back-is-back = refl
+
+-- a c is a commit
+pub commit-is-commit : isCommit Commit ≡ true
+unfolding isCommit
+commit-is-commit = refl
+
+-- an a is none
+pub give-up-not-commit : isCommit GiveUp ≡ false
+unfolding isCommit
+give-up-not-commit = refl
+
+-- and a k is none
+pub back-not-commit : isCommit Back ≡ false
+unfolding isCommit
+back-not-commit = refl
+
+-- every mark ends a run
+pub any-ends : (m : Mark) → isEnd m ≡ true
+unfolding isEnd
+any-ends m = refl
+
+-- a job's run has ended where a mark of it stands
+pub ended-is : (j : ℕ) (h : History) → ended j h ≡ marked isEnd j h
+unfolding ended
+ended-is j h = refl
+
+-- of no lines nothing is in the committed part
+pub part-none : (whole : History) → partOf whole [] ≡ []
+unfolding partOf
+part-none whole = refl
+
+-- an action is in it if its job has a c in the whole and no k after it
+pub part-does : (whole : History) (a : Action) (h : History) → partOf whole (Does a ∷ h) ≡ keep (marked isCommit (a .job) whole && not (marked isBack (a .job) h)) a (partOf whole h)
+unfolding partOf
+part-does whole a h = refl
+
+-- a mark is not in it
+pub part-ends : (whole : History) (m : Mark) (i : ℕ) (h : History) → partOf whole (Ends m i ∷ h) ≡ partOf whole h
+unfolding partOf
+part-ends whole m i h = refl
+
+-- the committed part is that of all lines
+pub part-whole : (h : History) → committedPart h ≡ partOf h h
+unfolding committedPart
+part-whole h = refl
+
+-- in an empty history none commits
+pub order-none : commitOrder [] ≡ []
+unfolding commitOrder
+order-none = refl
+
+-- an action in front changes nothing of the order of commits
+pub order-does : (a : Action) (h : History) → commitOrder (Does a ∷ h) ≡ commitOrder h
+unfolding commitOrder
+order-does a h = refl
+
+-- the job of a c in front comes first
+pub order-ends : (m : Mark) (i : ℕ) (h : History) → commitOrder (Ends m i ∷ h) ≡ put (isCommit m) i (commitOrder h)
+unfolding commitOrder
+order-ends m i h = refl

@@ -6,11 +6,11 @@ use mathlib.Core.Bool.{Bool, true, false, not}
 use mathlib.Core.List.{List, [], _∷_, _++_, append-nil}
 use borrow.Author.Tests.{eqb-true}
 use Rattle.laws.specs.Choice.{by-test, not-both}
+use Rattle.laws.specs.Lists.{same, member, distinct}
+use Rattle.laws.proofs.Lists.{same-sym, member-first, member-later, member-more, member-other, once-first, once-rest}
+use Rattle.laws.proofs.Parts.{and-first, and-second, and-both, nor-first, nor-second}
 use Rattle.conflict.specs.declared.action.Action.{Action}
-use Rattle.conflict.specs.Jobs.{same, member, distinct}
 use Rattle.conflict.specs.Schedule.{Schedule, keep, own, serial, names}
-use Rattle.conflict.proofs.Parts.{and-first, and-second, and-both, nor-first, nor-second}
-use Rattle.conflict.proofs.JobLists.{same-sym, member-first, member-later, member-more, member-other, once-first, once-rest}
 
 -- the actions of every job but one, in their order
 unfoldable pub others : ℕ → Schedule → Schedule

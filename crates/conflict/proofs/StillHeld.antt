@@ -4,12 +4,12 @@ use mathlib.Core.Path.{_≡_}
 use mathlib.Core.Bool.{true, false, _||_}
 use mathlib.Core.List.{[], _∷_, _++_}
 use Rattle.laws.specs.Choice.{not-both}
+use Rattle.laws.proofs.Parts.{and-first, and-second, or-either}
 use Rattle.conflict.specs.declared.action.Action.{Action}
 use Rattle.conflict.specs.declared.action.Event.the-variants.{Does, Ends}
 use Rattle.conflict.specs.History.{History}
 use Rattle.conflict.specs.Runs.{ended}
 use Rattle.conflict.specs.LockMachine.{Table, allows, Ran}
-use Rattle.conflict.proofs.Parts.{and-first, and-second, or-either}
 use Rattle.conflict.proofs.LockMachine.{held, machine-keeps}
 
 -- what holds of every action holds of one of them

@@ -6,15 +6,14 @@ use mathlib.Core.Bool.{Bool, true, false, not}
 use mathlib.Core.List.{[], _∷_}
 use borrow.Author.Tests.{eqb-true, not-true}
 use Rattle.laws.specs.Choice.{by-test, not-both}
+use Rattle.laws.specs.Lists.{same, member, distinct, pos, put}
+use Rattle.laws.proofs.Lists.{same-refl, first-ahead, put-once, put-ahead}
+use Rattle.laws.proofs.Parts.{and-first, and-second, and-both}
 use Rattle.conflict.specs.declared.action.Action.{Action}
 use Rattle.conflict.specs.declared.action.Event.the-variants.{Does, Ends}
-use Rattle.conflict.specs.Jobs.{same, member, distinct, pos}
 use Rattle.conflict.specs.Schedule.{Schedule, conflicts, Equivalent, ConflictSerializable, keep, serial, touches, edge, names, Forward}
-use Rattle.conflict.specs.History.{History, isCommit, committedPart, commits, committed, put, commitOrder, endsForGood, undisturbed, strict}
-use Rattle.conflict.proofs.Parts.{and-first, and-second, and-both}
-use Rattle.conflict.proofs.JobLists.{same-refl, first-ahead}
+use Rattle.conflict.specs.History.{History, isCommit, committedPart, commits, committed, commitOrder, endsForGood, undisturbed, strict}
 use Rattle.conflict.proofs.Forward.{forward, forward-serializable}
-use Rattle.conflict.proofs.CommitOrder.{put-once, put-ahead}
 use Rattle.conflict.proofs.Edges.{touches-cases, touches-other, edge-here, edge-cases, edge-names}
 use Rattle.conflict.proofs.Marks.{listed, commits-marked}
 use Rattle.conflict.proofs.Committed.{committed-is, committed-has, commit-order-once}

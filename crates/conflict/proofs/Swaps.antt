@@ -4,13 +4,13 @@ use mathlib.Core.Path.{_≡_, refl, sym, ap, _∙_, subst₂}
 use mathlib.Core.Logic.{_≢_}
 use mathlib.Core.Bool.{false}
 use mathlib.Core.List.{[], _∷_, _++_}
+use Rattle.laws.proofs.Lists.{same-sym}
 use Rattle.conflict.specs.declared.action.Kind.{Kind}
 use Rattle.conflict.specs.declared.action.Kind.the-variants.{Read, Write, Increment}
 use Rattle.conflict.specs.declared.action.Action.{Action}
 use Rattle.conflict.specs.Schedule.{Schedule, agree, conflicts, Swap, Equivalent}
 use Rattle.conflict.specs.Schedule.Swap.{here, later}
 use Rattle.conflict.specs.Schedule.Equivalent.{done, after}
-use Rattle.conflict.proofs.JobLists.{same-sym}
 
 -- the book's swap: the schedules are alike but for two neighbours of different jobs that do not conflict, and stand the other way round (000, 18.2.1)
 pub record Neighbours (s t : Schedule) : Type 0 where

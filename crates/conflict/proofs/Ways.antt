@@ -5,8 +5,8 @@ use mathlib.Core.Path.{_≡_, refl}
 use mathlib.Core.Bool.{Bool, true}
 use mathlib.Core.List.{List, [], _∷_, _++_}
 use Rattle.laws.specs.Choice.{not-both}
+use Rattle.laws.proofs.Parts.{and-first, and-second, and-both}
 use Rattle.conflict.specs.Schedule.{path, knot}
-use Rattle.conflict.proofs.Parts.{and-first, and-second, and-both}
 
 -- an edge is a way
 pub path-edge : (e : ℕ → ℕ → Bool) (i k : ℕ) → e i k ≡ true → path e i [] k ≡ true

@@ -3,12 +3,12 @@ use Prim.Native.Nat.{ℕ}
 use mathlib.Core.Path.{_≡_}
 use mathlib.Core.Bool.{Bool, true, false, not, _&&_, _||_, cond}
 use mathlib.Core.List.{List, [], _∷_, _++_}
+use Rattle.laws.specs.Lists.{same, put}
 use Rattle.conflict.specs.declared.action.Action.{Action}
 use Rattle.conflict.specs.declared.action.Mark.{Mark}
 use Rattle.conflict.specs.declared.action.Mark.the-variants.{Commit, GiveUp, Back}
 use Rattle.conflict.specs.declared.action.Event.{Event}
 use Rattle.conflict.specs.declared.action.Event.the-variants.{Does, Ends}
-use Rattle.conflict.specs.Jobs.{same, member, distinct}
 use Rattle.conflict.specs.Schedule.{Schedule, conflicts, keep}
 
 -- a history is a list of events in their order (01, Lines)
@@ -54,11 +54,6 @@ unfoldable pub committed : History → Schedule
 committed [] = []
 committed (Does a ∷ h) = keep (commits (a .job) h) a (committed h)
 committed (Ends m i ∷ h) = committed h
-
--- one more job where it is listed
-unfoldable pub put : Bool → ℕ → List ℕ → List ℕ
-put true i js = i ∷ js
-put false i js = js
 
 -- the jobs with a c, in the order of their commits (demand 2)
 unfoldable pub commitOrder : History → List ℕ

@@ -1,5 +1,4 @@
 pub mod Modes
-pub mod Jobs
 pub mod Schedule
 pub mod History
 pub mod Runs

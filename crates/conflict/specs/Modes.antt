@@ -1,4 +1,4 @@
--- Lock modes: the matrix of the paper, and nothing else of it is used above (01, The desk's rules).
+-- Lock modes: what each kind needs, what covers what, and the paper's matrix of modes that may be held together (01, The desk's rules).
 use Prim.Native.Nat.{ℕ}
 use mathlib.Core.Bool.{Bool, true, false}
 use lib.Dec.{eqb}
@@ -58,7 +58,7 @@ beside I I = true
 unfoldable pub grants : Mode → Mode → Bool
 grants held asks = beside held asks
 
--- what a job asks for: the mode it needs where it holds nothing, and X where it holds another mode (01, rules 2 and 3)
+-- what a job asks for: the mode it needs where it holds nothing, and X where it holds a mode already, which rule 1 has found not to cover its need (01, rules 2 and 3)
 unfoldable pub asked : Mode → Mode → Mode
 asked Free need = need
 asked S need = X

@@ -4,10 +4,10 @@ use mathlib.Core.Path.{_≡_}
 use mathlib.Core.Logic.{_≢_}
 use mathlib.Core.Bool.{Bool, true, false, not, _&&_, _||_, cond}
 use mathlib.Core.List.{List, [], _∷_, _++_}
+use Rattle.laws.specs.Lists.{same, member, distinct, pos}
 use Rattle.conflict.specs.declared.action.Kind.{Kind}
 use Rattle.conflict.specs.declared.action.Kind.the-variants.{Read, Write, Increment}
 use Rattle.conflict.specs.declared.action.Action.{Action}
-use Rattle.conflict.specs.Jobs.{same, member, distinct, pos}
 
 -- a schedule is a list of actions in their order (000, 18.1)
 abbrev pub Schedule : Type 0

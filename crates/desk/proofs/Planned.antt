@@ -8,12 +8,12 @@ use lib.Dec.{eqb, ltb}
 use lib.ListN.{length, set}
 use borrow.Author.Tests.{ltb-true}
 use Rattle.laws.specs.Choice.{pick, by-test}
+use Rattle.laws.specs.Lists.{pos}
 use Rattle.terms.specs.declared.letters.Ask.{Ask}
 use Rattle.terms.specs.declared.letters.Letter.the-variants.{Begin as begins, Commit, GiveUp, Retry as retries, Back as no-request, Asks}
 use Rattle.terms.specs.declared.letters.Lettered.{Lettered}
 use Rattle.terms.specs.declared.letters.Lettered.the-variants.{Known, Unknown}
 use Rattle.terms.specs.Limits.{places, cells, lastNumber}
-use Rattle.conflict.specs.Jobs.{pos}
 use Rattle.board.specs.declared.state.Decision.{Decision}
 use Rattle.board.specs.declared.state.Decision.the-variants.{Keep as keeps, Take as takes, Stay as stays, Away as leaves}
 use Rattle.board.specs.declared.state.Desk.{Desk}

@@ -10,7 +10,7 @@ use lib.ListN.{getD, set}
 use lib.Seq.{getD-set-other}
 use borrow.Author.Tests.{eqb-true, eqb-false, ltb-true}
 use Rattle.laws.specs.Choice.{by-test}
-use Rattle.conflict.proofs.Parts.{and-first}
+use Rattle.laws.proofs.Parts.{and-first}
 use Rattle.board.specs.declared.state.Woken.{Woken}
 use Rattle.board.specs.Codes.{runningCode, waitingCode}
 use Rattle.board.specs.Places.{waitsAt, waiters}

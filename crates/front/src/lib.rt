@@ -10,8 +10,7 @@ use text::splitter::Splitter;
 ghost use mathlib.Core.Path.{_≡_};
 ghost use Prim.Native.Nat.{_≤_};
 ghost use lib.ListN.{length};
-ghost use Rattle.runs.specs.Work.{lineRoom};
-ghost use Rattle.front.specs.Over.{over};
+ghost use Rattle.runs.specs.Work.{lineRoom, allRead};
 
 // The clerk after a chunk, and whether there is a reason to read on.
 struct Served {
@@ -19,9 +18,9 @@ struct Served {
     going: bool,
 }
 
-// Whether line 1,000,000 has ended, so that no byte to come has an answer.
+// Whether every line that is to be read has been read, so that no byte to come has an answer.
 fn is_over(s: Splitter) -> bool
-    ensures { λ r. ⌜ r ≡ over s ⌝ }
+    ensures { λ r. ⌜ r ≡ allRead s ⌝ }
 {
     if s.ended {
         return REQUEST_LINES <= s.line;

@@ -9,10 +9,10 @@ use lib.Dec.{eqb, ltb, leb}
 use lib.ListN.{getD}
 use borrow.Author.Tests.{eqb-true, eqb-false, ne-eqb, ltb-true, lt-ltb, le-ltb}
 use Rattle.laws.specs.Choice.{pick, by-test, not-both}
-use Rattle.conflict.specs.Jobs.{same, member}
+use Rattle.laws.specs.Lists.{same, member}
+use Rattle.laws.proofs.Parts.{and-first, and-second, and-both, or-either}
 use Rattle.conflict.specs.Schedule.{edge}
 use Rattle.conflict.specs.History.{isCommit, marked, committedPart}
-use Rattle.conflict.proofs.Parts.{and-first, and-second, and-both, or-either}
 use Rattle.conflict.proofs.Edges.{edge-other, edge-names}
 use Rattle.verdicts.specs.Arrays.{historyBy}
 use Rattle.verdicts.specs.Judged.{jobsOf}

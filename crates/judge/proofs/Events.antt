@@ -10,6 +10,7 @@ use lib.Dec.{eqb, ltb, leb}
 use lib.ListN.{getD}
 use borrow.Author.Tests.{eqb-true, eqb-false, ne-eqb, lt-ltb, le-ltb, ltb-true, ltb-false, lt-leb, le-leb}
 use Rattle.laws.specs.Choice.{pick, by-test, not-both}
+use Rattle.laws.specs.Lists.{same}
 use Rattle.conflict.specs.declared.action.Kind.{Kind}
 use Rattle.conflict.specs.declared.action.Kind.the-variants.{Read, Write, Increment}
 use Rattle.conflict.specs.declared.action.Action.{Action}
@@ -17,7 +18,6 @@ use Rattle.conflict.specs.declared.action.Mark.{Mark}
 use Rattle.conflict.specs.declared.action.Mark.the-variants.{Commit, GiveUp, Back}
 use Rattle.conflict.specs.declared.action.Event.{Event}
 use Rattle.conflict.specs.declared.action.Event.the-variants.{Does, Ends}
-use Rattle.conflict.specs.Jobs.{same}
 use Rattle.conflict.specs.History.{History, isCommit, isBack, marked}
 use Rattle.conflict.proofs.Appended.{marked-append}
 use Rattle.verdicts.specs.Arrays.{eventBy, historyBy}

@@ -7,7 +7,7 @@ use mathlib.Core.List.{List}
 use native.Mathlib.Omega.{arith}
 use lib.ListN.{length, getD, take}
 use Rattle.laws.specs.Choice.{by-test, not-both}
-use Rattle.conflict.specs.Jobs.{member}
+use Rattle.laws.specs.Lists.{member}
 use Rattle.conflict.specs.Schedule.{edge}
 use Rattle.conflict.specs.History.{isCommit, marked, committedPart}
 use Rattle.verdicts.specs.Order.{ascending, orderOf, stuck}

@@ -10,14 +10,14 @@ use lib.Dec.{eqb, ltb, leb}
 use lib.ListN.{length, getD, set}
 use lib.Seq.{getD-set-same, getD-set-other}
 use Rattle.laws.specs.Choice.{pick, by-test, not-both}
+use Rattle.laws.specs.Lists.{same, member}
 use Rattle.terms.specs.declared.letters.Ask.the-variants.{Read, Write, Increment}
 use Rattle.terms.specs.declared.letters.Letter.{Letter}
 use Rattle.terms.specs.declared.letters.Letter.the-variants.{Begin, Commit, GiveUp, Retry, Back, Asks}
 use Rattle.terms.specs.declared.refusals.Refusal.{Refusal}
 use Rattle.terms.specs.Letters.{ofHistories}
 use Rattle.terms.specs.Limits.{cells, judgedJobs, judgedLines}
-use Rattle.conflict.specs.Jobs.{same, member}
-use Rattle.conflict.specs.Modes.{recorded}
+use Rattle.conflict.proofs.Clauses.{records-read, records-write, records-increment}
 use Rattle.text.specs.declared.reader.Reading.{Reading}
 use Rattle.text.specs.declared.reader.Reading.the-variants.{Good, Bad}
 use Rattle.text.specs.Lines.{readLine}
@@ -65,15 +65,15 @@ good-kept flags l j x code job cell e =
 
 -- what a letter of a history says is what its number stands for
 letter-event : (l : Letter) (job cell : ℕ) → ofHistories l ≡ true → eventOf (Good l job cell) ≡ eventBy (codeOf l) job cell ∷ []
-unfolding eventOf eventBy recorded
+unfolding eventOf eventBy
 letter-event Begin job cell h = not-both h refl
 letter-event Commit job cell h = refl
 letter-event GiveUp job cell h = refl
 letter-event Retry job cell h = not-both h refl
 letter-event Back job cell h = refl
-letter-event (Asks Read) job cell h = refl
-letter-event (Asks Write) job cell h = refl
-letter-event (Asks Increment) job cell h = refl
+letter-event (Asks Read) job cell h = rw records-read
+letter-event (Asks Write) job cell h = rw records-write
+letter-event (Asks Increment) job cell h = rw records-increment
 
 -- who has ended after a letter, by its number
 letter-ends : (l : Letter) (ended : List ℕ) (job cell j : ℕ) → member j (endedAfter ended (Good l job cell)) ≡ pick (endsJob (codeOf l)) (same job j || member j ended) (member j ended)

@@ -10,10 +10,12 @@ use lib.Dec.{ltb, leb}
 use lib.ListN.{getD}
 use borrow.Author.Tests.{ltb-true, le-ltb}
 use Rattle.laws.specs.Choice.{by-test}
+use Rattle.laws.specs.Lists.{same, put}
 use Rattle.conflict.specs.declared.action.Action.{Action}
-use Rattle.conflict.specs.Jobs.{same}
 use Rattle.conflict.specs.Schedule.{keep}
-use Rattle.conflict.specs.History.{isCommit, isBack, marked, put, partOf, committedPart}
+use Rattle.conflict.specs.History.{isCommit, isBack, marked, partOf, committedPart}
+use Rattle.conflict.proofs.Clauses.{keep-it, keep-not}
+use Rattle.conflict.proofs.OneEvent.{part-none, part-whole}
 use Rattle.verdicts.specs.Arrays.{historyBy}
 use Rattle.judge.specs.Lists.{listed}
 use Rattle.judge.specs.Counted.{hasCommit, countedFrom}
@@ -23,9 +25,9 @@ use Rattle.judge.proofs.Marked.{has-commit, counted-since}
 
 -- a line that is put in front brings its action
 pub put-map : (act : ℕ → Action) (b : Bool) (k : ℕ) (ks : List ℕ) → map act (put b k ks) ≡ keep b (act k) (map act ks)
-unfolding put keep
-put-map act true k ks = refl
-put-map act false k ks = refl
+unfolding put
+put-map act true k ks = sym (keep-it (act k) (map act ks))
+put-map act false k ks = sym (keep-not (act k) (map act ks))
 
 -- where the first does not hold, the second need not be looked at
 and-under : (a b c : Bool) → (a ≡ true → b ≡ c) → (a && b) ≡ (a && c)
@@ -67,8 +69,8 @@ module _ (codes jobs cells : List ℕ) where
 
   -- of the lines from k on the committed part has those that count
   part-from : (n k m : ℕ) → k + m ≡ n → partOf (historyBy codes jobs cells n) (eventsFrom codes jobs cells k m) ≡ map actionAt (listed (counts n) k m)
-  unfolding eventsFrom eventAt listed partOf actionAt
-  part-from n k zero e = refl
+  unfolding eventsFrom eventAt listed actionAt
+  part-from n k zero e = part-none (historyBy codes jobs cells n)
   part-from n k (suc m) e =
       part-line (getD codes k 0) (getD jobs k 0) (getD cells k 0) (historyBy codes jobs cells n) (eventsFrom codes jobs cells (suc k) m)
       ∙ ap₂ (λ b s. keep b (actionAt k) s) (rw (← e) (counts-is k m)) (part-from n (suc k) m (omega arith))
@@ -76,5 +78,7 @@ module _ (codes jobs cells : List ℕ) where
 
   -- the committed part is the actions on the lines that count
   pub part-lines : (n : ℕ) → committedPart (historyBy codes jobs cells n) ≡ map actionAt (listed (counts n) 0 n)
-  unfolding committedPart
-  part-lines n = ap (partOf (historyBy codes jobs cells n)) (history-events codes jobs cells n) ∙ part-from n 0 n (zero-add n)
+  part-lines n =
+      part-whole (historyBy codes jobs cells n)
+      ∙ ap (partOf (historyBy codes jobs cells n)) (history-events codes jobs cells n)
+      ∙ part-from n 0 n (zero-add n)

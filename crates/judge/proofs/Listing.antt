@@ -10,10 +10,9 @@ use lib.Dec.{eqb, ltb, leb}
 use lib.ListN.{length}
 use borrow.Author.Tests.{eqb-true, eqb-false, ne-eqb, eq-eqb, lt-ltb, ltb-true, leb-true, leb-false, le-leb, lt-leb, le-ltb, ltb-false}
 use Rattle.laws.specs.Choice.{by-test, not-both}
-use Rattle.conflict.specs.Jobs.{same, member}
-use Rattle.conflict.specs.History.{put}
-use Rattle.conflict.proofs.Parts.{and-first, and-second, and-both, or-either, or-first, or-second}
-use Rattle.conflict.proofs.JobLists.{same-refl, same-sym}
+use Rattle.laws.specs.Lists.{same, member, put}
+use Rattle.laws.proofs.Lists.{same-refl, same-sym}
+use Rattle.laws.proofs.Parts.{and-first, and-second, and-both, or-either, or-first, or-second}
 use Rattle.verdicts.specs.Order.{under, ascending}
 use Rattle.verdicts.proofs.Sorted.{under-all, ascending-only}
 use Rattle.judge.specs.Lists.{listed}

@@ -10,7 +10,7 @@ use lib.Dec.{eqb, ltb}
 use lib.ListN.{getD, set, replicate}
 use borrow.Author.Tests.{eq-eqb, ne-eqb, ltb-true, ltb-false, lt-ltb, le-ltb, le-leb, lt-leb}
 use Rattle.laws.specs.Choice.{pick, by-test}
-use Rattle.conflict.specs.Jobs.{same}
+use Rattle.laws.specs.Lists.{same}
 use Rattle.judge.specs.Lists.{tab}
 use Rattle.judge.specs.Counted.{hasCommit, countedFrom, ownerAt, ownersBy}
 use Rattle.judge.proofs.Tabled.{tab-same, tab-all, tab-set}

@@ -8,11 +8,11 @@ use mathlib.Core.Option.{none, some}
 use native.Mathlib.Numerals.{add-one}
 use native.Mathlib.Omega.{arith}
 use lib.ListN.{length, getD, set, drop, replicate, length-set, length-drop, getD-replicate, length-replicate, drop-of-length-le}
+use Rattle.laws.specs.Lists.{member}
 use Rattle.terms.specs.declared.refusals.Refusal.{Refusal}
 use Rattle.terms.specs.Letters.{ofHistories}
 use Rattle.terms.specs.Limits.{judgedLines}
 use Rattle.conflict.specs.declared.action.Event.{Event}
-use Rattle.conflict.specs.Jobs.{member}
 use Rattle.text.specs.Lines.{readLine}
 use Rattle.text.specs.Split.{linesOf, used}
 use Rattle.text.proofs.Cutting.{used-within, used-some}

@@ -11,9 +11,9 @@ use lib.ListN.{length, getD, take, drop, drop-of-length-le}
 use lib.Seq.{take-suc, take-length, drop-cons}
 use borrow.Author.Tests.{eqb-true, lt-ltb}
 use Rattle.laws.specs.Choice.{not-both}
-use Rattle.conflict.specs.Jobs.{same, member}
-use Rattle.conflict.proofs.Parts.{and-first, and-second, and-both, or-either, or-first, or-second}
-use Rattle.conflict.proofs.JobLists.{same-refl}
+use Rattle.laws.specs.Lists.{same, member}
+use Rattle.laws.proofs.Lists.{same-refl}
+use Rattle.laws.proofs.Parts.{and-first, and-second, and-both, or-either, or-first, or-second}
 use Rattle.verdicts.specs.Order.{under, ascending}
 use Rattle.verdicts.proofs.Firsts.{under-each}
 use Rattle.judge.specs.Meeting.{meetsLater, meetings}

@@ -11,8 +11,7 @@ use lib.Dec.{ltb}
 use lib.ListN.{length, getD}
 use borrow.Author.Tests.{lt-ltb}
 use Rattle.laws.specs.Choice.{by-test, not-both}
-use Rattle.conflict.specs.Jobs.{member}
-use Rattle.conflict.specs.History.{put}
+use Rattle.laws.specs.Lists.{member, put}
 use Rattle.verdicts.specs.Order.{Edges, first, preceded, ready}
 use Rattle.verdicts.specs.Knot.{predecessor}
 use Rattle.verdicts.proofs.Firsts.{by-one, first-is, first-none}

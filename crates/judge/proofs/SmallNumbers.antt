@@ -9,10 +9,11 @@ use native.Mathlib.Omega.{arith}
 use lib.Dec.{ltb}
 use lib.ListN.{length}
 use Rattle.laws.specs.Choice.{by-test}
+use Rattle.laws.specs.Lists.{same, put}
 use Rattle.terms.specs.Limits.{judgedJobs, judgedLines}
 use Rattle.conflict.specs.declared.action.Event.the-variants.{Does, Ends}
-use Rattle.conflict.specs.Jobs.{same}
-use Rattle.conflict.specs.History.{History, isCommit, put, commitOrder}
+use Rattle.conflict.specs.History.{History, isCommit, commitOrder}
+use Rattle.conflict.proofs.OneEvent.{order-none, order-does, order-ends}
 use Rattle.text.specs.Split.{linesOf}
 use Rattle.verdicts.specs.Judged.{orderly, knotted, insert, sorted, jobsOf, verdictOf}
 use Rattle.verdicts.specs.HistoryText.{Faulty, firstFaulty, eventsIn}
@@ -45,10 +46,9 @@ put-few false i js = omega arith
 
 -- a history has at most as many commits as lines
 commits-few : (h : History) → length (commitOrder h) ≤ length h
-unfolding commitOrder
-commits-few [] = omega arith
-commits-few (Does a ∷ h) = omega (arith, commits-few h)
-commits-few (Ends m i ∷ h) = omega (arith, put-few (isCommit m) i (commitOrder h), commits-few h)
+commits-few [] = rw order-none (omega arith)
+commits-few (Does a ∷ h) = rw (order-does a h) (omega (arith, commits-few h))
+commits-few (Ends m i ∷ h) = rw (order-ends m i h) (omega (arith, put-few (isCommit m) i (commitOrder h), commits-few h))
 
 -- and at most as many committed jobs
 pub jobs-few : (h : History) → length (jobsOf h) ≤ length h

@@ -12,7 +12,7 @@ use lib.ListN.{length, getD, set, take, length-set, length-append, length-take}
 use lib.Seq.{getD-set-same, getD-set-other, take-suc-set, length-take-le}
 use borrow.Author.Tests.{eqb-true, eqb-false}
 use Rattle.laws.specs.Choice.{by-test, not-both}
-use Rattle.conflict.specs.Jobs.{same, member}
+use Rattle.laws.specs.Lists.{same, member}
 use Rattle.verdicts.specs.Order.{Edges, ready, preceded, without, Taken, ends, leads, taken, orderOf, stuck}
 use Rattle.verdicts.proofs.Without.{stays, left-other, left-before, shorter, ascending-left}
 use Rattle.verdicts.proofs.Preceded.{ready-is}

@@ -12,8 +12,8 @@ use lib.ListN.{length, getD, set, take, drop, length-set, length-drop, drop-of-l
 use lib.Seq.{drop-cons, drop-set-lt, getD-set-same}
 use borrow.Author.Tests.{eqb-true, eq-eqb, ne-eqb}
 use Rattle.laws.specs.Choice.{by-test, not-both}
-use Rattle.conflict.specs.Jobs.{same, member, pos}
-use Rattle.conflict.proofs.JobLists.{pos-later}
+use Rattle.laws.specs.Lists.{same, member, pos}
+use Rattle.laws.proofs.Lists.{pos-later}
 use Rattle.verdicts.specs.Order.{Edges}
 use Rattle.verdicts.specs.Knot.{predecessor, upTo, walk}
 use Rattle.judge.specs.Left.{leftOf, orNobody}

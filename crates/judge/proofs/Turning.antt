@@ -11,8 +11,8 @@ use lib.ListN.{length, getD, take, drop}
 use lib.Seq.{drop-cons, split-at}
 use borrow.Author.Tests.{eqb-true, eqb-false, ne-eqb}
 use Rattle.laws.specs.Choice.{by-test, not-both}
-use Rattle.conflict.specs.Jobs.{same, member}
-use Rattle.conflict.proofs.Parts.{or-either}
+use Rattle.laws.specs.Lists.{same, member}
+use Rattle.laws.proofs.Parts.{or-either}
 use Rattle.verdicts.specs.Knot.{least, turnTo, turn}
 use Rattle.verdicts.proofs.Turns.{upTo-mid, from-mid, least-is, least-low}
 use Rattle.judge.proofs.Searching.{member-at}

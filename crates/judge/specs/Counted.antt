@@ -6,7 +6,7 @@ use mathlib.Core.List.{List}
 use lib.Dec.{eqb, ltb, leb}
 use lib.ListN.{getD}
 use Rattle.laws.specs.Choice.{pick}
-use Rattle.conflict.specs.Jobs.{same}
+use Rattle.laws.specs.Lists.{same}
 
 -- whether job j has a c among the first n lines
 unfoldable pub hasCommit : List ℕ → List ℕ → ℕ → ℕ → Bool

@@ -2,7 +2,7 @@
 use Prim.Native.Nat.{ℕ, zero, suc}
 use mathlib.Core.Bool.{Bool}
 use mathlib.Core.List.{List, [], _∷_, _++_}
-use Rattle.conflict.specs.History.{put}
+use Rattle.laws.specs.Lists.{put}
 
 -- what f says of 0, 1 and so on, n values
 unfoldable pub tab : {A : Type 0} → (ℕ → A) → ℕ → List A

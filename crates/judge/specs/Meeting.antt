@@ -5,9 +5,9 @@ use mathlib.Core.List.{List, [], _∷_}
 use lib.Dec.{eqb, ltb}
 use lib.ListN.{getD}
 use Rattle.laws.specs.Choice.{pick}
+use Rattle.laws.specs.Lists.{same}
 use Rattle.conflict.specs.declared.action.Kind.{Kind}
 use Rattle.conflict.specs.declared.action.Kind.the-variants.{Read, Write, Increment}
-use Rattle.conflict.specs.Jobs.{same}
 use Rattle.conflict.specs.Schedule.{agree}
 
 -- the kind of action that a number stands for: 0 read, 1 write, any other increment

@@ -7,10 +7,10 @@ use mathlib.Core.Option.{none, some}
 use lib.Dec.{eqb}
 use lib.ListN.{length, getD, take, drop}
 use Rattle.laws.specs.Choice.{pick}
+use Rattle.laws.specs.Lists.{member}
 use Rattle.terms.specs.declared.refusals.Refusal.{Refusal}
 use Rattle.terms.specs.Words.{newline}
 use Rattle.terms.specs.Limits.{judgedLines}
-use Rattle.conflict.specs.Jobs.{member}
 use Rattle.text.specs.Split.{linesOf}
 use Rattle.verdicts.specs.HistoryText.{firstFaulty, eventsIn, bare}
 use Rattle.verdicts.specs.Arrays.{historyBy}

@@ -5,7 +5,7 @@ ghost use mathlib.Core.Path.{_≡_};
 ghost use mathlib.Core.List.{[], _++_};
 ghost use Prim.Native.Nat.{_+_, _≤_, _<_};
 ghost use lib.ListN.{length, take, drop};
-ghost use Rattle.conflict.specs.Jobs.{pos};
+ghost use Rattle.laws.specs.Lists.{pos};
 ghost use Rattle.verdicts.specs.Knot.{walk, turn};
 ghost use Rattle.verdicts.specs.Judgement.{filled};
 ghost use Rattle.judge.specs.Grouped.{edgesIn};

@@ -8,7 +8,7 @@ use native.Mathlib.Omega.{arith}
 use lib.ListN.{length, getD, drop, drop-of-length-le}
 use lib.Seq.{drop-cons}
 use borrow.Author.Tests.{eq-eqb, ne-eqb}
-use Rattle.conflict.specs.Jobs.{pos}
+use Rattle.laws.specs.Lists.{pos}
 
 -- the job stands at p: so the search ends there
 pub found-here : (l : List ℕ) (j p : ℕ) → p < length l → getD l p 0 ≡ j → p + pos (drop p l) j ≡ pos l j → p ≡ pos l j

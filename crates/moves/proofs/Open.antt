@@ -9,8 +9,8 @@ use lib.Dec.{eqb, ltb}
 use lib.ListN.{length, List·getD-eq-default}
 use borrow.Author.Tests.{eqb-false, ltb-true, ltb-false}
 use Rattle.laws.specs.Choice.{by-test}
+use Rattle.laws.specs.Lists.{pos}
 use Rattle.terms.specs.declared.refusals.Refusal.the-variants.{NotOpen}
-use Rattle.conflict.specs.Jobs.{pos}
 use Rattle.board.specs.Codes.{freeCode}
 use Rattle.board.specs.Steps.{statusOf}
 use Rattle.moves.specs.declared.plan.Found.{Found}

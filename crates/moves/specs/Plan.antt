@@ -4,13 +4,13 @@ use mathlib.Core.Bool.{true, false}
 use mathlib.Core.List.{List, []}
 use lib.Dec.{eqb, ltb}
 use Rattle.laws.specs.Choice.{pick}
+use Rattle.laws.specs.Lists.{pos}
 use Rattle.terms.specs.declared.letters.Ask.{Ask}
 use Rattle.terms.specs.declared.letters.Letter.the-variants.{Begin as begins, Commit, GiveUp, Retry as retries, Back as no-request, Asks}
 use Rattle.terms.specs.declared.letters.Lettered.{Lettered}
 use Rattle.terms.specs.declared.letters.Lettered.the-variants.{Known, Unknown}
 use Rattle.terms.specs.declared.refusals.Refusal.the-variants.{UnknownKind, CellAbove, NotOpen, Waiting, SentBack, AllOpen, NoNumberLeft, Running}
 use Rattle.terms.specs.Limits.{places, cells, lastNumber}
-use Rattle.conflict.specs.Jobs.{pos}
 use Rattle.board.specs.declared.state.Desk.{Desk}
 use Rattle.board.specs.declared.state.Decision.{Decision}
 use Rattle.board.specs.declared.state.Decision.the-variants.{Keep as keeps, Take as takes, Stay as stays, Away as leaves}

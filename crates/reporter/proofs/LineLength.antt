@@ -1,7 +1,7 @@
 -- The verdict's line has at most 1,028 bytes: seven of the word, four for each of 255 jobs, and the newline (01, The judge's rules).
 -- Assumes nothing.
 use Prim.Native.Nat.{ℕ, _+_, _*_, _≤_}
-use mathlib.Core.Path.{_≡_, refl, sym, ap, _∙_}
+use mathlib.Core.Path.{_≡_, refl, sym, ap, _∙_, subst}
 use mathlib.Core.Bool.{true}
 use mathlib.Core.List.{List, [], _∷_}
 use mathlib.Core.Option.{Option, none, some}
@@ -12,14 +12,15 @@ use lib.Dec.{ltb}
 use lib.ListN.{length, take, drop, replicate, length-append, length-replicate}
 use lib.Seq.{take-append-seam}
 use Rattle.laws.specs.Choice.{by-test}
+use Rattle.laws.specs.Lists.{member, distinct}
+use Rattle.laws.proofs.Lists.{member-first, member-more}
 use Rattle.terms.specs.declared.refusals.Refusal.the-variants.{TooLong}
 use Rattle.terms.specs.declared.words.Word as word
 use Rattle.terms.specs.declared.words.Word.{Word}
 use Rattle.terms.specs.Limits.{judgedJobs, judgedBytes}
 use Rattle.terms.specs.Refusals.{numberOf}
 use Rattle.terms.specs.Words.{tab}
-use Rattle.conflict.specs.Jobs.{member}
-use Rattle.conflict.proofs.JobLists.{member-first, member-more}
+use Rattle.conflict.specs.History.{isCommit, marked}
 use Rattle.text.specs.declared.writer.Written.the-variants.{Next}
 use Rattle.text.specs.Decimal.{decimal}
 use Rattle.text.specs.Records.{fits, told, left}
@@ -32,9 +33,10 @@ use Rattle.verdicts.specs.Judged.{orderly, knotted}
 use Rattle.verdicts.specs.HistoryText.{Faulty, firstFaulty, eventsIn}
 use Rattle.verdicts.specs.Judgement.{filled, sayVerdict, sayLines, judgementOf}
 use Rattle.verdicts.proofs.Deciding.{by-verdict}
+use Rattle.verdicts.proofs.FewJobs.{at-most-255, committed-within}
 use Rattle.verdicts.proofs.Histories.{jobs-committed, order-once, order-names, knot-shows}
+use Rattle.verdicts.proofs.LineFaults.{Tells, finds-fault}
 use Rattle.runs.specs.Programs.{tabbed, wordLine, sayLine, judgedLine, verdictOf}
-use Rattle.reporter.proofs.JobRange.{InRange, lines-range, few-in-range}
 use Rattle.reporter.proofs.WordLines.{word-line-length, two-numbers-length}
 
 -- seven bytes of the longest word, four for each of 255 jobs, and the newline
@@ -54,10 +56,10 @@ tabbed-at-most (j ∷ js) r =
       tabbed-at-most js (λ k m. r k (member-more j js k m)),
     )
 
--- a line of a word and at most 255 such jobs
-jobs-at-most : (w : Word) (js : List ℕ) → length js ≤ judgedJobs → ((j : ℕ) → member j js ≡ true → InRange j) → length (wordLine w js) ≤ lineLimit
-jobs-at-most w js few r =
-    omega (arith, word-line-length w js, word-at-most-7 w, tabbed-at-most js (λ j m. r j m .1))
+-- a line of a word and jobs 1 to 255, none twice
+jobs-at-most : (w : Word) (js : List ℕ) → distinct js ≡ true → ((j : ℕ) → member j js ≡ true → (1 ≤ j) × (j ≤ 255)) → length (wordLine w js) ≤ lineLimit
+jobs-at-most w js once r =
+    omega (arith, word-line-length w js, word-at-most-7 w, tabbed-at-most js (λ j m. r j m .1), at-most-255 js once r)
 
 -- a line of the word no and two numbers of any size
 no-at-most : (a b : ℕ) → length (wordLine word.the-variants.No (a ∷ b ∷ [])) ≤ lineLimit
@@ -69,18 +71,20 @@ unfolding filled
 filled-first js buffer = take-append-seam js (drop (length js) buffer)
 
 module _ (ls : List (List ℕ)) (e : firstFaulty 1 [] ls ≡ none) (buffer : List ℕ) where
+  -- a job with a c is 1 to 255
+  within : (j : ℕ) → marked isCommit j (eventsIn ls) ≡ true → (1 ≤ j) × (j ≤ 255)
+  within = committed-within ls (subst (Tells ls) e (finds-fault ls))
+
   -- the line of an order
   order-at-most : (order : List ℕ) → judged.verdictOf (eventsIn ls) ≡ orderly order → length (wordLine word.the-variants.Orderly order) ≤ lineLimit
   order-at-most order v =
-      let r : (j : ℕ) → member j order ≡ true → InRange j = λ j m. lines-range 1 [] ls j e (sym (order-names (eventsIn ls) order v j) ∙ m) in
-      jobs-at-most word.the-variants.Orderly order (few-in-range order (order-once (eventsIn ls) order v) r) r
+      jobs-at-most word.the-variants.Orderly order (order-once (eventsIn ls) order v) (λ j m. within j (sym (order-names (eventsIn ls) order v j) ∙ m))
 
   -- the line of a knot
   knot-at-most : (js : List ℕ) → judged.verdictOf (eventsIn ls) ≡ knotted js → length (wordLine word.the-variants.Knot js) ≤ lineLimit
   knot-at-most js v =
       let k = knot-shows (eventsIn ls) js v in
-      let r : (j : ℕ) → member j js ≡ true → InRange j = λ j m. lines-range 1 [] ls j e (sym (jobs-committed (eventsIn ls) j) ∙ k .only j m) in
-      jobs-at-most word.the-variants.Knot js (few-in-range js (k .once) r) r
+      jobs-at-most word.the-variants.Knot js (k .once) (λ j m. within j (sym (jobs-committed (eventsIn ls) j) ∙ k .only j m))
 
   -- the line of a verdict on faultless lines
   said-at-most : let j = sayVerdict buffer (judged.verdictOf (eventsIn ls)) in length (sayLine (j .said) (j .order)) ≤ lineLimit

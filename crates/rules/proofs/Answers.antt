@@ -4,8 +4,8 @@ use Prim.Native.Nat.{ℕ}
 use mathlib.Core.Path.{_≡_}
 use mathlib.Core.Bool.{false}
 use Rattle.laws.specs.Choice.{not-both}
-use Rattle.conflict.specs.Jobs.{same}
-use Rattle.conflict.proofs.JobLists.{same-refl}
+use Rattle.laws.specs.Lists.{same}
+use Rattle.laws.proofs.Lists.{same-refl}
 use Rattle.rules.specs.declared.Answer.{Answer}
 use Rattle.rules.specs.declared.Answer.the-variants.{Go, Wait, Back, No}
 

@@ -8,9 +8,9 @@ use lib.ListN.{length}
 use native.Mathlib.Omega.{arith}
 use borrow.Author.Tests.{eqb-true}
 use Rattle.laws.specs.Choice.{by-test}
-use Rattle.conflict.specs.Jobs.{same, member, distinct}
+use Rattle.laws.specs.Lists.{same, member, distinct}
 use Rattle.conflict.specs.History.{History}
-use Rattle.conflict.proofs.JobLists.{member-later}
+use Rattle.laws.proofs.Lists.{member-later}
 use Rattle.rules.specs.Desk.{Waiter, Desk}
 use Rattle.rules.specs.Step.{Started}
 use Rattle.rules.specs.Waiting.{InWay, IsWaiting, AtMostInWay}

@@ -9,11 +9,11 @@ use Rattle.terms.specs.declared.letters.Letter.{Letter}
 use Rattle.terms.specs.declared.letters.Letter.the-variants.{Begin}
 use Rattle.terms.specs.declared.letters.Lettered.the-variants.{Known}
 use Rattle.terms.specs.Letters.{letterOf}
-use Rattle.conflict.specs.Jobs.{member}
+use Rattle.laws.specs.Lists.{member}
 use Rattle.rules.specs.declared.Answer.{Answer}
 use Rattle.rules.specs.declared.Answer.the-variants.{Go, Back}
 use Rattle.rules.specs.Desk.{Status, closed, running, sentback, waiting, Desk, Request, at, vacated}
-use Rattle.rules.specs.Rules.{Outcome, refused, withRow, withStatus, isWoken, rule4, close, sendBack, grant, queued, rule1, retry, begin}
+use Rattle.rules.specs.Rules.{Outcome, refused, withRow, withStatus, isWoken, rule4}
 use Rattle.rules.specs.Step.{step}
 use Rattle.rules.specs.Table.{isBegin, named}
 use Rattle.rules.proofs.Moved.{Moved, refuses, begins, commits, gives-up, retries, has-it, promotes, waits-in-front, enters, waits-last, goes-back, step-moved}
@@ -43,31 +43,31 @@ module _ (d : Desk) (r : Request) (i : ℕ) (n : i ≢ named d r) where
   bystander = by-move (step-moved d r)
     where
       by-move : {o : Outcome} → Moved d r o → isWoken i (o .wakes) ≡ false → o .desk .stat i ≡ d .stat i
-      by-move (refuses why) h = unfold refused in refl
-      by-move (begins l m k) h = unfold begin in at-other (d .stat) (d .next) running i (not-next l)
-      by-move (commits l s) h = unfold close in ended-others d (r .job) closed (vacated (r .job) (d .jobs)) (Go (r .job)) i (not-job l refl) h
-      by-move (gives-up l s) h = unfold close in ended-others d (r .job) closed (vacated (r .job) (d .jobs)) (Go (r .job)) i (not-job l refl) h
-      by-move (retries l s) h = unfold retry withStatus in at-other (d .stat) (r .job) running i (not-job l refl)
-      by-move (has-it b k x) h = unfold rule1 in refl
-      by-move (promotes b k x f z) h = unfold grant withRow in refl
-      by-move (waits-in-front b k x f z w) h = unfold queued withStatus withRow in at-other (d .stat) (r .job) (waiting (r .cell) b) i (not-job (k .letter) refl)
-      by-move (enters b k f z w) h = unfold grant withRow in refl
-      by-move (waits-last b k f z w u) h = unfold queued withStatus withRow in at-other (d .stat) (r .job) (waiting (r .cell) b) i (not-job (k .letter) refl)
-      by-move (goes-back b k x) h = unfold sendBack in ended-others d (r .job) sentback (d .jobs) (Back (r .job)) i (not-job (k .letter) refl) h
+      by-move (refuses why _) h = unfold refused in refl
+      by-move (begins l m k) h = at-other (d .stat) (d .next) running i (not-next l)
+      by-move (commits l s) h = ended-others d (r .job) closed (vacated (r .job) (d .jobs)) (Go (r .job)) i (not-job l refl) h
+      by-move (gives-up l s) h = ended-others d (r .job) closed (vacated (r .job) (d .jobs)) (Go (r .job)) i (not-job l refl) h
+      by-move (retries l s) h = unfold withStatus in at-other (d .stat) (r .job) running i (not-job l refl)
+      by-move (has-it b k x) h = refl
+      by-move (promotes b k x f z) h = unfold withRow in refl
+      by-move (waits-in-front b k x f z w) h = unfold withStatus withRow in at-other (d .stat) (r .job) (waiting (r .cell) b) i (not-job (k .letter) refl)
+      by-move (enters b k f z w) h = unfold withRow in refl
+      by-move (waits-last b k f z w u) h = unfold withStatus withRow in at-other (d .stat) (r .job) (waiting (r .cell) b) i (not-job (k .letter) refl)
+      by-move (goes-back b k x) h = ended-others d (r .job) sentback (d .jobs) (Back (r .job)) i (not-job (k .letter) refl) h
 
   -- and keeps its place
   pub bystander-place : i ≢ 0 → member i (step d r .desk .jobs) ≡ member i (d .jobs)
   bystander-place z = by-move (step-moved d r)
     where
       by-move : {o : Outcome} → Moved d r o → member i (o .desk .jobs) ≡ member i (d .jobs)
-      by-move (refuses why) = unfold refused in refl
-      by-move (begins l m k) = unfold begin in seated-others (d .next) (d .jobs) i (not-next l) z
-      by-move (commits l s) = unfold close rule4 in vacated-others (r .job) (d .jobs) i (not-job l refl) z
-      by-move (gives-up l s) = unfold close rule4 in vacated-others (r .job) (d .jobs) i (not-job l refl) z
-      by-move (retries l s) = unfold retry withStatus in refl
-      by-move (has-it b k x) = unfold rule1 in refl
-      by-move (promotes b k x f y) = unfold grant withRow in refl
-      by-move (waits-in-front b k x f y w) = unfold queued withStatus withRow in refl
-      by-move (enters b k f y w) = unfold grant withRow in refl
-      by-move (waits-last b k f y w u) = unfold queued withStatus withRow in refl
-      by-move (goes-back b k x) = unfold sendBack rule4 in refl
+      by-move (refuses why _) = unfold refused in refl
+      by-move (begins l m k) = seated-others (d .next) (d .jobs) i (not-next l) z
+      by-move (commits l s) = unfold rule4 in vacated-others (r .job) (d .jobs) i (not-job l refl) z
+      by-move (gives-up l s) = unfold rule4 in vacated-others (r .job) (d .jobs) i (not-job l refl) z
+      by-move (retries l s) = unfold withStatus in refl
+      by-move (has-it b k x) = refl
+      by-move (promotes b k x f y) = unfold withRow in refl
+      by-move (waits-in-front b k x f y w) = unfold withStatus withRow in refl
+      by-move (enters b k f y w) = unfold withRow in refl
+      by-move (waits-last b k f y w u) = unfold withStatus withRow in refl
+      by-move (goes-back b k x) = unfold rule4 in refl

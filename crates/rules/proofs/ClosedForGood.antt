@@ -1,6 +1,6 @@
 -- A job that is closed stays closed: its number is never given again (01, Jobs and their numbers).
 -- Assumes nothing.
-use Prim.Native.Nat.{ℕ, _<_, _≤_}
+use Prim.Native.Nat.{ℕ, _<_}
 use mathlib.Core.Path.{_≡_, ap, _∙_}
 use mathlib.Core.Logic.{_≢_}
 use mathlib.Core.Bool.{true}
@@ -10,7 +10,7 @@ use Rattle.laws.specs.Choice.{not-both}
 use Rattle.rules.specs.declared.Answer.{Answer}
 use Rattle.rules.specs.declared.Answer.the-variants.{Go, Back}
 use Rattle.rules.specs.Desk.{Status, closed, running, waiting, sentback, isOpen, Desk, Request, at, vacated}
-use Rattle.rules.specs.Rules.{Outcome, refused, withRow, withStatus, rule4, close, sendBack, grant, queued, rule1, retry, begin}
+use Rattle.rules.specs.Rules.{Outcome, refused, withRow, withStatus, rule4}
 use Rattle.rules.specs.Step.{step}
 use Rattle.rules.proofs.Moved.{Moved, step-moved}
 use Rattle.rules.proofs.Moved.Moved.{refuses, begins, commits, gives-up, retries, has-it, promotes, waits-in-front, enters, waits-last, goes-back}
@@ -36,8 +36,8 @@ module _ {d : Desk} (v : Inv d) (j : ℕ) (e : d .stat j ≡ closed) where
 
   -- every move leaves it closed, since its number was given
   moved-closed : {r : Request} {o : Outcome} → j < d .next → Moved d r o → o .desk .stat j ≡ closed
-  unfolding refused begin close sendBack retry rule1 grant queued withRow withStatus
-  moved-closed l (refuses why) = e
+  unfolding refused withRow withStatus
+  moved-closed l (refuses why _) = e
   moved-closed l (begins b n m) = at-other (d .stat) (d .next) running j (below l) ∙ e
     where
       below : {i k : ℕ} → i < k → i ≢ k

@@ -2,8 +2,8 @@
 -- Assumes nothing.
 use Prim.Native.Nat.{ℕ, _≤_}
 use mathlib.Core.Path.{_≡_, refl, sym, ap, _∙_, subst}
-use mathlib.Core.Bool.{true, false}
-use mathlib.Core.List.{[], _∷_, _++_}
+use mathlib.Core.Bool.{Bool, true, false}
+use mathlib.Core.List.{List, [], _∷_, _++_}
 use lib.Dec.{ltb}
 use borrow.Author.Tests.{ltb-false}
 use Rattle.laws.specs.Choice.{by-test, not-both}
@@ -17,33 +17,23 @@ use Rattle.terms.specs.Limits.{lastNumber}
 use Rattle.conflict.specs.declared.modes.Mode.{Mode}
 use Rattle.conflict.specs.declared.modes.Mode.the-variants.{Free}
 use Rattle.conflict.specs.Modes.{needed, covers, asked, isFree}
-use Rattle.conflict.specs.Jobs.{same, member}
-use Rattle.conflict.proofs.JobLists.{same-refl}
+use Rattle.laws.specs.Lists.{member}
 use Rattle.conflict.proofs.ModeLaws.{covers-refl, asked-free, asked-covers, asked-grows, is-free}
 use Rattle.rules.specs.declared.Answer.{Answer}
 use Rattle.rules.specs.declared.Answer.the-variants.{Go, Wait, Back, No}
-use Rattle.rules.specs.Desk.{Status, closed, running, waiting, sentback, Desk, Request, isOpen}
+use Rattle.rules.specs.Desk.{Status, closed, running, waiting, sentback, Waiter, Desk, Request, isOpen}
 use Rattle.rules.specs.Rules.{Outcome, refused, rule4, close, sendBack, grant, queued, rule1, retry, begin}
 use Rattle.rules.specs.Step.{stepCommit, stepGiveUp, stepRetry, stepBegin, stepBy, step}
 use Rattle.rules.specs.Table.{letterIs}
-use Rattle.rules.proofs.Moved.{Asking, Moved, refuses, begins, commits, gives-up, retries, has-it, promotes, waits-in-front, enters, waits-last, goes-back, step-moved}
+use Rattle.rules.specs.Waiting.{asker}
+use Rattle.rules.proofs.Answers.{other-answer}
+use Rattle.rules.proofs.Moved.{Asking, Elder, standing, Moved, refuses, begins, commits, gives-up, retries, has-it, promotes, waits-in-front, enters, waits-last, goes-back, step-moved}
 
 -- what an answer tells: of which job it is, the rule's outcome, and what held before
 pub record Course (d : Desk) (r : Request) (i j : ℕ) (o : Outcome) (P : Type 0) : Type 0 where
   pub job : j ≡ i
   pub outcome : step d r ≡ o
   pub was : P
-
--- the four sorts of answer
-abbrev sort : Answer → ℕ
-sort (Go j) = 0
-sort (Wait j) = 1
-sort (Back j) = 2
-sort (No why) = 3
-
--- answers of two sorts are not equal
-other-answer : {P : Type 0} {x y : Answer} → x ≡ y → same (sort x) (sort y) ≡ false → P
-other-answer {y = y} e n = not-both (rw e (same-refl (sort y))) n
 
 -- two goes are of one job
 same-go : {i j : ℕ} → Go i ≡ Go j → j ≡ i
@@ -103,7 +93,7 @@ no-ask : {P : Type 0} {x : Lettered} {l : Letter} {a : Ask} → x ≡ Known l �
 no-ask p n q = not-both (ap (letterIs hasCell) q) (ap (letterIs hasCell) p ∙ n)
 
 -- a letter asks for one thing
-same-ask : {x : Lettered} {a b : Ask} → x ≡ Known (Asks a) → x ≡ Known (Asks b) → a ≡ b
+pub same-ask : {x : Lettered} {a b : Ask} → x ≡ Known (Asks a) → x ≡ Known (Asks b) → a ≡ b
 same-ask p q = cc
 
 -- what is granted to a job that holds nothing covers it
@@ -115,29 +105,62 @@ pub ask-went : (d : Desk) (r : Request) (a : Ask) (j : ℕ) → letterOf (r .kin
 ask-went d r a j e g = by-move (step-moved d r) refl g
   where
     by-move : {o : Outcome} → Moved d r o → step d r ≡ o → o .said ≡ Go j → (j ≡ r .job) × AskWent d r a
-    by-move (refuses why) h q = unfold refused in other-answer q refl
+    by-move (refuses why _) h q = unfold refused in other-answer q refl
     by-move (begins l n m) h q = no-ask l refl e
     by-move (commits l s) h q = no-ask l refl e
     by-move (gives-up l s) h q = no-ask l refl e
     by-move (retries l s) h q = no-ask l refl e
     by-move (has-it b k c) h q = unfold rule1 in (same-go q, subst (AskWent d r) (same-ask (k .letter) e) (had c h))
     by-move (promotes b k c f z) h q = unfold grant in (same-go q, subst (AskWent d r) (same-ask (k .letter) e) (got (asked (d .row (r .cell) .held (r .job)) (needed b)) (asked-covers _ (needed b)) (asked-grows _ (needed b)) h))
-    by-move (waits-in-front b k c f z w) h q = unfold queued in other-answer q refl
+    by-move (waits-in-front b k c f z w) h q = other-answer q refl
     by-move (enters b k f z w) h q = unfold grant in (same-go q, subst (AskWent d r) (same-ask (k .letter) e) (got (needed b) (covers-refl (needed b)) (covers-none (needed b) _ f) h))
-    by-move (waits-last b k f z w v) h q = unfold queued in other-answer q refl
-    by-move (goes-back b k x) h q = unfold sendBack rule4 in other-answer q refl
+    by-move (waits-last b k f z w v) h q = other-answer q refl
+    by-move (goes-back b k x) h q = unfold rule4 in other-answer q refl
 
--- what a wait tells: a promotion waits in front, a job new to the cell waits last
-pub data Placed (d : Desk) (r : Request) (a : Ask) : Type 0 where
-  in-front : isFree (d .row (r .cell) .held (r .job)) ≡ false → step d r ≡ queued d (r .job) (r .cell) a (record { job = r .job; ask = a } ∷ d .row (r .cell) .queue) → Placed d r a
-  last : isFree (d .row (r .cell) .held (r .job)) ≡ true → step d r ≡ queued d (r .job) (r .cell) a (d .row (r .cell) .queue ++ record { job = r .job; ask = a } ∷ []) → Placed d r a
+-- the queue q is the queue p with waiter w put in front, for a job that holds the cell, or at the end, for a job that does not
+pub data Joined (holdsNothing : Bool) (w : Waiter) (p : List Waiter) : List Waiter → Type 0 where
+  promotion : holdsNothing ≡ false → Joined holdsNothing w p (w ∷ p)
+  newcomer : holdsNothing ≡ true → Joined holdsNothing w p (p ++ w ∷ [])
 
--- of which job a wait is, what was asked, and the job's place
+-- the request's job joins the queue of the cell, which is then q
+abbrev pub Joins : Desk → Request → Ask → List Waiter → Type 0
+Joins d r a q = Joined (isFree (d .row (r .cell) .held (r .job))) (asker r a) (d .row (r .cell) .queue) q
+
+-- a move by which a job that asks is held up: it waits in the queue that it joins, or is sent back
+data HeldUp (d : Desk) (r : Request) : Outcome → Type 0 where
+  waits : (a : Ask) (q : List Waiter) → Asking d r a → Joins d r a q → HeldUp d r (standing d (r .job) (r .cell) a q)
+  leaves : (a : Ask) → Asking d r a → Elder d (r .job) (r .cell) → HeldUp d r (rule4 d (r .job) sentback (d .jobs) (Back (r .job)))
+
+-- the answer is go or a refusal
+abbrev goesOrRefuses : Answer → Bool
+goesOrRefuses (Go j) = true
+goesOrRefuses (Wait j) = false
+goesOrRefuses (Back j) = false
+goesOrRefuses (No why) = true
+
+-- every move that answers neither go nor a refusal is such
+held-up : {d : Desk} {r : Request} {o : Outcome} → Moved d r o → goesOrRefuses (o .said) ≡ false → HeldUp d r o
+unfolding refused rule4
+held-up (refuses why _) e = not-both refl e
+held-up (begins l n m) e = not-both refl e
+held-up (commits l s) e = not-both refl e
+held-up (gives-up l s) e = not-both refl e
+held-up (retries l s) e = not-both refl e
+held-up (has-it b k c) e = not-both refl e
+held-up (promotes b k c f z) e = not-both refl e
+held-up (waits-in-front b k c f z w) e = waits b _ k (promotion f)
+held-up (enters b k f z w) e = not-both refl e
+held-up (waits-last b k f z w v) e = waits b _ k (newcomer f)
+held-up (goes-back b k x) e = leaves b k x
+
+-- of which job a wait is, what was asked, and the queue that the job joined
 pub record Waited (d : Desk) (r : Request) (j : ℕ) : Type 0 where
   pub job : j ≡ r .job
   pub ask : Ask
   pub asking : Asking d r ask
-  pub placed : Placed d r ask
+  pub queue : List Waiter
+  pub joins : Joins d r ask queue
+  pub outcome : step d r ≡ queued d (r .job) (r .cell) ask queue
 
 -- two waits are of one job
 same-wait : {i j : ℕ} → Wait i ≡ Wait j → j ≡ i
@@ -145,38 +168,20 @@ same-wait e = cc
 
 -- a wait is of the request's job, which runs and asks
 pub ask-waited : (d : Desk) (r : Request) (j : ℕ) → step d r .said ≡ Wait j → Waited d r j
-ask-waited d r j g = by-move (step-moved d r) refl g
+ask-waited d r j g = by-move (held-up (step-moved d r) (ap goesOrRefuses g)) refl g
   where
-    by-move : {o : Outcome} → Moved d r o → step d r ≡ o → o .said ≡ Wait j → Waited d r j
-    by-move (refuses why) h q = unfold refused in other-answer q refl
-    by-move (begins l n m) h q = unfold begin in other-answer q refl
-    by-move (commits l s) h q = unfold close rule4 in other-answer q refl
-    by-move (gives-up l s) h q = unfold close rule4 in other-answer q refl
-    by-move (retries l s) h q = unfold retry in other-answer q refl
-    by-move (has-it b k c) h q = unfold rule1 in other-answer q refl
-    by-move (promotes b k c f z) h q = unfold grant in other-answer q refl
-    by-move (waits-in-front b k c f z w) h q = unfold queued in record { job = same-wait q; ask = b; asking = k; placed = in-front f h }
-    by-move (enters b k f z w) h q = unfold grant in other-answer q refl
-    by-move (waits-last b k f z w v) h q = unfold queued in record { job = same-wait q; ask = b; asking = k; placed = last f h }
-    by-move (goes-back b k x) h q = unfold sendBack rule4 in other-answer q refl
+    by-move : {o : Outcome} → HeldUp d r o → step d r ≡ o → o .said ≡ Wait j → Waited d r j
+    by-move (waits a q k p) h e = record { job = same-wait e; ask = a; asking = k; queue = q; joins = p; outcome = unfold queued in h }
+    by-move (leaves a k x) h e = unfold rule4 in other-answer e refl
 
 -- two sendings back are of one job
 same-back : {i j : ℕ} → Back i ≡ Back j → j ≡ i
 same-back e = cc
 
--- a job that is sent back was running
-pub ask-back : (d : Desk) (r : Request) (j : ℕ) → step d r .said ≡ Back j → Course d r (r .job) j (sendBack d (r .job)) ((a : Ask) × Asking d r a)
-ask-back d r j g = by-move (step-moved d r) refl g
+-- a job that is sent back was running, and somebody older stood in its way
+pub ask-back : (d : Desk) (r : Request) (j : ℕ) → step d r .said ≡ Back j → Course d r (r .job) j (sendBack d (r .job)) ((a : Ask) × Asking d r a × Elder d (r .job) (r .cell))
+ask-back d r j g = by-move (held-up (step-moved d r) (ap goesOrRefuses g)) refl g
   where
-    by-move : {o : Outcome} → Moved d r o → step d r ≡ o → o .said ≡ Back j → Course d r (r .job) j (sendBack d (r .job)) ((a : Ask) × Asking d r a)
-    by-move (refuses why) h q = unfold refused in other-answer q refl
-    by-move (begins l n m) h q = unfold begin in other-answer q refl
-    by-move (commits l s) h q = unfold close rule4 in other-answer q refl
-    by-move (gives-up l s) h q = unfold close rule4 in other-answer q refl
-    by-move (retries l s) h q = unfold retry in other-answer q refl
-    by-move (has-it b k c) h q = unfold rule1 in other-answer q refl
-    by-move (promotes b k c f z) h q = unfold grant in other-answer q refl
-    by-move (waits-in-front b k c f z w) h q = unfold queued in other-answer q refl
-    by-move (enters b k f z w) h q = unfold grant in other-answer q refl
-    by-move (waits-last b k f z w v) h q = unfold queued in other-answer q refl
-    by-move (goes-back b k x) h q = unfold sendBack rule4 in record { job = same-back q; outcome = h; was = (b, k) }
+    by-move : {o : Outcome} → HeldUp d r o → step d r ≡ o → o .said ≡ Back j → Course d r (r .job) j (sendBack d (r .job)) ((a : Ask) × Asking d r a × Elder d (r .job) (r .cell))
+    by-move (waits a q k p) h e = other-answer e refl
+    by-move (leaves a k x) h e = record { job = unfold rule4 in same-back e; outcome = unfold sendBack in h; was = (a, k, x) }

@@ -1,27 +1,28 @@
--- Rules 2 and 3 in the paper's words, over all jobs and not over places: when a job that asks goes, waits or is sent back. What then happens is told by the answer (01, rules 2 and 3).
+-- Rules 2 and 3 in the paper's words, over all jobs and not over places: when a job that asks goes, waits and where, or is sent back. What else then happens is told by the answer (01, rules 2 and 3).
 -- Assumes nothing.
 use Prim.Native.Nat.{ℕ, _<_}
 use mathlib.Core.Path.{_≡_, refl, ap, _∙_}
 use mathlib.Core.Logic.{_≢_}
 use mathlib.Core.Bool.{Bool, true, false, _&&_}
-use mathlib.Core.List.{List, []}
+use mathlib.Core.List.{List, [], _∷_, _++_}
 use native.Mathlib.Omega.{arith}
 use Rattle.laws.specs.Choice.{pick, by-test, not-both}
 use Rattle.terms.specs.declared.letters.Ask.{Ask}
 use Rattle.conflict.specs.declared.modes.Mode.{Mode}
 use Rattle.conflict.specs.Modes.{needed, covers, grants, isFree}
 use Rattle.conflict.proofs.ModeLaws.{covers-free, is-free, grants-free}
-use Rattle.conflict.proofs.Parts.{and-both}
+use Rattle.laws.proofs.Parts.{and-both}
 use Rattle.conflict.specs.History.{History}
 use Rattle.rules.specs.declared.Answer.the-variants.{Go, Wait, Back}
 use Rattle.rules.specs.Desk.{Waiter, Desk, Request}
 use Rattle.rules.specs.Locks.{agrees, alone, olderThanHolders, olderThanWaiters, isEmpty}
-use Rattle.rules.specs.Rules.{rule2, rule3, rule4, grant, queued, sendBack, ask}
+use Rattle.rules.specs.Rules.{withRow, withStatus, rule2, rule3, rule4, grant, queued, sendBack, ask}
 use Rattle.rules.specs.Step.{step, Started}
+use Rattle.rules.specs.Waiting.{asker}
 use Rattle.rules.proofs.Kept.{started-inv}
 use Rattle.rules.proofs.Invariant.{In, first, later}
 use Rattle.rules.proofs.Moved.{Asking}
-use Rattle.rules.proofs.Tests.{Seated, each-agrees, not-agrees, each-alone, alone-each, each-older, older-holders, each-older-waiters, older-waiters}
+use Rattle.rules.proofs.Tests.{at-same, Seated, each-agrees, not-agrees, each-alone, alone-each, each-older, older-holders, each-older-waiters, older-waiters}
 use Rattle.rules.proofs.RunEnd.{row-ready}
 use Rattle.rules.proofs.Granting.{asking-step}
 
@@ -77,6 +78,16 @@ rule3-said d j c a =
     by-test (isEmpty (d .row c .queue) && agrees (d .jobs) (d .row c .held) j (needed a)) (λ t. rw t)
     (λ f. by-test (olderThanHolders (d .jobs) (d .row c .held) j && olderThanWaiters (d .row c .queue) j) (λ t. rw (f, t)) (λ g. rw (f, g)))
 
+-- a promotion that waits: the cell has it at the front of its queue, and everybody holds what they held
+rule2-front : (d : Desk) (j c : ℕ) (a : Ask) → alone (d .jobs) (d .row c .held) j ≡ false → olderThanHolders (d .jobs) (d .row c .held) j ≡ true → rule2 d j c a .desk .row c ≡ record { held = d .row c .held; queue = record { job = j; ask = a } ∷ d .row c .queue }
+unfolding rule2 queued withStatus withRow
+rule2-front d j c a f t = rw (f, t) (at-same (d .row) c _)
+
+-- a job new to the cell that waits: the cell has it at the end of its queue
+rule3-end : (d : Desk) (j c : ℕ) (a : Ask) → (isEmpty (d .row c .queue) && agrees (d .jobs) (d .row c .held) j (needed a)) ≡ false → (olderThanHolders (d .jobs) (d .row c .held) j && olderThanWaiters (d .row c .queue) j) ≡ true → rule3 d j c a .desk .row c ≡ record { held = d .row c .held; queue = d .row c .queue ++ record { job = j; ask = a } ∷ [] }
+unfolding rule3 queued withStatus withRow
+rule3-end d j c a f t = rw (f, t) (at-same (d .row) c _)
+
 -- a queue in which somebody stands is not empty
 not-empty : {w : Waiter} {q : List Waiter} → In w q → isEmpty q ≡ false
 unfolding isEmpty
@@ -111,6 +122,10 @@ module _ {d : Desk} {h : History} (started : Started d h) (r : Request) (a : Ask
   is-older : ((i : ℕ) → OtherHolder d r i → r .job < i) → olderThanHolders (d .jobs) (heldThere d r) (r .job) ≡ true
   is-older h = each-older (d .jobs) (heldThere d r) (r .job) (λ i n f. h i (record { other = n; holds = f }))
 
+  -- where every waiter is younger too, it is older than everybody there
+  oldest-there : ((i : ℕ) → OtherHolder d r i → r .job < i) → ((w : Waiter) → In w (queueThere d r) → r .job < w .job) → (olderThanHolders (d .jobs) (heldThere d r) (r .job) && olderThanWaiters (queueThere d r) (r .job)) ≡ true
+  oldest-there h w = and-both (olderThanHolders (d .jobs) (heldThere d r) (r .job)) (olderThanWaiters (queueThere d r) (r .job)) (is-older h) (each-older-waiters (queueThere d r) (r .job) w)
+
   -- a hindered job cannot have the cell at once
   not-at-once : Hindered d r a → (isEmpty (queueThere d r) && agrees (d .jobs) (heldThere d r) (r .job) (needed a)) ≡ false
   not-at-once (waits-already w s) = not-first (isEmpty (queueThere d r)) (agrees (d .jobs) (heldThere d r) (r .job) (needed a)) (not-empty s)
@@ -129,6 +144,10 @@ module _ {d : Desk} {h : History} (started : Started d h) (r : Request) (a : Ask
   promotion-waits p i o h =
       ap (λ o. o .said) (by-rule2 p) ∙ rule2-said d (r .job) (r .cell) a ∙ rw (not-alone i o, is-older h)
 
+  -- and it waits at the front of that cell's queue, still holding its old mode
+  pub promotion-in-front : Promotes d r a → (i : ℕ) → OtherHolder d r i → ((i : ℕ) → OtherHolder d r i → r .job < i) → step d r .desk .row (r .cell) ≡ record { held = heldThere d r; queue = asker r a ∷ queueThere d r }
+  promotion-in-front p i o h = ap (λ o. o .desk .row (r .cell)) (by-rule2 p) ∙ rule2-front d (r .job) (r .cell) a (not-alone i o) (is-older h)
+
   -- otherwise: back
   pub promotion-back : Promotes d r a → (i : ℕ) → OtherHolder d r i → i < r .job → step d r .said ≡ Back (r .job)
   promotion-back p i o l =
@@ -146,9 +165,11 @@ module _ {d : Desk} {h : History} (started : Started d h) (r : Request) (a : Ask
 
   -- otherwise, older than every holder and every waiter: wait
   pub entry-waits : Enters d r a → Hindered d r a → ((i : ℕ) → OtherHolder d r i → r .job < i) → ((w : Waiter) → In w (queueThere d r) → r .job < w .job) → step d r .said ≡ Wait (r .job)
-  entry-waits p x h w =
-      ap (λ o. o .said) (by-rule3 p) ∙ rule3-said d (r .job) (r .cell) a
-      ∙ rw (not-at-once x, and-both (olderThanHolders (d .jobs) (heldThere d r) (r .job)) (olderThanWaiters (queueThere d r) (r .job)) (is-older h) (each-older-waiters (queueThere d r) (r .job) w))
+  entry-waits p x h w = ap (λ o. o .said) (by-rule3 p) ∙ rule3-said d (r .job) (r .cell) a ∙ rw (not-at-once x, oldest-there h w)
+
+  -- and it waits at the end of the queue
+  pub entry-at-end : Enters d r a → Hindered d r a → ((i : ℕ) → OtherHolder d r i → r .job < i) → ((w : Waiter) → In w (queueThere d r) → r .job < w .job) → step d r .desk .row (r .cell) ≡ record { held = heldThere d r; queue = queueThere d r ++ asker r a ∷ [] }
+  entry-at-end p x h w = ap (λ o. o .desk .row (r .cell)) (by-rule3 p) ∙ rule3-end d (r .job) (r .cell) a (not-at-once x) (oldest-there h w)
 
   -- otherwise back: behind an older holder
   pub entry-back : Enters d r a → Hindered d r a → (i : ℕ) → OtherHolder d r i → i < r .job → step d r .said ≡ Back (r .job)

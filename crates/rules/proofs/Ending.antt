@@ -9,8 +9,8 @@ use Rattle.laws.specs.Choice.{by-test}
 use Rattle.terms.specs.declared.letters.Letter.the-variants.{Commit, GiveUp}
 use Rattle.terms.specs.declared.letters.Lettered.the-variants.{Known}
 use Rattle.terms.specs.Letters.{letterOf}
-use Rattle.conflict.specs.Jobs.{same, member}
-use Rattle.conflict.proofs.JobLists.{member-first, member-later, member-more}
+use Rattle.laws.specs.Lists.{same, member}
+use Rattle.laws.proofs.Lists.{member-first, member-later, member-more}
 use Rattle.conflict.specs.History.{History}
 use Rattle.rules.specs.declared.Answer.the-variants.{Go, Back}
 use Rattle.rules.specs.Desk.{closed, sentback, Desk, Request, isOpen, vacated}

@@ -3,7 +3,6 @@
 use Prim.Native.Nat.{ℕ}
 use mathlib.Core.Path.{_≡_, refl, ap, ap₂, _∙_}
 use mathlib.Core.Bool.{true}
-use mathlib.Core.List.{_++_}
 use Rattle.terms.specs.declared.letters.Letter.the-variants.{Begin, Commit, GiveUp, Retry, Back, Asks}
 use Rattle.terms.specs.declared.letters.Lettered.{Lettered}
 use Rattle.terms.specs.declared.letters.Lettered.the-variants.{Known, Unknown}
@@ -11,7 +10,7 @@ use Rattle.terms.specs.Letters.{letterOf, hasJob, hasCell}
 use Rattle.rules.specs.declared.Answer.{Answer}
 use Rattle.rules.specs.declared.Answer.the-variants.{Go, Wait, Back as sent-back, No}
 use Rattle.rules.specs.Desk.{Desk, Request}
-use Rattle.rules.specs.Step.{stepCommit, stepGiveUp, stepRetry, stepAsk, stepBy, step, wentBy, ownRecords, wakeRecords, recordsOf, events}
+use Rattle.rules.specs.Step.{stepCommit, stepGiveUp, stepRetry, stepAsk, stepBy, step, wentBy, ownRecords, recordsOf, events}
 use Rattle.rules.specs.Table.{letterIs}
 
 -- two requests are alike to their letter: the same job where it has a job, and the same cell where it has a cell
@@ -57,5 +56,4 @@ unread d r s k e = step-alike d r s (letterOf (r .kind)) e ∙ ap (λ b. stepBy 
 -- and the same records
 pub unread-records : (d : Desk) (r s : Request) → r .kind ≡ s .kind → Alike (letterOf (r .kind)) r s → events d r ≡ events d s
 unfolding events recordsOf
-unread-records d r s k e =
-    ap (λ o. recordsOf r (o .said) (o .wakes)) (unread d r s k e) ∙ ap (λ h. h ++ wakeRecords (step d s .wakes)) (records-alike r s (step d s .said) k e)
+unread-records d r s k e = rw (unread d r s k e, records-alike r s (step d s .said) k e)

@@ -13,14 +13,14 @@ use Rattle.conflict.specs.declared.action.Mark.{Mark}
 use Rattle.conflict.specs.declared.action.Mark.the-variants.{Commit, GiveUp, Back}
 use Rattle.conflict.specs.declared.action.Event.the-variants.{Ends}
 use Rattle.conflict.specs.Modes.{needed, covers}
-use Rattle.conflict.specs.Jobs.{same}
-use Rattle.conflict.specs.History.{History, marked}
+use Rattle.laws.specs.Lists.{same}
+use Rattle.conflict.specs.History.{History}
 use Rattle.conflict.proofs.ModeLaws.{covers-refl, asked-grows}
-use Rattle.conflict.proofs.JobLists.{same-sym}
+use Rattle.conflict.proofs.OneEvent.{marked-ends, any-ends, ended-is}
+use Rattle.laws.proofs.Lists.{same-sym}
 use Rattle.rules.specs.declared.Answer.{Answer}
-use Rattle.rules.specs.declared.Answer.the-variants.{Go, Back as sent-back}
-use Rattle.rules.specs.Desk.{Status, closed, sentback, vacated, Waiter, Desk, Request, at}
-use Rattle.rules.specs.Rules.{Outcome, refused, withRow, withStatus, rule4, close, sendBack, grant, queued, rule1, retry, begin}
+use Rattle.rules.specs.Desk.{Status, Waiter, Desk, Request, at}
+use Rattle.rules.specs.Rules.{Outcome, refused, withRow, withStatus, rule4, grant, queued}
 use Rattle.rules.specs.Step.{step, events, Started}
 use Rattle.conflict.specs.Runs.{isEnd, ended}
 use Rattle.rules.proofs.Kept.{started-inv}
@@ -37,8 +37,7 @@ Keeps d e i c = covers (e .row c .held i) (d .row c .held i) ≡ true
 
 -- a history that begins with a mark of a job ends a run of it
 first-ends : (m : Mark) (j i : ℕ) (h : History) → same i j ≡ true → ended i (Ends m j ∷ h) ≡ true
-unfolding isEnd ended marked
-first-ends m j i h t = rw (same-sym j i ∙ t)
+first-ends m j i h t = ended-is i (Ends m j ∷ h) ∙ marked-ends isEnd i m j h ∙ rw (same-sym j i ∙ t, any-ends m)
 
 -- the end of another job's run
 rule4-keeps : {d : Desk} → Inv d → (j : ℕ) (s : Status) (js : List ℕ) (said : Answer) (i c : ℕ) → i ≢ j → Keeps d (rule4 d j s js said .desk) i c
@@ -70,27 +69,22 @@ either-way d e h rest m j i c q f =
 pub held-till-end : {d : Desk} {h : History} → Started d h → (r : Request) (i c : ℕ) → Keeps d (step d r .desk) i c ⊎ (ended i (events d r) ≡ true)
 held-till-end {d} s r i c = by-move (step-moved d r) refl
   where
-    closed-says : step d r ≡ close d (r .job) → step d r .said ≡ Go (r .job)
-    closed-says h = unfold close rule4 in ap (λ o. o .said) h
+    said-so : (st : Status) (js : List ℕ) (said : Answer) → step d r ≡ rule4 d (r .job) st js said → step d r .said ≡ said
+    said-so st js said h = unfold rule4 in ap (λ o. o .said) h
 
-    closed-keeps : i ≢ r .job → Keeps d (close d (r .job) .desk) i c
-    closed-keeps n = unfold close in rule4-keeps (started-inv s) (r .job) closed (vacated (r .job) (d .jobs)) (Go (r .job)) i c n
-
-    back-says : step d r ≡ sendBack d (r .job) → step d r .said ≡ sent-back (r .job)
-    back-says h = unfold sendBack rule4 in ap (λ o. o .said) h
-
-    back-keeps : i ≢ r .job → Keeps d (sendBack d (r .job) .desk) i c
-    back-keeps n = unfold sendBack in rule4-keeps (started-inv s) (r .job) sentback (d .jobs) (sent-back (r .job)) i c n
+    run-ends : (m : Mark) (rest : History) (st : Status) (js : List ℕ) (said : Answer) → events d r ≡ Ends m (r .job) ∷ rest → step d r ≡ rule4 d (r .job) st js said → Keeps d (step d r .desk) i c ⊎ (ended i (events d r) ≡ true)
+    run-ends m rest st js said q h =
+        either-way d (step d r .desk) (events d r) rest m (r .job) i c q (λ n. rw h (rule4-keeps (started-inv s) (r .job) st js said i c n))
 
     by-move : {o : Outcome} → Moved d r o → step d r ≡ o → Keeps d (step d r .desk) i c ⊎ (ended i (events d r) ≡ true)
-    by-move (refuses why) h = inl (rw h (unfold refused in covers-refl (d .row c .held i)))
-    by-move (begins l n m) h = inl (rw h (unfold begin in covers-refl (d .row c .held i)))
-    by-move (commits l q) h = either-way d (step d r .desk) (events d r) _ Commit (r .job) i c (commit-records d r (r .job) l (closed-says h)) (λ n. rw h (closed-keeps n))
-    by-move (gives-up l q) h = either-way d (step d r .desk) (events d r) _ GiveUp (r .job) i c (give-up-records d r (r .job) l (closed-says h)) (λ n. rw h (closed-keeps n))
-    by-move (retries l q) h = inl (rw h (unfold retry withStatus in covers-refl (d .row c .held i)))
-    by-move (has-it b k x) h = inl (rw h (unfold rule1 in covers-refl (d .row c .held i)))
-    by-move (promotes b k x f z) h = inl (rw h (grant-keeps d (r .job) (r .cell) _ (asked-grows _ (needed b)) i c))
-    by-move (waits-in-front b k x f z w) h = inl (rw h (queued-keeps d (r .job) (r .cell) b _ i c))
-    by-move (enters b k f z w) h = inl (rw h (grant-keeps d (r .job) (r .cell) _ (covers-none (needed b) _ f) i c))
-    by-move (waits-last b k f z w u) h = inl (rw h (queued-keeps d (r .job) (r .cell) b _ i c))
-    by-move (goes-back b k x) h = either-way d (step d r .desk) (events d r) _ Back (r .job) i c (back-records d r (r .job) (back-says h)) (λ n. rw h (back-keeps n))
+    by-move (refuses why _) h = inl (rw h (unfold refused in covers-refl (d .row c .held i)))
+    by-move (begins l n m) h = inl (rw h (covers-refl (d .row c .held i)))
+    by-move (commits l q) h = run-ends Commit _ _ _ _ (commit-records d r (r .job) l (said-so _ _ _ h)) h
+    by-move (gives-up l q) h = run-ends GiveUp _ _ _ _ (give-up-records d r (r .job) l (said-so _ _ _ h)) h
+    by-move (retries l q) h = inl (rw h (unfold withStatus in covers-refl (d .row c .held i)))
+    by-move (has-it b k x) h = inl (rw h (covers-refl (d .row c .held i)))
+    by-move (promotes b k x f z) h = inl (rw h (unfold grant in grant-keeps d (r .job) (r .cell) _ (asked-grows _ (needed b)) i c))
+    by-move (waits-in-front b k x f z w) h = inl (rw h (unfold queued in queued-keeps d (r .job) (r .cell) b _ i c))
+    by-move (enters b k f z w) h = inl (rw h (unfold grant in grant-keeps d (r .job) (r .cell) _ (covers-none (needed b) _ f) i c))
+    by-move (waits-last b k f z w u) h = inl (rw h (unfold queued in queued-keeps d (r .job) (r .cell) b _ i c))
+    by-move (goes-back b k x) h = run-ends Back _ _ _ _ (back-records d r (r .job) (said-so _ _ _ h)) h

@@ -10,7 +10,7 @@ use Rattle.terms.specs.declared.letters.Ask.{Ask}
 use Rattle.terms.specs.Limits.{cells, places}
 use Rattle.conflict.specs.declared.modes.Mode.{Mode}
 use Rattle.conflict.specs.Modes.{beside, grants, isFree}
-use Rattle.conflict.specs.Jobs.{member}
+use Rattle.laws.specs.Lists.{member}
 use Rattle.rules.specs.Desk.{Status, closed, waiting, Waiter, Row, Desk, isOpen, isLive}
 use Rattle.rules.specs.Locks.{wants}
 pub use Rattle.rules.specs.Waiting.{In, first, later}

@@ -2,7 +2,7 @@
 -- Assumes nothing.
 use Rattle.conflict.specs.History.{History}
 use Rattle.rules.specs.Desk.{Desk, Request}
-use Rattle.rules.specs.Rules.{Outcome, refused, rule1}
+use Rattle.rules.specs.Rules.{Outcome, refused, close, sendBack, grant, queued, retry, begin}
 use Rattle.rules.specs.Step.{step, Started, fresh, after}
 use Rattle.rules.proofs.Moved.{Moved, refuses, begins, commits, gives-up, retries, has-it, promotes, waits-in-front, enters, waits-last, goes-back, step-moved}
 use Rattle.rules.proofs.Invariant.{Inv}
@@ -14,14 +14,15 @@ use Rattle.rules.proofs.KeptRun.{close-inv, sendBack-inv}
 
 -- every move keeps what holds of the desk
 pub moved-inv : {d : Desk} {r : Request} {o : Outcome} → Inv d → Moved d r o → Inv (o .desk)
-moved-inv v (refuses why) = unfold refused in v
+unfolding refused close sendBack grant queued retry begin
+moved-inv v (refuses why _) = v
 moved-inv v (begins e l m) = begin-inv v m
 moved-inv {r = r} v (commits e runs) = close-inv v (r .job) (running-open runs)
 moved-inv {r = r} v (gives-up e o) = close-inv v (r .job) o
 moved-inv {r = r} v (retries e s) = retry-inv v (r .job) s
-moved-inv v (has-it a k h) = unfold rule1 in v
+moved-inv v (has-it a k h) = v
 moved-inv {r = r} v (promotes a k n f o) = promotes-inv v (r .job) (r .cell) a (k .runs) f o
-moved-inv {r = r} v (waits-in-front a k n f o h) = waits-in-front-inv v (r .job) (r .cell) a (k .runs) (k .within) n f o h
+moved-inv {r = r} v (waits-in-front a k n f o h) = waits-in-front-inv v (r .job) (r .cell) a (k .runs) (k .within) f o h
 moved-inv {r = r} v (enters a k f e g) = enters-inv v (r .job) (r .cell) a (k .runs) f e g
 moved-inv {r = r} v (waits-last a k f n h o) = waits-last-inv v (r .job) (r .cell) a (k .runs) (k .within) f n h o
 moved-inv {r = r} v (goes-back a k e) = sendBack-inv v (r .job) (running-open (k .runs))

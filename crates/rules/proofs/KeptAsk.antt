@@ -57,13 +57,13 @@ module _ {d : Desk} (v : Inv d) (j c : ℕ) (a : Ask) (runs : d .stat j ≡ runn
       (waiters-older f)
 
   -- rule 2, older than every other holder: it waits in front
-  pub waits-in-front-inv : c < cells → covers (d .row c .held j) (needed a) ≡ false → isFree (d .row c .held j) ≡ false → alone (d .jobs) (d .row c .held) j ≡ false → olderThanHolders (d .jobs) (d .row c .held) j ≡ true → Inv (queued d j c a (record { job = j; ask = a } ∷ d .row c .queue) .desk)
-  waits-in-front-inv l n f o h =
+  pub waits-in-front-inv : c < cells → isFree (d .row c .held j) ≡ false → alone (d .jobs) (d .row c .held) j ≡ false → olderThanHolders (d .jobs) (d .row c .held) j ≡ true → Inv (queued d j c a (record { job = j; ask = a } ∷ d .row c .queue) .desk)
+  waits-in-front-inv l f o h =
       queued-inv v j c a (record { job = j; ask = a } ∷ d .row c .queue) (joins-front (d .row c .queue) (record { job = j; ask = a })) runs l
       (older-holders (d .jobs) (d .row c .held) j holders-seated h) (waiters-older f, v .rows c .down) (in-way (alone-not (d .jobs) (d .row c .held) j o))
     where
       in-way : (i : ℕ) × (i ≢ j) × (isFree (d .row c .held i) ≡ false) → FirstBlocked (d .row c .held) (record { job = j; ask = a } ∷ d .row c .queue)
-      in-way (i, e, g) = (i, e, unfold wants in promotion-alone (d .row c .held j) (d .row c .held i) a f n ∙ g)
+      in-way (i, e, g) = (i, e, unfold wants in promotion-alone (d .row c .held j) (d .row c .held i) a f ∙ g)
 
   -- rule 3, the queue is empty and the mode agrees: go
   pub enters-inv : isFree (d .row c .held j) ≡ true → isEmpty (d .row c .queue) ≡ true → agrees (d .jobs) (d .row c .held) j (needed a) ≡ true → Inv (grant d j c (needed a) .desk)

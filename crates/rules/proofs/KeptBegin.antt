@@ -8,7 +8,7 @@ use native.Mathlib.Omega.{arith}
 use Rattle.laws.specs.Choice.{by-test, not-both}
 use Rattle.terms.specs.Limits.{places}
 use Rattle.conflict.specs.declared.modes.Mode.the-variants.{Free}
-use Rattle.conflict.specs.Jobs.{member}
+use Rattle.laws.specs.Lists.{member}
 use Rattle.conflict.proofs.ModeLaws.{free-beside}
 use Rattle.conflict.proofs.MoreModeLaws.{free-is-free}
 use Rattle.rules.specs.Desk.{closed, running, waiting, Desk, isOpen, seated, idle, freshDesk}

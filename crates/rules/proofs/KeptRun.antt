@@ -8,7 +8,7 @@ use mathlib.Core.List.{List}
 use lib.ListN.{length}
 use Rattle.laws.specs.Choice.{not-both}
 use Rattle.terms.specs.Limits.{places}
-use Rattle.conflict.specs.Jobs.{member}
+use Rattle.laws.specs.Lists.{member}
 use Rattle.rules.specs.declared.Answer.{Answer}
 use Rattle.rules.specs.Desk.{Status, closed, waiting, sentback, Desk, isOpen, isLive, vacated}
 use Rattle.rules.specs.Rules.{rowsAfter, rule4, close, sendBack}

@@ -6,7 +6,7 @@ use mathlib.Core.Logic.{_≢_}
 use mathlib.Core.Bool.{true}
 use Rattle.laws.specs.Choice.{not-both}
 use Rattle.terms.specs.declared.letters.Ask.{Ask}
-use Rattle.conflict.specs.Jobs.{member}
+use Rattle.laws.specs.Lists.{member}
 use Rattle.rules.specs.Desk.{Status, running, waiting, sentback, Waiter, Row, Desk, isOpen, isLive, at}
 use Rattle.rules.specs.Rules.{retry, withStatus}
 use Rattle.rules.proofs.Invariant.{In, Inv, RowInv}

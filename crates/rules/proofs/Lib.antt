@@ -55,3 +55,5 @@ pub mod ServedInTime
 pub mod SomebodyRuns
 pub mod WaiterSees
 pub mod WaiterStep
+pub mod RecordLimits
+pub mod OneRecordEach

@@ -1,27 +1,30 @@
 -- The rules as a relation, one constructor to a rule with its tests as premises, and that every step is such a move: the one place that follows the tests.
 -- Assumes nothing.
-use Prim.Native.Nat.{ℕ, _<_, _≤_}
-use mathlib.Core.Path.{_≡_, refl, sym, subst}
+use Prim.Native.Nat.{ℕ, suc, _<_, _≤_}
+use mathlib.Core.Path.{_≡_, refl}
 use mathlib.Core.Bool.{Bool, true, false, _&&_}
-use mathlib.Core.Logic.{_⊎_, inl, inr}
 use mathlib.Core.List.{List, [], _∷_, _++_}
-use lib.Dec.{ltb}
-use borrow.Author.Tests.{ltb-true, ltb-false}
-use Rattle.laws.specs.Choice.{pick, by-test}
+use lib.Dec.{ltb, leb}
+use borrow.Author.Tests.{ltb-true, ltb-false, le-leb}
+use Rattle.laws.specs.Choice.{pick}
 use Rattle.terms.specs.declared.letters.Ask.{Ask}
-use Rattle.terms.specs.declared.letters.Letter.{Letter}
-use Rattle.terms.specs.declared.letters.Letter.the-variants.{Begin, Commit, GiveUp, Retry, Back, Asks}
+use Rattle.terms.specs.declared.letters.Letter.the-variants.{Begin, Commit, GiveUp, Retry, Back as no-request, Asks}
 use Rattle.terms.specs.declared.letters.Lettered.{Lettered}
 use Rattle.terms.specs.declared.letters.Lettered.the-variants.{Known, Unknown}
 use Rattle.terms.specs.declared.refusals.Refusal.{Refusal}
+use Rattle.terms.specs.declared.refusals.Refusal.the-variants.{UnknownKind, CellAbove, NotOpen, Waiting, SentBack, AllOpen, NoNumberLeft, Running}
 use Rattle.terms.specs.Letters.{letterOf}
 use Rattle.terms.specs.Limits.{cells, lastNumber}
+use Rattle.conflict.specs.declared.modes.Mode.{Mode}
 use Rattle.conflict.specs.Modes.{needed, covers, asked, isFree}
-use Rattle.conflict.specs.Jobs.{member}
-use Rattle.rules.specs.Desk.{Status, closed, running, waiting, sentback, Desk, Request, Waiter, isOpen}
+use Rattle.laws.specs.Lists.{member}
+use Rattle.laws.proofs.Parts.{and-first, and-second}
+use Rattle.rules.specs.declared.Answer.the-variants.{Go, Wait, Back}
+use Rattle.rules.specs.Desk.{Status, closed, running, waiting, sentback, Desk, Request, Waiter, isOpen, at, seated, vacated}
 use Rattle.rules.specs.Locks.{agrees, alone, olderThanHolders, olderThanWaiters, isEmpty}
-use Rattle.rules.specs.Rules.{Outcome, refused, close, sendBack, grant, queued, rule1, rule2, rule3, ask, retry, begin}
+use Rattle.rules.specs.Rules.{Outcome, refused, withRow, withStatus, rule4, close, sendBack, grant, queued, rule1, rule2, rule3, ask, retry, begin}
 use Rattle.rules.specs.Step.{stepCommit, stepGiveUp, stepRetry, stepAsk, stepBegin, stepBy, step}
+use Rattle.rules.specs.Table.{holds, order, firstOf, refusal, verdictBy, verdict, Due}
 
 -- a running job asks for a cell that there is
 pub record Asking (d : Desk) (r : Request) (a : Ask) : Type 0 where
@@ -34,45 +37,61 @@ pub data Elder (d : Desk) (j c : ℕ) : Type 0 where
   holder : olderThanHolders (d .jobs) (d .row c .held) j ≡ false → Elder d j c
   waiter : isFree (d .row c .held j) ≡ true → olderThanWaiters (d .row c .queue) j ≡ false → Elder d j c
 
+-- go: this desk, and nobody is woken
+abbrev pub goes : Desk → ℕ → Outcome
+goes e j = record { desk = e; said = Go j; wakes = [] }
+
+-- the job gets the mode, and every queue stays
+abbrev pub taking : Desk → ℕ → ℕ → Mode → Outcome
+taking d j c m = goes (withRow d c (record { held = at (d .row c .held) j m; queue = d .row c .queue })) j
+
+-- the job waits in this queue, and everybody still holds what they hold
+abbrev pub standing : Desk → ℕ → ℕ → Ask → List Waiter → Outcome
+standing d j c a q =
+    record {
+      desk = withStatus (withRow d c (record { held = d .row c .held; queue = q })) j (waiting c a);
+      said = Wait j;
+      wakes = [];
+    }
+
+-- the moves, each outcome written out: not by the names under which the rules are defined, so that a rule which does something else is no move
 pub data Moved (d : Desk) (r : Request) : Outcome → Type 0 where
-  refuses : (why : Refusal) → Moved d r (refused d why)
-  begins : letterOf (r .kind) ≡ Known Begin → d .next ≤ lastNumber → member 0 (d .jobs) ≡ true → Moved d r (begin d)
-  commits : letterOf (r .kind) ≡ Known Commit → d .stat (r .job) ≡ running → Moved d r (close d (r .job))
-  gives-up : letterOf (r .kind) ≡ Known GiveUp → isOpen (d .stat (r .job)) ≡ true → Moved d r (close d (r .job))
-  retries : letterOf (r .kind) ≡ Known Retry → d .stat (r .job) ≡ sentback → Moved d r (retry d (r .job))
+  -- a refusal that the table says is due
+  refuses : (why : Refusal) → Due d r why → Moved d r (refused d why)
+  begins : letterOf (r .kind) ≡ Known Begin → d .next ≤ lastNumber → member 0 (d .jobs) ≡ true → Moved d r (goes (record { next = suc (d .next); jobs = seated (d .next) (d .jobs); stat = at (d .stat) (d .next) running; row = d .row }) (d .next))
+  -- rule 4: commit and give-up close the job
+  commits : letterOf (r .kind) ≡ Known Commit → d .stat (r .job) ≡ running → Moved d r (rule4 d (r .job) closed (vacated (r .job) (d .jobs)) (Go (r .job)))
+  gives-up : letterOf (r .kind) ≡ Known GiveUp → isOpen (d .stat (r .job)) ≡ true → Moved d r (rule4 d (r .job) closed (vacated (r .job) (d .jobs)) (Go (r .job)))
+  -- rule 5
+  retries : letterOf (r .kind) ≡ Known Retry → d .stat (r .job) ≡ sentback → Moved d r (goes (withStatus d (r .job) running) (r .job))
   -- rule 1
-  has-it : (a : Ask) → Asking d r a → covers (d .row (r .cell) .held (r .job)) (needed a) ≡ true → Moved d r (rule1 d (r .job))
+  has-it : (a : Ask) → Asking d r a → covers (d .row (r .cell) .held (r .job)) (needed a) ≡ true → Moved d r (goes d (r .job))
   -- rule 2
-  promotes : (a : Ask) → Asking d r a → covers (d .row (r .cell) .held (r .job)) (needed a) ≡ false → isFree (d .row (r .cell) .held (r .job)) ≡ false → alone (d .jobs) (d .row (r .cell) .held) (r .job) ≡ true → Moved d r (grant d (r .job) (r .cell) (asked (d .row (r .cell) .held (r .job)) (needed a)))
-  waits-in-front : (a : Ask) → Asking d r a → covers (d .row (r .cell) .held (r .job)) (needed a) ≡ false → isFree (d .row (r .cell) .held (r .job)) ≡ false → alone (d .jobs) (d .row (r .cell) .held) (r .job) ≡ false → olderThanHolders (d .jobs) (d .row (r .cell) .held) (r .job) ≡ true → Moved d r (queued d (r .job) (r .cell) a (record { job = r .job; ask = a } ∷ d .row (r .cell) .queue))
+  promotes : (a : Ask) → Asking d r a → covers (d .row (r .cell) .held (r .job)) (needed a) ≡ false → isFree (d .row (r .cell) .held (r .job)) ≡ false → alone (d .jobs) (d .row (r .cell) .held) (r .job) ≡ true → Moved d r (taking d (r .job) (r .cell) (asked (d .row (r .cell) .held (r .job)) (needed a)))
+  waits-in-front : (a : Ask) → Asking d r a → covers (d .row (r .cell) .held (r .job)) (needed a) ≡ false → isFree (d .row (r .cell) .held (r .job)) ≡ false → alone (d .jobs) (d .row (r .cell) .held) (r .job) ≡ false → olderThanHolders (d .jobs) (d .row (r .cell) .held) (r .job) ≡ true → Moved d r (standing d (r .job) (r .cell) a (record { job = r .job; ask = a } ∷ d .row (r .cell) .queue))
   -- rule 3
-  enters : (a : Ask) → Asking d r a → isFree (d .row (r .cell) .held (r .job)) ≡ true → isEmpty (d .row (r .cell) .queue) ≡ true → agrees (d .jobs) (d .row (r .cell) .held) (r .job) (needed a) ≡ true → Moved d r (grant d (r .job) (r .cell) (needed a))
-  waits-last : (a : Ask) → Asking d r a → isFree (d .row (r .cell) .held (r .job)) ≡ true → (isEmpty (d .row (r .cell) .queue) && agrees (d .jobs) (d .row (r .cell) .held) (r .job) (needed a)) ≡ false → olderThanHolders (d .jobs) (d .row (r .cell) .held) (r .job) ≡ true → olderThanWaiters (d .row (r .cell) .queue) (r .job) ≡ true → Moved d r (queued d (r .job) (r .cell) a (d .row (r .cell) .queue ++ record { job = r .job; ask = a } ∷ []))
-  -- rules 2 and 3, otherwise
-  goes-back : (a : Ask) → Asking d r a → Elder d (r .job) (r .cell) → Moved d r (sendBack d (r .job))
+  enters : (a : Ask) → Asking d r a → isFree (d .row (r .cell) .held (r .job)) ≡ true → isEmpty (d .row (r .cell) .queue) ≡ true → agrees (d .jobs) (d .row (r .cell) .held) (r .job) (needed a) ≡ true → Moved d r (taking d (r .job) (r .cell) (needed a))
+  waits-last : (a : Ask) → Asking d r a → isFree (d .row (r .cell) .held (r .job)) ≡ true → (isEmpty (d .row (r .cell) .queue) && agrees (d .jobs) (d .row (r .cell) .held) (r .job) (needed a)) ≡ false → olderThanHolders (d .jobs) (d .row (r .cell) .held) (r .job) ≡ true → olderThanWaiters (d .row (r .cell) .queue) (r .job) ≡ true → Moved d r (standing d (r .job) (r .cell) a (d .row (r .cell) .queue ++ record { job = r .job; ask = a } ∷ []))
+  -- rules 2 and 3, otherwise: sent back by rule 4
+  goes-back : (a : Ask) → Asking d r a → Elder d (r .job) (r .cell) → Moved d r (rule4 d (r .job) sentback (d .jobs) (Back (r .job)))
 
 -- one of two moves, by a test that picks it
 either : {d : Desk} {r : Request} (b : Bool) {x y : Outcome} → (b ≡ true → Moved d r x) → (b ≡ false → Moved d r y) → Moved d r (pick b x y)
 either true f g = f refl
 either false f g = g refl
 
+-- where two tests hold, each does
 both : (a b : Bool) → (a && b) ≡ true → (a ≡ true) × (b ≡ true)
-both true b e = (refl, e)
-both false b e = absurd (elim-false e)
-  where
-    holds : Bool → Type 0
-    holds true = Unit {0}
-    holds false = ⊥
+both a b e = (and-first a b e, and-second a b e)
 
-    elim-false : false ≡ true → ⊥
-    elim-false e = subst holds (sym e) tt
+-- where two tests do not both hold, one of them fails
+one-fails : {P : Type 0} (a b : Bool) → (a && b) ≡ false → (a ≡ false → P) → (b ≡ false → P) → P
+one-fails true b e f g = g e
+one-fails false b e f g = f refl
 
-not-both : {P : Type 0} (a b : Bool) → (a && b) ≡ false → (a ≡ false → P) → (b ≡ false → P) → P
-not-both true b e f g = g e
-not-both false b e f g = f refl
-
+-- a running job that asks moves by rule 1, 2 or 3
 ask-moved : (d : Desk) (r : Request) (a : Ask) → Asking d r a → Moved d r (ask d (r .job) (r .cell) a)
-unfolding ask rule2 rule3
+unfolding ask rule1 rule2 rule3 grant queued sendBack
 ask-moved d r a k =
     either (covers (d .row (r .cell) .held (r .job)) (needed a)) (has-it a k)
     (λ n. either (isFree (d .row (r .cell) .held (r .job)))
@@ -80,46 +99,72 @@ ask-moved d r a k =
     (λ e. let p = both _ _ e in enters a k f (p .0) (p .1))
     (λ e. either (olderThanHolders (d .jobs) (d .row (r .cell) .held) (r .job) && olderThanWaiters (d .row (r .cell) .queue) (r .job))
     (λ o. let p = both _ _ o in waits-last a k f e (p .0) (p .1))
-    (λ o. not-both _ _ o (λ h. goes-back a k (holder h)) (λ w. goes-back a k (waiter f w)))))
+    (λ o. one-fails _ _ o (λ h. goes-back a k (holder h)) (λ w. goes-back a k (waiter f w)))))
     (λ f. either (alone (d .jobs) (d .row (r .cell) .held) (r .job)) (promotes a k n f)
     (λ e. either (olderThanHolders (d .jobs) (d .row (r .cell) .held) (r .job)) (waits-in-front a k n f e) (λ h. goes-back a k (holder h)))))
 
-step-by : (d : Desk) (r : Request) (l : Lettered) → letterOf (r .kind) ≡ l → Moved d r (stepBy d r l)
-unfolding stepBy stepBegin
-step-by d r Unknown e = refuses _
-step-by d r (Known Back) e = refuses _
-step-by d r (Known Begin) e =
-    either (ltb lastNumber (d .next)) (λ _. refuses _) (λ f. either (member 0 (d .jobs)) (begins e (ltb-false _ _ f)) (λ _. refuses _))
-step-by d r (Known Commit) e = by-status (d .stat (r .job)) refl
-  where
-    by-status : (s : Status) → d .stat (r .job) ≡ s → Moved d r (stepCommit d (r .job) s)
-    by-status closed q = unfold stepCommit in refuses _
-    by-status running q = unfold stepCommit in commits e q
-    by-status (waiting c a) q = unfold stepCommit in refuses _
-    by-status sentback q = unfold stepCommit in refuses _
-step-by d r (Known GiveUp) e = by-status (d .stat (r .job)) refl
-  where
-    by-status : (s : Status) → d .stat (r .job) ≡ s → Moved d r (stepGiveUp d (r .job) s)
-    by-status closed q = unfold stepGiveUp in refuses _
-    by-status running q = unfold stepGiveUp isOpen in gives-up e (rw q)
-    by-status (waiting c a) q = unfold stepGiveUp isOpen in gives-up e (rw q)
-    by-status sentback q = unfold stepGiveUp isOpen in gives-up e (rw q)
-step-by d r (Known Retry) e = by-status (d .stat (r .job)) refl
-  where
-    by-status : (s : Status) → d .stat (r .job) ≡ s → Moved d r (stepRetry d (r .job) s)
-    by-status closed q = unfold stepRetry in refuses _
-    by-status running q = unfold stepRetry in refuses _
-    by-status (waiting c a) q = unfold stepRetry in refuses _
-    by-status sentback q = unfold stepRetry in retries e q
-step-by d r (Known (Asks a)) e = by-status (d .stat (r .job)) refl
-  where
-    by-status : (s : Status) → d .stat (r .job) ≡ s → Moved d r (stepAsk d (r .job) (r .cell) a s)
-    by-status closed q = unfold stepAsk in refuses _
-    by-status running q = unfold stepAsk in either (ltb (r .cell) cells) (λ t. ask-moved d r a (record { letter = e; runs = q; within = ltb-true _ _ t })) (λ _. refuses _)
-    by-status (waiting c a′) q = unfold stepAsk in refuses _
-    by-status sentback q = unfold stepAsk in refuses _
+-- a cell that is none of the 64 is above 63
+cell-above : (c : ℕ) → ltb c cells ≡ false → leb cells c ≡ true
+cell-above c f = le-leb cells c (ltb-false c cells f)
 
--- every step is a move by one of the rules
+-- a refusal that is due by the request's letter and what its job is doing
+due-by : {d : Desk} {r : Request} {l : Lettered} {s : Status} (why : Refusal) → letterOf (r .kind) ≡ l → d .stat (r .job) ≡ s → verdictBy d l s (r .cell) ≡ refusal why → Moved d r (refused d why)
+unfolding verdict
+due-by why e q h = refuses why (rw (e, q) h)
+
+-- begin tests 7, then 6
+begin-moved : (d : Desk) (r : Request) → letterOf (r .kind) ≡ Known Begin → Moved d r (stepBegin d)
+unfolding stepBegin begin verdictBy holds order firstOf
+begin-moved d r e =
+    either (ltb lastNumber (d .next)) (λ t. due-by NoNumberLeft e refl (rw t))
+    (λ f. either (member 0 (d .jobs)) (begins e (ltb-false _ _ f)) (λ n. due-by AllOpen e refl (rw (f, n))))
+
+-- a commit, by what the job is doing
+commit-moved : (d : Desk) (r : Request) (s : Status) → letterOf (r .kind) ≡ Known Commit → d .stat (r .job) ≡ s → Moved d r (stepCommit d (r .job) s)
+unfolding stepCommit close verdictBy holds order firstOf isOpen
+commit-moved d r closed e q = due-by NotOpen e q refl
+commit-moved d r running e q = commits e q
+commit-moved d r (waiting c a) e q = due-by Waiting e q refl
+commit-moved d r sentback e q = due-by SentBack e q refl
+
+-- a give-up
+give-up-moved : (d : Desk) (r : Request) (s : Status) → letterOf (r .kind) ≡ Known GiveUp → d .stat (r .job) ≡ s → Moved d r (stepGiveUp d (r .job) s)
+unfolding stepGiveUp close verdictBy holds order firstOf isOpen
+give-up-moved d r closed e q = due-by NotOpen e q refl
+give-up-moved d r running e q = gives-up e (rw q)
+give-up-moved d r (waiting c a) e q = gives-up e (rw q)
+give-up-moved d r sentback e q = gives-up e (rw q)
+
+-- a retry
+retry-moved : (d : Desk) (r : Request) (s : Status) → letterOf (r .kind) ≡ Known Retry → d .stat (r .job) ≡ s → Moved d r (stepRetry d (r .job) s)
+unfolding stepRetry retry verdictBy holds order firstOf isOpen
+retry-moved d r closed e q = due-by NotOpen e q refl
+retry-moved d r running e q = due-by Running e q refl
+retry-moved d r (waiting c a) e q = due-by Waiting e q refl
+retry-moved d r sentback e q = retries e q
+
+-- a read, a write or an increment
+asked-moved : (d : Desk) (r : Request) (a : Ask) (s : Status) → letterOf (r .kind) ≡ Known (Asks a) → d .stat (r .job) ≡ s → Moved d r (stepAsk d (r .job) (r .cell) a s)
+unfolding stepAsk verdictBy holds order firstOf isOpen
+asked-moved d r a closed e q = due-by NotOpen e q refl
+asked-moved d r a running e q =
+    either (ltb (r .cell) cells) (λ t. ask-moved d r a (record { letter = e; runs = q; within = ltb-true _ _ t }))
+    (λ f. due-by CellAbove e q (rw (cell-above (r .cell) f)))
+asked-moved d r a (waiting c a′) e q = due-by Waiting e q refl
+asked-moved d r a sentback e q = due-by SentBack e q refl
+
+-- by the request's letter
+step-by : (d : Desk) (r : Request) (l : Lettered) → letterOf (r .kind) ≡ l → Moved d r (stepBy d r l)
+unfolding stepBy
+step-by d r Unknown e = unfold verdictBy holds order firstOf in due-by UnknownKind e refl refl
+step-by d r (Known no-request) e = unfold verdictBy holds order firstOf in due-by UnknownKind e refl refl
+step-by d r (Known Begin) e = begin-moved d r e
+step-by d r (Known Commit) e = commit-moved d r (d .stat (r .job)) e refl
+step-by d r (Known GiveUp) e = give-up-moved d r (d .stat (r .job)) e refl
+step-by d r (Known Retry) e = retry-moved d r (d .stat (r .job)) e refl
+step-by d r (Known (Asks a)) e = asked-moved d r a (d .stat (r .job)) e refl
+
+-- every step is a move by one of the rules, and refuses only what the table says is due
 pub step-moved : (d : Desk) (r : Request) → Moved d r (step d r)
 unfolding step
 step-moved d r = step-by d r (letterOf (r .kind)) refl

@@ -9,10 +9,10 @@ use borrow.Author.Tests.{eqb-true}
 use Rattle.laws.specs.Choice.{by-test, not-both}
 use Rattle.conflict.specs.declared.action.Action.{Action}
 use Rattle.conflict.specs.declared.action.Mark.{Mark}
-use Rattle.conflict.specs.Jobs.{same}
+use Rattle.laws.specs.Lists.{same}
 use Rattle.conflict.specs.History.{History, isBack, marked, lineOf, endsForGood}
 use Rattle.conflict.specs.Runs.{isLast}
-use Rattle.conflict.proofs.Parts.{and-first, and-second, and-both, or-either, or-second}
+use Rattle.laws.proofs.Parts.{and-first, and-second, and-both, or-either, or-second}
 use Rattle.conflict.proofs.Marks.{unmarked}
 use Rattle.conflict.proofs.OneEvent.{line-none, line-does, line-ends, marked-none, marked-does, marked-ends, good-none, good-does, good-ends}
 use Rattle.conflict.proofs.Appended.{line-append, marked-append, ends-append}
@@ -43,7 +43,7 @@ wakes-end (a ∷ xs) = good-does a (wakeRecords xs) ∙ wakes-end xs
 
 module _ {d : Desk} (v : Inv d) {r : Request} where
   -- who has an event in a step was open before it
-  line-open : {o : Outcome} {g : History} → Wrote d r o g → (j : ℕ) → lineOf j g ≡ true → isOpen (d .stat j) ≡ true
+  pub line-open : {o : Outcome} {g : History} → Wrote d r o g → (j : ℕ) → lineOf j g ≡ true → isOpen (d .stat j) ≡ true
   unfolding asking
   line-open (nothing w) j h = not-both h (line-none j)
   line-open (action a k w c) j h =

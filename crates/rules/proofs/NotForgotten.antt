@@ -8,7 +8,7 @@ use mathlib.Core.List.{List, [], _∷_, _++_}
 use Rattle.laws.specs.Choice.{not-both}
 use Rattle.conflict.specs.History.{History}
 use Rattle.conflict.specs.Runs.{isEnd, ended}
-use Rattle.conflict.proofs.OneEvent.{marked-none}
+use Rattle.conflict.proofs.OneEvent.{marked-none, ended-is}
 use Rattle.conflict.proofs.Appended.{ended-append}
 use Rattle.rules.specs.Desk.{Waiter, Desk, Request}
 use Rattle.rules.specs.Locks.{wants}
@@ -24,8 +24,7 @@ use Rattle.rules.proofs.WaiterStep.{step-on, step-undisturbed, step-not
 
 -- nobody's run ends in no requests
 pub ended-none : (i : ℕ) → ended i [] ≡ false
-unfolding ended
-ended-none i = marked-none isEnd i
+ended-none i = ended-is i [] ∙ marked-none isEnd i
 
 -- nor in two parts of a history if in neither
 pub ended-neither : (i : ℕ) (g h : History) → ended i g ≡ false → ended i h ≡ false → ended i (g ++ h) ≡ false

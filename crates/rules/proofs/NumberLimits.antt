@@ -10,7 +10,7 @@ use borrow.Author.Tests.{ltb-true, ltb-false, lt-ltb, le-ltb}
 use Rattle.laws.specs.Choice.{by-test, not-both}
 use Rattle.terms.specs.declared.letters.Lettered.{Lettered}
 use Rattle.terms.specs.Limits.{lastNumber}
-use Rattle.conflict.specs.Jobs.{member}
+use Rattle.laws.specs.Lists.{member}
 use Rattle.conflict.specs.History.{History}
 use Rattle.rules.specs.Desk.{Desk, Request, freshDesk, isOpen}
 use Rattle.rules.specs.Step.{Started, fresh, after as one-more}

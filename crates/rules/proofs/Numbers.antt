@@ -13,13 +13,13 @@ use Rattle.terms.specs.declared.letters.Lettered.the-variants.{Known}
 use Rattle.terms.specs.declared.refusals.Refusal.{Refusal}
 use Rattle.terms.specs.Letters.{letterOf}
 use Rattle.terms.specs.Limits.{lastNumber}
-use Rattle.conflict.specs.Jobs.{same, member, distinct}
-use Rattle.conflict.proofs.Parts.{or-either, and-both}
-use Rattle.conflict.proofs.JobLists.{member-first, member-more}
+use Rattle.laws.specs.Lists.{same, member, distinct}
+use Rattle.laws.proofs.Parts.{or-either, and-both}
+use Rattle.laws.proofs.Lists.{member-first, member-more}
 use Rattle.rules.specs.declared.Answer.{Answer}
 use Rattle.rules.specs.declared.Answer.the-variants.{Go, No}
 use Rattle.rules.specs.Desk.{Desk, Request}
-use Rattle.rules.specs.Rules.{Outcome, refused, withRow, withStatus, rule4, close, sendBack, grant, queued, rule1, retry, begin}
+use Rattle.rules.specs.Rules.{Outcome, refused, withRow, withStatus, rule4, begin}
 use Rattle.rules.specs.Step.{step}
 use Rattle.rules.specs.Table.{isBegin, letterIs}
 use Rattle.rules.specs.Runs.{deskAfter, numberIn, givenBy, given, Rising}
@@ -53,17 +53,17 @@ pub step-gives : (d : Desk) (r : Request) → Gives d (givenBy r (step d r .said
 step-gives d r = by-move (step-moved d r)
   where
     by-move : {o : Outcome} → Moved d r o → Gives d (givenBy r (o .said)) (o .desk)
-    by-move (refuses why) = unfold refused in none-given (refusal-none r why) refl
-    by-move (begins l m k) = unfold givenBy numberIn begin in one-given (rw l) m refl
-    by-move (commits l s) = none-given (other-letter r l refl _) (unfold close rule4 in refl)
-    by-move (gives-up l s) = none-given (other-letter r l refl _) (unfold close rule4 in refl)
-    by-move (retries l s) = none-given (other-letter r l refl _) (unfold retry withStatus in refl)
-    by-move (has-it b k x) = none-given (other-letter r (k .letter) refl _) (unfold rule1 in refl)
-    by-move (promotes b k x f z) = none-given (other-letter r (k .letter) refl _) (unfold grant withRow in refl)
-    by-move (waits-in-front b k x f z w) = none-given (other-letter r (k .letter) refl _) (unfold queued withStatus withRow in refl)
-    by-move (enters b k f z w) = none-given (other-letter r (k .letter) refl _) (unfold grant withRow in refl)
-    by-move (waits-last b k f z w u) = none-given (other-letter r (k .letter) refl _) (unfold queued withStatus withRow in refl)
-    by-move (goes-back b k x) = none-given (other-letter r (k .letter) refl _) (unfold sendBack rule4 in refl)
+    by-move (refuses why _) = unfold refused in none-given (refusal-none r why) refl
+    by-move (begins l m k) = unfold givenBy numberIn in one-given (rw l) m refl
+    by-move (commits l s) = none-given (other-letter r l refl _) (unfold rule4 in refl)
+    by-move (gives-up l s) = none-given (other-letter r l refl _) (unfold rule4 in refl)
+    by-move (retries l s) = none-given (other-letter r l refl _) (unfold withStatus in refl)
+    by-move (has-it b k x) = none-given (other-letter r (k .letter) refl _) refl
+    by-move (promotes b k x f z) = none-given (other-letter r (k .letter) refl _) (unfold withRow in refl)
+    by-move (waits-in-front b k x f z w) = none-given (other-letter r (k .letter) refl _) (unfold withStatus withRow in refl)
+    by-move (enters b k f z w) = none-given (other-letter r (k .letter) refl _) (unfold withRow in refl)
+    by-move (waits-last b k f z w u) = none-given (other-letter r (k .letter) refl _) (unfold withStatus withRow in refl)
+    by-move (goes-back b k x) = none-given (other-letter r (k .letter) refl _) (unfold rule4 in refl)
 
 -- the next number never falls
 pub next-rises : (d : Desk) (r : Request) → d .next ≤ step d r .desk .next

@@ -1,6 +1,6 @@
 -- A job older than every other live job is never sent back, and no job begun later is older (demand 3, third sentence). So a job that retries under its own number is at last the oldest, and from then on never sent back.
 -- Assumes nothing.
-use Prim.Native.Nat.{ℕ, suc, _<_, _≤_}
+use Prim.Native.Nat.{ℕ, _<_}
 use mathlib.Core.Path.{_≡_, refl}
 use mathlib.Core.Logic.{_≢_}
 use mathlib.Core.Bool.{true, false}
@@ -12,21 +12,17 @@ use Rattle.laws.specs.Choice.{by-test, not-both}
 use Rattle.terms.specs.declared.letters.Letter.the-variants.{Begin}
 use Rattle.terms.specs.declared.letters.Lettered.the-variants.{Known}
 use Rattle.terms.specs.Letters.{letterOf}
-use Rattle.terms.specs.Limits.{lastNumber}
-use Rattle.conflict.specs.Jobs.{member}
 use Rattle.conflict.specs.History.{History}
 use Rattle.rules.specs.declared.Answer.the-variants.{Go, Back}
 use Rattle.rules.specs.Desk.{Status, closed, running, waiting, sentback, Desk, Request, isOpen, isLive}
-use Rattle.rules.specs.Rules.{refused, begin}
-use Rattle.rules.specs.Step.{stepBegin, stepBy, step, Started}
+use Rattle.rules.specs.Step.{step, Started}
 use Rattle.rules.specs.Runs.{deskAfter, historyOf}
 use Rattle.rules.specs.Waiting.{OldestLive, OldestOpen}
 use Rattle.rules.proofs.Moved.{step-moved}
-use Rattle.rules.proofs.Answers.{other-answer}
 use Rattle.rules.proofs.Invariant.{Inv}
 use Rattle.rules.proofs.Kept.{step-inv, started-inv}
 use Rattle.rules.proofs.Statuses.{live-open, closed-not-open}
-use Rattle.rules.proofs.SentBack.{moved-back, moved-told}
+use Rattle.rules.proofs.SentBack.{back-older, moved-told}
 use Rattle.rules.proofs.ClosedForGood.{closed-stays}
 use Rattle.rules.proofs.Numbers.{begin-gives, next-rises, next-rises-on}
 use Rattle.rules.proofs.StartedRuns.{run-started}
@@ -34,7 +30,7 @@ use Rattle.rules.proofs.StartedRuns.{run-started}
 module _ {d : Desk} {h : History} (s : Started d h) (r : Request) (j : ℕ) where
   -- a job is sent back only while an older job is live
   pub back-only-while-older : step d r .said ≡ Back j → (i : ℕ) × (i < j) × (isLive (d .stat i) ≡ true)
-  back-only-while-older = moved-back (started-inv s) (step-moved d r) j
+  back-only-while-older = back-older (started-inv s) r j
 
   -- a job older than every other live job is never answered back (demand 3)
   pub never-answered-back : OldestLive d j → step d r .said ≢ Back j

@@ -12,9 +12,9 @@ use borrow.Author.Tests.{eqb-true, eq-eqb, ne-eqb}
 use Rattle.laws.specs.Choice.{by-test, not-both}
 use Rattle.terms.specs.declared.letters.Lettered.{Lettered}
 use Rattle.terms.specs.Limits.{places}
-use Rattle.conflict.specs.Jobs.{same, member, distinct}
-use Rattle.conflict.proofs.Parts.{and-both, or-either, or-first, or-second}
-use Rattle.conflict.proofs.JobLists.{member-first, member-more}
+use Rattle.laws.specs.Lists.{same, member, distinct}
+use Rattle.laws.proofs.Parts.{and-both, or-either, or-first, or-second}
+use Rattle.laws.proofs.Lists.{member-first, member-more}
 use Rattle.conflict.specs.History.{History}
 use Rattle.rules.specs.Desk.{Status, isOpen, Desk}
 use Rattle.rules.specs.Step.{Started}

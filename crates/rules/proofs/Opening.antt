@@ -8,7 +8,7 @@ use Rattle.laws.specs.Choice.{not-both}
 use Rattle.terms.specs.declared.letters.Letter.the-variants.{Begin, Retry}
 use Rattle.terms.specs.declared.letters.Lettered.the-variants.{Known}
 use Rattle.terms.specs.Letters.{letterOf}
-use Rattle.conflict.specs.Jobs.{member}
+use Rattle.laws.specs.Lists.{member}
 use Rattle.conflict.specs.History.{History}
 use Rattle.rules.specs.declared.Answer.the-variants.{Go}
 use Rattle.rules.specs.Desk.{Status, closed, running, waiting, sentback, Desk, Request, isOpen, isLive}

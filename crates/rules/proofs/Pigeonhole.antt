@@ -8,8 +8,8 @@ use lib.ListN.{length}
 use native.Mathlib.Omega.{arith}
 use borrow.Author.Tests.{eqb-true}
 use Rattle.laws.specs.Choice.{pick, by-test, not-both}
-use Rattle.conflict.specs.Jobs.{same, member, distinct}
-use Rattle.conflict.proofs.JobLists.{member-first, member-later, member-more, member-other, once-first, once-rest}
+use Rattle.laws.specs.Lists.{same, member, distinct}
+use Rattle.laws.proofs.Lists.{member-first, member-later, member-more, member-other, once-first, once-rest}
 
 -- the list without the first place of a job
 struck : ℕ → List ℕ → List ℕ

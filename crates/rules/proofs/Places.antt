@@ -8,9 +8,9 @@ use mathlib.Core.List.{List, [], _∷_}
 use lib.ListN.{length, length-map, replicate}
 use borrow.Author.Tests.{eqb-true, eqb-false, ne-eqb}
 use Rattle.laws.specs.Choice.{pick, by-test, not-both}
-use Rattle.conflict.specs.Jobs.{same, member}
-use Rattle.conflict.proofs.JobLists.{member-first, member-later, member-more}
-use Rattle.conflict.proofs.Parts.{nor-first, nor-second}
+use Rattle.laws.specs.Lists.{same, member}
+use Rattle.laws.proofs.Lists.{member-first, member-later, member-more}
+use Rattle.laws.proofs.Parts.{nor-first, nor-second}
 use Rattle.rules.specs.Desk.{seated, vacated}
 use Rattle.rules.proofs.Invariant.{Once}
 

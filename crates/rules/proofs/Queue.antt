@@ -8,7 +8,7 @@ use mathlib.Core.List.{List, [], _∷_, _++_}
 use native.Mathlib.Omega.{arith}
 use borrow.Author.Tests.{eqb-true, eqb-false, ne-eqb}
 use Rattle.laws.specs.Choice.{by-test}
-use Rattle.conflict.specs.Jobs.{same}
+use Rattle.laws.specs.Lists.{same}
 use Rattle.rules.specs.Desk.{Waiter}
 use Rattle.rules.specs.Locks.{without}
 use Rattle.rules.proofs.Invariant.{In, first, later, Falling}

@@ -3,8 +3,7 @@
 use Prim.Native.Nat.{ℕ}
 use mathlib.Core.Path.{_≡_, refl, sym, ap}
 use mathlib.Core.Logic.{_≢_}
-use mathlib.Core.Bool.{Bool, true, false}
-use mathlib.Core.List.{List, [], _∷_, _++_}
+use mathlib.Core.List.{List}
 use Rattle.terms.specs.declared.letters.Ask.{Ask}
 use Rattle.conflict.specs.Modes.{isFree}
 use Rattle.rules.specs.declared.Answer.the-variants.{Wait}
@@ -13,12 +12,7 @@ use Rattle.rules.specs.Rules.{withRow, withStatus, queued}
 use Rattle.rules.specs.Step.{step}
 use Rattle.rules.proofs.Moved.{Asking}
 use Rattle.rules.proofs.Tests.{at-same, at-other, at-each}
-use Rattle.rules.proofs.Courses.{Placed, in-front, last, ask-waited}
-
--- the queue q is the queue p with waiter w put in front, for a job that holds the cell, or at the end, for a job that does not
-pub data Joined (holdsNothing : Bool) (w : Waiter) (p : List Waiter) : List Waiter → Type 0 where
-  promotion : holdsNothing ≡ false → Joined holdsNothing w p (w ∷ p)
-  newcomer : holdsNothing ≡ true → Joined holdsNothing w p (p ++ w ∷ [])
+use Rattle.rules.proofs.Courses.{Joined, Joins, Waited, ask-waited}
 
 -- from desk d to desk e request r made its job j wait with ask a: its status says so, it stands in the queue as the rules say, everybody holds what they held, and all else is as before
 pub record Waits (d e : Desk) (r : Request) (a : Ask) (j : ℕ) : Type 0 where
@@ -33,7 +27,7 @@ pub record Waits (d e : Desk) (r : Request) (a : Ask) (j : ℕ) : Type 0 where
   pub next : e .next ≡ d .next
 
 -- waiting in a queue that joins the job as the rules say
-queued-waits : (d : Desk) (r : Request) (a : Ask) (q : List Waiter) → Asking d r a → Joined (isFree (d .row (r .cell) .held (r .job))) (record { job = r .job; ask = a }) (d .row (r .cell) .queue) q → Waits d (queued d (r .job) (r .cell) a q .desk) r a (r .job)
+queued-waits : (d : Desk) (r : Request) (a : Ask) (q : List Waiter) → Asking d r a → Joins d r a q → Waits d (queued d (r .job) (r .cell) a q .desk) r a (r .job)
 unfolding queued withStatus withRow
 queued-waits d r a q k h =
     let row : Row = record { held = d .row (r .cell) .held; queue = q } in
@@ -51,11 +45,7 @@ queued-waits d r a q k h =
 
 -- a step that answers wait makes the job wait
 pub waits : (d : Desk) (r : Request) (j : ℕ) → step d r .said ≡ Wait j → (a : Ask) × Waits d (step d r .desk) r a j
-waits d r j g = let w = ask-waited d r j g in told (w .ask) (w .job) (w .asking) (w .placed)
+waits d r j g = told (ask-waited d r j g)
   where
-    by-place : (a : Ask) → Asking d r a → Placed d r a → Waits d (step d r .desk) r a (r .job)
-    by-place a k (in-front f o) = rw o (queued-waits d r a _ k (promotion f))
-    by-place a k (last f o) = rw o (queued-waits d r a _ k (newcomer f))
-
-    told : (a : Ask) → j ≡ r .job → Asking d r a → Placed d r a → (a : Ask) × Waits d (step d r .desk) r a j
-    told a q k p = (a, rw q (by-place a k p))
+    told : Waited d r j → (a : Ask) × Waits d (step d r .desk) r a j
+    told w = (w .ask, rw (w .job, w .outcome) (queued-waits d r (w .ask) (w .queue) (w .asking) (w .joins)))

@@ -21,7 +21,7 @@ use Rattle.rules.specs.Desk.{Desk, Request}
 use Rattle.rules.specs.Rules.{grant, queued, rule1, retry, begin}
 use Rattle.rules.specs.Step.{step, wentBy, ownRecords, wakeRecords, recordsOf, events}
 use Rattle.rules.specs.Runs.{onlyActions}
-use Rattle.rules.proofs.Courses.{AskWent, had, got, Placed, in-front, last, begin-went, retry-went, ask-went, ask-waited}
+use Rattle.rules.proofs.Courses.{AskWent, had, got, begin-went, retry-went, ask-went, ask-waited}
 
 -- the records of a step are its own and then those of its wakes
 records : (r : Request) (said : Answer) (wakes : List Action) (h : History) → ownRecords r said ≡ h → recordsOf r said wakes ≡ h ++ wakeRecords wakes
@@ -71,13 +71,9 @@ module _ (d : Desk) (r : Request) where
 
   -- a wait writes nothing
   pub wait-records : (j : ℕ) → step d r .said ≡ Wait j → events d r ≡ []
-  unfolding events wakeRecords
+  unfolding events wakeRecords queued
   wait-records j g =
-      records r (step d r .said) (step d r .wakes) [] (unfold ownRecords in ap (ownRecords r) g) ∙ ap wakeRecords (none-woken (ask-waited d r j g .placed))
-    where
-      none-woken : {a : Ask} → Placed d r a → step d r .wakes ≡ []
-      none-woken (in-front f o) = unfold queued in ap (λ x. x .wakes) o
-      none-woken (last f o) = unfold queued in ap (λ x. x .wakes) o
+      records r (step d r .said) (step d r .wakes) [] (unfold ownRecords in ap (ownRecords r) g) ∙ ap (λ o. wakeRecords (o .wakes)) (ask-waited d r j g .outcome)
 
 -- a history without a mark, or with one mark and that first
 pub data MarkFirst : History → Type 0 where

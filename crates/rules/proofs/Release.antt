@@ -10,7 +10,7 @@ use Rattle.laws.specs.Choice.{not-both}
 use Rattle.conflict.specs.declared.modes.Mode.{Mode}
 use Rattle.conflict.specs.declared.modes.Mode.the-variants.{Free}
 use Rattle.conflict.specs.Modes.{needed, covers, beside, isFree}
-use Rattle.conflict.specs.Jobs.{member}
+use Rattle.laws.specs.Lists.{member}
 use Rattle.conflict.proofs.ModeLaws.{free-beside, beside-free, is-free}
 use Rattle.conflict.proofs.MoreModeLaws.{free-is-free}
 use Rattle.rules.specs.Desk.{Waiter, Row, at}

@@ -1,7 +1,7 @@
 -- Who is sent back: only the job of a request that is answered so, and only while an older job is live.
 -- Assumes nothing.
 use Prim.Native.Nat.{ℕ, _<_}
-use mathlib.Core.Path.{_≡_, refl, sym, ap, subst}
+use mathlib.Core.Path.{_≡_, refl, sym, ap}
 use mathlib.Core.Logic.{_≢_}
 use mathlib.Core.Bool.{true}
 use mathlib.Core.List.{List}
@@ -10,9 +10,10 @@ use Rattle.laws.specs.Choice.{not-both}
 use Rattle.rules.specs.declared.Answer.{Answer}
 use Rattle.rules.specs.declared.Answer.the-variants.{Go, Back}
 use Rattle.rules.specs.Desk.{Status, closed, running, waiting, sentback, Desk, Request, isLive, at, vacated}
-use Rattle.rules.specs.Rules.{Outcome, refused, withRow, withStatus, rule4, close, sendBack, grant, queued, rule1, retry, begin}
+use Rattle.rules.specs.Rules.{Outcome, refused, withRow, withStatus, rule4}
+use Rattle.rules.specs.Step.{step}
 use Rattle.rules.proofs.Moved.{Elder, holder, waiter, Moved, refuses, begins, commits, gives-up, retries, has-it, promotes, waits-in-front, enters, waits-last, goes-back}
-use Rattle.rules.proofs.Answers.{other-answer}
+use Rattle.rules.proofs.Courses.{ask-back}
 use Rattle.rules.proofs.Invariant.{Inv}
 use Rattle.rules.proofs.Statuses.{waiting-live, running-live, running-not-waiting}
 use Rattle.rules.proofs.Tests.{at-each, not-older-holders, not-older-waiters}
@@ -27,25 +28,9 @@ elder-live {d} v j c runs (waiter f h) =
     let n : w .job ≢ j = no-place (v .rows c) j (λ a. running-not-waiting runs) w k in
     (w .job, omega arith, waiting-live (v .rows c .stands w k))
 
--- two sendings back are of one job
-same-back : {i j : ℕ} → Back i ≡ Back j → i ≡ j
-same-back e = cc
-
--- where a move answers back, an older job is live
-pub moved-back : {d : Desk} {r : Request} {o : Outcome} → Inv d → Moved d r o → (j : ℕ) → o .said ≡ Back j → (i : ℕ) × (i < j) × (isLive (d .stat i) ≡ true)
-unfolding refused begin close sendBack rule4 retry rule1 grant queued
-moved-back v (refuses why) j e = other-answer e refl
-moved-back v (begins l n m) j e = other-answer e refl
-moved-back v (commits l s) j e = other-answer e refl
-moved-back v (gives-up l s) j e = other-answer e refl
-moved-back v (retries l s) j e = other-answer e refl
-moved-back v (has-it a k c) j e = other-answer e refl
-moved-back v (promotes a k c f z) j e = other-answer e refl
-moved-back v (waits-in-front a k c f z w) j e = other-answer e refl
-moved-back v (enters a k f z w) j e = other-answer e refl
-moved-back v (waits-last a k f z w x) j e = other-answer e refl
-moved-back {d} {r} v (goes-back a k x) j e =
-    subst (λ j. (i : ℕ) × (i < j) × (isLive (d .stat i) ≡ true)) (same-back e) (elder-live v (r .job) (r .cell) (k .runs) x)
+-- where a step answers back, an older job is live
+pub back-older : {d : Desk} → Inv d → (r : Request) (j : ℕ) → step d r .said ≡ Back j → (i : ℕ) × (i < j) × (isLive (d .stat i) ≡ true)
+back-older {d} v r j e = let c = ask-back d r j e in rw (c .job) (elder-live v (r .job) (r .cell) (c .was .1 .runs) (c .was .2))
 
 -- a live job was not sent back
 live-not-back : {s : Status} → isLive s ≡ true → s ≢ sentback
@@ -69,8 +54,8 @@ module _ {d : Desk} (v : Inv d) (j : ℕ) (live : isLive (d .stat j) ≡ true) w
 
   -- a live job that is sent back by a move is told so
   pub moved-told : {r : Request} {o : Outcome} → Moved d r o → o .desk .stat j ≡ sentback → o .said ≡ Back j
-  unfolding refused begin close sendBack rule4 retry rule1 grant queued withRow withStatus
-  moved-told (refuses why) e = absurd (live-not-back live e)
+  unfolding refused rule4 withRow withStatus
+  moved-told (refuses why _) e = absurd (live-not-back live e)
   moved-told (begins l n m) e = not-back-at (d .next) running (live-not-back (running-live refl)) e
   moved-told {r} (commits l s) e = not-back-ended (r .job) closed (vacated (r .job) (d .jobs)) (Go (r .job)) closed-not-back e
   moved-told {r} (gives-up l s) e = not-back-ended (r .job) closed (vacated (r .job) (d .jobs)) (Go (r .job)) closed-not-back e

@@ -5,7 +5,7 @@ use mathlib.Core.Path.{_≡_}
 use mathlib.Core.Bool.{true}
 use mathlib.Core.List.{List}
 use Rattle.terms.specs.Limits.{lastNumber}
-use Rattle.conflict.specs.Jobs.{distinct}
+use Rattle.laws.specs.Lists.{distinct}
 use Rattle.conflict.specs.Schedule.{Equivalent, serial, ConflictSerializable, edge, knot}
 use Rattle.conflict.specs.History.{History, committedPart, commitOrder}
 use Rattle.conflict.proofs.Committed.{commit-order-once}

@@ -9,7 +9,7 @@ use native.Mathlib.Omega.{arith}
 use Rattle.laws.specs.Choice.{by-test}
 use Rattle.conflict.specs.declared.modes.Mode.{Mode}
 use Rattle.conflict.specs.Modes.{needed, covers, beside, grants, asked, isFree}
-use Rattle.conflict.specs.Jobs.{member}
+use Rattle.laws.specs.Lists.{member}
 use Rattle.conflict.proofs.ModeLaws.{beside-sym, grants-beside, covers-refl, covers-trans, asked-grows, asked-covers}
 use Rattle.rules.specs.Desk.{Waiter, at}
 use Rattle.rules.specs.Locks.{agrees, wants, woke, Settled, settle}
@@ -100,9 +100,9 @@ module _ (js : List ℕ) (held : ℕ → Mode) (w : Waiter) (q : List Waiter) (r
     blocked = t .blocked;
   }
 
--- the search stops at a waiter that does not agree: nothing changes, and some other job is in its way
-stopped-settles : (js : List ℕ) (held : ℕ → Mode) (w : Waiter) (q : List Waiter) → Ready js held (w ∷ q) → agrees js held (w .job) (wants held w) ≡ false → Settles js held (w ∷ q) (record { row = record { held = held; queue = w ∷ q }; woken = [] })
-stopped-settles js held w q r a = record {
+-- where whoever is first is blocked, the search stops and nothing changes
+stopped-settles : (js : List ℕ) (held : ℕ → Mode) (q : List Waiter) → Ready js held q → FirstBlocked held q → Settles js held q (record { row = record { held = held; queue = q }; woken = [] })
+stopped-settles js held q r b = record {
   parted = refl;
   kept = λ i n. refl;
   takes = λ v h. in-none h;
@@ -111,27 +111,17 @@ stopped-settles js held w q r a = record {
   pairs = r .pairs;
   elder = r .elder;
   down = r .down;
-  blocked = agrees-not js held (w .job) (wants held w) a;
+  blocked = b;
 }
 
--- settling a row that can be settled
+-- settling a row that can be settled: at a waiter that does not agree the search stops, since some other job is in its way
 pub settle-settles : (js : List ℕ) (held : ℕ → Mode) (q : List Waiter) → Ready js held q → Settles js held q (settle js held q)
 unfolding settle
-settle-settles js held [] r = record {
-  parted = refl;
-  kept = λ i n. refl;
-  takes = λ v h. in-none h;
-  grown = λ i. covers-refl (held i);
-  seats = r .seats;
-  pairs = r .pairs;
-  elder = r .elder;
-  down = r .down;
-  blocked = tt;
-}
+settle-settles js held [] r = stopped-settles js held [] r tt
 settle-settles js held (w ∷ q) r =
     by-test (agrees js held (w .job) (wants held w))
     (λ t. rw t (granted-settles js held w q r (settle js (at held (w .job) (wants held w)) q) (settle-settles js (at held (w .job) (wants held w)) q (granted-ready js held w q r t))))
-    (λ f. rw f (stopped-settles js held w q r f))
+    (λ f. rw f (stopped-settles js held (w ∷ q) r (agrees-not js held (w .job) (wants held w) f)))
 
 -- where the first waiter is blocked, settling changes nothing
 pub settle-stays : (js : List ℕ) (held : ℕ → Mode) (q : List Waiter) → Seated js held → FirstBlocked held q → settle js held q ≡ record { row = record { held = held; queue = q }; woken = [] }

@@ -11,10 +11,10 @@ use borrow.Author.Tests.{eqb-true, eqb-false, eq-eqb, ne-eqb, ltb-true, ltb-fals
 use Rattle.laws.specs.Choice.{by-test, not-both}
 use Rattle.conflict.specs.declared.modes.Mode.{Mode}
 use Rattle.conflict.specs.Modes.{grants, isFree}
-use Rattle.conflict.specs.Jobs.{same, member}
-use Rattle.conflict.proofs.JobLists.{member-first, member-more}
+use Rattle.laws.specs.Lists.{same, member}
+use Rattle.laws.proofs.Lists.{member-first, member-more}
 use Rattle.conflict.proofs.ModeLaws.{is-free, grants-free}
-use Rattle.conflict.proofs.Parts.{and-first, and-second, or-either, nor-first, nor-second}
+use Rattle.laws.proofs.Parts.{and-first, and-second, or-either, nor-first, nor-second}
 use Rattle.rules.specs.Desk.{Waiter, at}
 use Rattle.rules.specs.Locks.{every, everyWaiter, isEmpty, agrees, alone, olderThanHolders, olderThanWaiters}
 use Rattle.rules.proofs.Invariant.{In, first, later}

@@ -28,11 +28,11 @@ use Rattle.rules.proofs.Machine.{started-machine}
 use Rattle.rules.proofs.WakeRecords.{has-none, has-split, WakeOf, record-of}
 
 -- an action is one other action only if they are the same
-same-action : {x y : Action} → Does x ≡ Does y → x ≡ y
+pub same-action : {x y : Action} → Does x ≡ Does y → x ≡ y
 same-action e = cc
 
 -- an action is no mark
-no-mark : {P : Type 0} {x : Action} {m : Mark} {j : ℕ} → Does x ≡ Ends m j → P
+pub no-mark : {P : Type 0} {x : Action} {m : Mark} {j : ℕ} → Does x ≡ Ends m j → P
 no-mark e = let z : _≡_ {A = ℕ} 0 1 = cc in absurd (omega arith)
 
 -- what an action of a step was asked by, and the lock that it is under after the step

@@ -11,7 +11,7 @@ use Rattle.conflict.specs.Modes.{isFree}
 use Rattle.rules.specs.declared.Answer.{Answer}
 use Rattle.rules.specs.declared.Answer.the-variants.{Go, Back}
 use Rattle.rules.specs.Desk.{Status, closed, running, waiting, sentback, Waiter, Row, Desk, Request, at, vacated}
-use Rattle.rules.specs.Rules.{Outcome, refused, withRow, withStatus, rule4, close, sendBack, grant, queued, rule1, retry, begin}
+use Rattle.rules.specs.Rules.{Outcome, refused, withRow, withStatus, rule4}
 use Rattle.rules.specs.Waiting.{In, InWay, holds-it, ahead, IsWaiting, GivesUp}
 use Rattle.rules.proofs.Moved.{Moved, refuses, begins, commits, gives-up, retries, has-it, promotes, waits-in-front, enters, waits-last, goes-back}
 use Rattle.rules.proofs.Invariant.{Inv}
@@ -83,8 +83,8 @@ module _ {d : Desk} (v : Inv d) (r : Request) (c : ℕ) (w : Waiter) (k : IsWait
 
   -- every move is one of these to it
   pub moved-sees : {o : Outcome} → Moved d r o → Sees d r c w o
-  unfolding refused begin close sendBack retry rule1 grant queued withRow withStatus
-  moved-sees (refuses why) = calm k (same-row w (d .row c))
+  unfolding refused withRow withStatus
+  moved-sees (refuses why _) = calm k (same-row w (d .row c))
   moved-sees (begins l n m) = calm (waits-still (d .next) running next-other) (same-row w (d .row c))
   moved-sees (commits l s) = run-ends closed (vacated (r .job) (d .jobs)) (Go (r .job)) (λ p. absurd (runs-other (r .job) s p))
   moved-sees (gives-up l s) = run-ends closed (vacated (r .job) (d .jobs)) (Go (r .job)) (λ p. (l, sym p))

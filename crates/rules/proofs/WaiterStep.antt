@@ -11,11 +11,11 @@ use Rattle.laws.specs.Choice.{by-test, not-both}
 use Rattle.terms.specs.declared.letters.Ask.{Ask}
 use Rattle.terms.specs.Limits.{cells}
 use Rattle.conflict.specs.Modes.{isFree}
-use Rattle.conflict.specs.Jobs.{same}
+use Rattle.laws.specs.Lists.{same}
 use Rattle.conflict.specs.History.{History}
 use Rattle.conflict.specs.Runs.{isEnd, ended}
 use Rattle.conflict.proofs.MoreModeLaws.{free-is-free}
-use Rattle.conflict.proofs.OneEvent.{marked-none, marked-does, marked-ends}
+use Rattle.conflict.proofs.OneEvent.{marked-none, marked-does, marked-ends, ended-is}
 use Rattle.rules.specs.declared.Answer.{Answer}
 use Rattle.rules.specs.Desk.{Status, waiting, Waiter, Desk, Request}
 use Rattle.rules.specs.Locks.{Settled, wants}
@@ -118,11 +118,12 @@ module _ {d : Desk} (v : Inv d) (r : Request) (c : ℕ) (w : Waiter) (k : IsWait
 
   -- and whoever is in its way has not ended a run in that step
   wrote-not-ended : {o : Outcome} {h : History} → Wrote d r o h → (i : ℕ) → InWay (o .desk .row c) w i → ended i h ≡ false
-  unfolding ended rule4
-  wrote-not-ended (nothing g) i way = marked-none isEnd i
-  wrote-not-ended (action a g m l) i way = marked-does isEnd i (asking r a) [] ∙ marked-none isEnd i
+  unfolding rule4
+  wrote-not-ended (nothing g) i way = ended-is i [] ∙ marked-none isEnd i
+  wrote-not-ended (action a g m l) i way = ended-is i _ ∙ marked-does isEnd i (asking r a) [] ∙ marked-none isEnd i
   wrote-not-ended (mark m s js said o l) i way =
-      marked-ends isEnd i m (r .job) (wakeRecords (wakesAfter d (r .job)))
+      ended-is i _
+      ∙ marked-ends isEnd i m (r .job) (wakeRecords (wakesAfter d (r .job)))
       ∙ rw (ne-eqb (r .job) i (λ e. ended-away v (r .job) c w k (subst (InWay (rowsAfter d (r .job) c .row) w) (sym e) way))) (wakes-unmarked isEnd i (wakesAfter d (r .job)))
 
   pub step-not-ended : (i : ℕ) → InWay (step d r .desk .row c) w i → ended i (events d r) ≡ false

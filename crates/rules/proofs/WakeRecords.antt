@@ -7,7 +7,7 @@ use mathlib.Core.List.{List, [], _∷_, _++_}
 use Rattle.conflict.specs.declared.action.Action.{Action}
 use Rattle.conflict.specs.declared.action.Event.{Event}
 use Rattle.conflict.specs.declared.action.Event.the-variants.{Does}
-use Rattle.conflict.specs.Jobs.{same}
+use Rattle.laws.specs.Lists.{same}
 use Rattle.conflict.specs.History.{History, lineOf}
 use Rattle.conflict.proofs.OneEvent.{line-none, line-does}
 use Rattle.rules.specs.Desk.{Waiter}
@@ -27,7 +27,7 @@ has-split now f g = f refl
 has-split (then k) f g = g k
 
 -- an event of two histories put together stands in one of them
-has-either : {P : Type 0} {e : Event} (h g : History) → Has e (h ++ g) → (Has e h → P) → (Has e g → P) → P
+pub has-either : {P : Type 0} {e : Event} (h g : History) → Has e (h ++ g) → (Has e h → P) → (Has e g → P) → P
 has-either [] g k f l = l k
 has-either {e = e} (x ∷ h) g k f l =
     has-split k (λ p. f (subst (λ y. Has e (y ∷ h)) p now)) (λ m. has-either h g m (λ n. f (then n)) l)

@@ -8,9 +8,9 @@ use native.Mathlib.Omega.{arith}
 use borrow.Author.Tests.{eqb-true, eqb-false}
 use Rattle.laws.specs.Choice.{by-test, not-both}
 use Rattle.conflict.specs.declared.action.Action.{Action}
-use Rattle.conflict.specs.Jobs.{same}
-use Rattle.conflict.proofs.JobLists.{same-refl}
-use Rattle.conflict.proofs.Parts.{or-either, or-first, or-second}
+use Rattle.laws.specs.Lists.{same}
+use Rattle.laws.proofs.Lists.{same-refl}
+use Rattle.laws.proofs.Parts.{or-either, or-first, or-second}
 use Rattle.rules.specs.Desk.{Status, running, Waiter}
 use Rattle.rules.specs.Locks.{Settled}
 use Rattle.rules.specs.Rules.{wake, wakesAt, wakesOf, isWoken, wakened}

@@ -19,7 +19,7 @@ use Rattle.rules.specs.declared.Answer.{Answer}
 use Rattle.rules.specs.declared.Answer.the-variants.{Go, Back}
 use Rattle.rules.specs.Desk.{Status, closed, running, sentback, waiting, vacated, Waiter, Desk, Request}
 use Rattle.rules.specs.Locks.{Settled}
-use Rattle.rules.specs.Rules.{Outcome, refused, wake, wakesAt, wakesOf, isWoken, rowsAfter, rule4, close, sendBack, grant, queued, rule1, retry, begin}
+use Rattle.rules.specs.Rules.{Outcome, refused, wake, wakesAt, wakesOf, isWoken, rowsAfter, rule4}
 use Rattle.rules.specs.Step.{step, Started}
 use Rattle.rules.proofs.Kept.{started-inv}
 use Rattle.rules.proofs.Invariant.{In, first, later, Inv}
@@ -54,17 +54,17 @@ pub wakes-only-rule-4 : (d : Desk) (r : Request) → (step d r .wakes ≡ []) �
 wakes-only-rule-4 d r = by-move (step-moved d r) refl
   where
     by-move : {o : Outcome} → Moved d r o → step d r ≡ o → (step d r .wakes ≡ []) ⊎ RunEnds d r
-    by-move (refuses why) h = inl (unfold refused in ap (λ o. o .wakes) h)
-    by-move (begins l n m) h = inl (unfold begin in ap (λ o. o .wakes) h)
-    by-move (commits l s) h = inr (by-commit l (unfold close rule4 in ap (λ o. o .said) h))
-    by-move (gives-up l s) h = inr (by-give-up l (unfold close rule4 in ap (λ o. o .said) h))
-    by-move (retries l s) h = inl (unfold retry in ap (λ o. o .wakes) h)
-    by-move (has-it b k x) h = inl (unfold rule1 in ap (λ o. o .wakes) h)
-    by-move (promotes b k x f z) h = inl (unfold grant in ap (λ o. o .wakes) h)
-    by-move (waits-in-front b k x f z w) h = inl (unfold queued in ap (λ o. o .wakes) h)
-    by-move (enters b k f z w) h = inl (unfold grant in ap (λ o. o .wakes) h)
-    by-move (waits-last b k f z w u) h = inl (unfold queued in ap (λ o. o .wakes) h)
-    by-move (goes-back b k x) h = inr (by-back (unfold sendBack rule4 in ap (λ o. o .said) h))
+    by-move (refuses why _) h = inl (unfold refused in ap (λ o. o .wakes) h)
+    by-move (begins l n m) h = inl (ap (λ o. o .wakes) h)
+    by-move (commits l s) h = inr (by-commit l (unfold rule4 in ap (λ o. o .said) h))
+    by-move (gives-up l s) h = inr (by-give-up l (unfold rule4 in ap (λ o. o .said) h))
+    by-move (retries l s) h = inl (ap (λ o. o .wakes) h)
+    by-move (has-it b k x) h = inl (ap (λ o. o .wakes) h)
+    by-move (promotes b k x f z) h = inl (ap (λ o. o .wakes) h)
+    by-move (waits-in-front b k x f z w) h = inl (ap (λ o. o .wakes) h)
+    by-move (enters b k f z w) h = inl (ap (λ o. o .wakes) h)
+    by-move (waits-last b k f z w u) h = inl (ap (λ o. o .wakes) h)
+    by-move (goes-back b k x) h = inr (by-back (unfold rule4 in ap (λ o. o .said) h))
 
 -- a wake and the waiter it was: granted at a cell of the first n
 record Granted (s : ℕ → Settled) (n : ℕ) (a : Action) : Type 0 where
@@ -136,14 +136,14 @@ pub woken : {d : Desk} {h : History} → Started d h → (r : Request) (a : Acti
 woken {d} s r a = by-move (step-moved d r)
   where
     by-move : {o : Outcome} → Moved d r o → Among a (o .wakes) → Woken d (o .desk) a
-    by-move (refuses why) h = unfold refused in among-none h
-    by-move (begins l n m) h = unfold begin in among-none h
-    by-move (commits l q) h = unfold close in rule4-wakes (started-inv s) (r .job) closed (vacated (r .job) (d .jobs)) (Go (r .job)) a (unfold rule4 in h)
-    by-move (gives-up l q) h = unfold close in rule4-wakes (started-inv s) (r .job) closed (vacated (r .job) (d .jobs)) (Go (r .job)) a (unfold rule4 in h)
-    by-move (retries l q) h = unfold retry in among-none h
-    by-move (has-it b k x) h = unfold rule1 in among-none h
-    by-move (promotes b k x f z) h = unfold grant in among-none h
-    by-move (waits-in-front b k x f z w) h = unfold queued in among-none h
-    by-move (enters b k f z w) h = unfold grant in among-none h
-    by-move (waits-last b k f z w u) h = unfold queued in among-none h
-    by-move (goes-back b k x) h = unfold sendBack in rule4-wakes (started-inv s) (r .job) sentback (d .jobs) (Back (r .job)) a (unfold rule4 in h)
+    by-move (refuses why _) h = unfold refused in among-none h
+    by-move (begins l n m) h = among-none h
+    by-move (commits l q) h = rule4-wakes (started-inv s) (r .job) closed (vacated (r .job) (d .jobs)) (Go (r .job)) a (unfold rule4 in h)
+    by-move (gives-up l q) h = rule4-wakes (started-inv s) (r .job) closed (vacated (r .job) (d .jobs)) (Go (r .job)) a (unfold rule4 in h)
+    by-move (retries l q) h = among-none h
+    by-move (has-it b k x) h = among-none h
+    by-move (promotes b k x f z) h = among-none h
+    by-move (waits-in-front b k x f z w) h = among-none h
+    by-move (enters b k f z w) h = among-none h
+    by-move (waits-last b k f z w u) h = among-none h
+    by-move (goes-back b k x) h = rule4-wakes (started-inv s) (r .job) sentback (d .jobs) (Back (r .job)) a (unfold rule4 in h)

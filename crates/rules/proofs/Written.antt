@@ -22,7 +22,7 @@ use Rattle.conflict.proofs.ModeLaws.{covers-refl, asked-covers, asked-grows, as
 use Rattle.rules.specs.declared.Answer.{Answer}
 use Rattle.rules.specs.declared.Answer.the-variants.{Go, Back as sent-back}
 use Rattle.rules.specs.Desk.{Status, closed, sentback, isOpen, Desk, Request, Waiter, Row, at, vacated}
-use Rattle.rules.specs.Rules.{Outcome, refused, withRow, withStatus, wakesOf, rowsAfter, rule4, close, sendBack, grant, queued, rule1, retry, begin}
+use Rattle.rules.specs.Rules.{Outcome, refused, withRow, withStatus, wakesOf, rowsAfter, rule4, grant}
 use Rattle.rules.specs.Step.{step, wentBy, ownRecords, wakeRecords, recordsOf, events}
 use Rattle.rules.proofs.Moved.{Asking, Moved, step-moved}
 use Rattle.rules.proofs.Moved.Moved.{refuses, begins, commits, gives-up, retries, has-it, promotes, waits-in-front, enters, waits-last, goes-back}
@@ -88,8 +88,8 @@ module _ (d : Desk) (r : Request) (v : Inv d) where
 
   -- every move, by what it writes
   moved-wrote : {o : Outcome} → Moved d r o → Wrote d r o (recordsOf r (o .said) (o .wakes))
-  unfolding recordsOf ownRecords wentBy wakeRecords refused begin close sendBack rule4 retry rule1 grant queued withRow withStatus asking
-  moved-wrote (refuses why) = nothing (same-rows d v)
+  unfolding recordsOf ownRecords wentBy wakeRecords refused rule4 grant withRow withStatus asking
+  moved-wrote (refuses why _) = nothing (same-rows d v)
   moved-wrote (begins e n m) = rw e (nothing (same-rows d v))
   moved-wrote (commits e s) = rw e (mark Commit closed (vacated (r .job) (d .jobs)) (Go (r .job)) (running-open s) (λ _. refl))
   moved-wrote (gives-up e s) = rw e (mark GiveUp closed (vacated (r .job) (d .jobs)) (Go (r .job)) s (λ _. refl))

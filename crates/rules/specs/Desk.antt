@@ -8,7 +8,7 @@ use Rattle.terms.specs.declared.letters.Ask.{Ask}
 use Rattle.terms.specs.Limits.{places}
 use Rattle.conflict.specs.declared.modes.Mode.{Mode}
 use Rattle.conflict.specs.declared.modes.Mode.the-variants.{Free}
-use Rattle.conflict.specs.Jobs.{same, member}
+use Rattle.laws.specs.Lists.{same, member}
 
 -- a job is running, waiting for one cell with what it asked, or sent back while it is open, and closed else (01, Jobs and their numbers)
 pub data Status : Type 0 where

@@ -7,7 +7,7 @@ use Rattle.laws.specs.Choice.{pick}
 use Rattle.conflict.specs.declared.modes.Mode.{Mode}
 use Rattle.conflict.specs.declared.modes.Mode.the-variants.{Free}
 use Rattle.conflict.specs.Modes.{needed, grants, asked, isFree}
-use Rattle.conflict.specs.Jobs.{same}
+use Rattle.laws.specs.Lists.{same}
 use Rattle.rules.specs.Desk.{Waiter, Row, at}
 
 -- the test holds of every job of the list

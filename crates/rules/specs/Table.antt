@@ -13,7 +13,7 @@ use Rattle.terms.specs.declared.refusals.Refusal.{Refusal}
 use Rattle.terms.specs.declared.refusals.Refusal.the-variants.{UnknownKind, CellAbove, NotOpen, Waiting, SentBack, AllOpen, NoNumberLeft, Running, BadLine, StartedAtZero, TooManyLines, JobOutside, Ended, ShortOrder, NoRoom, TooLong}
 use Rattle.terms.specs.Letters.{letterOf, ofRequests, hasCell}
 use Rattle.terms.specs.Limits.{cells, lastNumber}
-use Rattle.conflict.specs.Jobs.{member}
+use Rattle.laws.specs.Lists.{member}
 use Rattle.rules.specs.declared.Answer.{Answer}
 use Rattle.rules.specs.declared.Answer.the-variants.{Go, Wait, Back as sent-back}
 use Rattle.rules.specs.Desk.{Status, closed, running, waiting, sentback, isOpen, Desk, Request}

@@ -11,7 +11,7 @@ use Rattle.terms.specs.declared.letters.Lettered.the-variants.{Known}
 use Rattle.terms.specs.Letters.{letterOf}
 use Rattle.conflict.specs.declared.modes.Mode.{Mode}
 use Rattle.conflict.specs.Modes.{needed, covers, isFree}
-use Rattle.conflict.specs.Jobs.{member, distinct}
+use Rattle.laws.specs.Lists.{member, distinct}
 use Rattle.conflict.specs.Runs.{ended}
 use Rattle.rules.specs.Desk.{running, waiting, Waiter, Row, Desk, Request, isOpen, isLive}
 use Rattle.rules.specs.Locks.{wants}

@@ -14,3 +14,6 @@ pub mod EarlyStop
 pub mod Programs
 pub mod SameShown
 pub mod StartedRun
+pub mod RunLength
+pub mod StartedTexts
+pub mod EndToEnd

@@ -2,7 +2,7 @@
 -- Assumes nothing.
 use Prim.Native.Nat.{ℕ}
 use mathlib.Core.Path.{_≡_, refl, sym, ap, ap₂, _∙_}
-use mathlib.Core.List.{List, [], _∷_, _++_, append-assoc}
+use mathlib.Core.List.{List, [], _∷_, _++_}
 use Rattle.terms.specs.declared.letters.Letter.the-variants.{Begin, Commit as commit, GiveUp as give-up, Retry, Back as no-request, Asks}
 use Rattle.terms.specs.declared.letters.Lettered.{Lettered}
 use Rattle.terms.specs.declared.letters.Lettered.the-variants.{Known, Unknown}
@@ -14,7 +14,9 @@ use Rattle.rules.specs.declared.Answer.{Answer}
 use Rattle.rules.specs.declared.Answer.the-variants.{Go, Wait, Back as goes-back, No}
 use Rattle.rules.specs.Desk.{Request}
 use Rattle.rules.specs.Step.{wentBy, ownRecords, wakeRecords, recordsOf}
-use Rattle.runs.specs.Run.{Told, eventLine, eventLines, historyLines, written}
+use Rattle.verdicts.specs.Written.{textOf}
+use Rattle.verdicts.proofs.RecordLines.{text-append}
+use Rattle.runs.specs.Run.{Told, historyLines, written}
 use Rattle.runs.specs.Programs.{runOn, historyOf}
 use Rattle.runs.specs.Shown.{Shown, granted, ended, goShows, answerShows, wakesShow, answersShow, answersShowAll, historyShows, historyOfRun}
 
@@ -63,20 +65,14 @@ same-shown [] = unfold historyShows in refl
 same-shown (t ∷ ts) =
     shows-append (recordsOf (t .request) (t .said) (t .wakes)) (historyOfRun ts) ∙ ap₂ (λ h k. h ++ k) (line-shown t) (same-shown ts)
 
--- the records of some events and then of others
-pub events-append : (h k : History) → eventLines (h ++ k) ≡ eventLines h ++ eventLines k
-unfolding eventLines
-events-append [] k = refl
-events-append (e ∷ h) k = ap (λ l. eventLine e ++ l) (events-append h k) ∙ sym (append-assoc (eventLine e) (eventLines h) (eventLines k))
-
--- what is written of a run in the history's view is the history of the run
-run-written : (ts : List Told) → written historyLines ts ≡ eventLines (historyOfRun ts)
+-- what is written of a run in the history's view is the text of the run's history
+run-written : (ts : List Told) → written historyLines ts ≡ textOf (historyOfRun ts)
 unfolding written historyLines historyOfRun
-run-written [] = unfold eventLines in refl
+run-written [] = unfold textOf in refl
 run-written (t ∷ ts) =
-    ap (λ l. eventLines (recordsOf (t .request) (t .said) (t .wakes)) ++ l) (run-written ts) ∙ sym (events-append (recordsOf (t .request) (t .said) (t .wakes)) (historyOfRun ts))
+    ap (λ l. textOf (recordsOf (t .request) (t .said) (t .wakes)) ++ l) (run-written ts) ∙ sym (text-append (recordsOf (t .request) (t .said) (t .wakes)) (historyOfRun ts))
 
--- so the history program writes the history of the run whose answers the answering program writes
-pub history-is : (text : List ℕ) → historyOf text ≡ eventLines (historyOfRun (runOn text))
+-- so the history program writes the text of the history of the run whose answers the answering program writes
+pub history-is : (text : List ℕ) → historyOf text ≡ textOf (historyOfRun (runOn text))
 unfolding historyOf
 history-is text = run-written (runOn text)

@@ -4,32 +4,22 @@ use mathlib.Core.Bool.{Bool}
 use mathlib.Core.List.{List, [], _∷_, _++_}
 use lib.Dec.{ltb}
 use Rattle.laws.specs.Choice.{pick}
-use Rattle.terms.specs.declared.letters.Ask.{Ask}
-use Rattle.terms.specs.declared.letters.Ask.the-variants.{Read as asks-read, Write as asks-write, Increment as asks-increment}
-use Rattle.terms.specs.declared.letters.Letter.{Letter}
-use Rattle.terms.specs.declared.letters.Letter.the-variants.{Commit as commit, GiveUp as give-up, Back as sent-back, Asks}
 use Rattle.terms.specs.declared.words.Word.{Word}
 use Rattle.terms.specs.declared.words.Word.the-variants.{Go, Wait, Back, No, Wake}
 use Rattle.terms.specs.declared.refusals.Refusal.the-variants.{BadLine}
 use Rattle.terms.specs.Letters.{byteOf, ofRequests}
 use Rattle.terms.specs.Refusals.{numberOf}
 use Rattle.terms.specs.Limits.{requestLines}
-use Rattle.conflict.specs.declared.action.Kind.{Kind}
-use Rattle.conflict.specs.declared.action.Kind.the-variants.{Read, Write, Increment}
 use Rattle.conflict.specs.declared.action.Action.{Action}
-use Rattle.conflict.specs.declared.action.Mark.{Mark}
-use Rattle.conflict.specs.declared.action.Mark.the-variants.{Commit, GiveUp, Back as goes-back}
-use Rattle.conflict.specs.declared.action.Event.{Event}
-use Rattle.conflict.specs.declared.action.Event.the-variants.{Does, Ends}
-use Rattle.conflict.specs.History.{History}
 use Rattle.text.specs.declared.reader.Reading.{Reading}
 use Rattle.text.specs.declared.reader.Reading.the-variants.{Good, Bad}
 use Rattle.text.specs.Lines.{readLine}
-use Rattle.text.specs.Records.{answerRecord, lineRecord}
+use Rattle.text.specs.Records.{answerRecord}
 use Rattle.rules.specs.declared.Answer.{Answer}
 use Rattle.rules.specs.declared.Answer.the-variants.{Go as goes, Wait as waits, Back as back, No as refuses}
 use Rattle.rules.specs.Desk.{Request}
 use Rattle.rules.specs.Step.{recordsOf}
+use Rattle.verdicts.specs.Written.{textOf}
 
 -- what a step of some desk leaves and says
 pub record Stepped (S : Type 0) : Type 0 where
@@ -100,31 +90,9 @@ wakeLines n (a ∷ rest) = answerRecord n Wake (a .job) ++ wakeLines n rest
 unfoldable pub answerLines : Told → List ℕ
 answerLines t = answerRecord (t .line) (wordOf (t .said)) (numberBeside (t .said)) ++ wakeLines (t .line) (t .wakes)
 
--- the letter of a recorded kind
-unfoldable pub askBy : Kind → Ask
-askBy Read = asks-read
-askBy Write = asks-write
-askBy Increment = asks-increment
-
--- the letter of a mark
-unfoldable pub markLetter : Mark → Letter
-markLetter Commit = commit
-markLetter GiveUp = give-up
-markLetter goes-back = sent-back
-
--- the record of an event (01, Lines)
-unfoldable pub eventLine : Event → List ℕ
-eventLine (Does a) = lineRecord (Asks (askBy (a .kind))) (a .job) (a .cell)
-eventLine (Ends m j) = lineRecord (markLetter m) j 0
-
--- the records of events, one after another
-unfoldable pub eventLines : History → List ℕ
-eventLines [] = []
-eventLines (e ∷ h) = eventLine e ++ eventLines h
-
 -- the history records of a line: those of its step (01, Lines)
 unfoldable pub historyLines : Told → List ℕ
-historyLines t = eventLines (recordsOf (t .request) (t .said) (t .wakes))
+historyLines t = textOf (recordsOf (t .request) (t .said) (t .wakes))
 
 -- what is written of a run, in either view
 unfoldable pub written : (Told → List ℕ) → List Told → List ℕ

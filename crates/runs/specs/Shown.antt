@@ -13,7 +13,9 @@ use Rattle.conflict.specs.History.{History}
 use Rattle.rules.specs.declared.Answer.{Answer}
 use Rattle.rules.specs.declared.Answer.the-variants.{Go, Wait, Back as goes-back, No}
 use Rattle.rules.specs.Step.{recordsOf}
+use Rattle.rules.specs.Runs.{givenBy}
 use Rattle.runs.specs.Run.{Told}
+use Rattle.runs.specs.Programs.{runOn}
 
 -- a job was granted a read, write or increment, or its run ended by a commit, a give-up or a sending back
 pub data Shown : Type 0 where
@@ -61,3 +63,12 @@ historyShows (Ends m j ∷ h) = ended m j ∷ historyShows h
 unfoldable pub historyOfRun : List Told → History
 historyOfRun [] = []
 historyOfRun (t ∷ ts) = recordsOf (t .request) (t .said) (t .wakes) ++ historyOfRun ts
+
+-- the numbers that a run gives: one for each begin that goes (01, Jobs and their numbers)
+unfoldable pub givenIn : List Told → List ℕ
+givenIn [] = []
+givenIn (t ∷ ts) = givenBy (t .request) (t .said) ++ givenIn ts
+
+-- the history of the run of a text on a fresh desk: what the program `history` writes the text of
+abbrev pub historyOn : List ℕ → History
+historyOn text = historyOfRun (runOn text)

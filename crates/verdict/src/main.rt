@@ -13,6 +13,12 @@ ghost use Rattle.reporter.proofs.LineLength.{lineLimit};
 // One byte more than a text may have is enough of a longer one.
 const READ: usize = JUDGED_BYTES + 1;
 
+// How many bytes of the text were read, and whether the input came to its end or to a text that is too long: no read failed.
+struct Taken {
+    len: usize,
+    whole: bool,
+}
+
 // The line on a text stands before the place that is told. There is room for the longest, so none is refused.
 fn put_line(text: &[u8], out: &mut [u8]) -> usize
     requires { ⌜ lineLimit ≤ length (now out) ⌝ }
@@ -24,17 +30,64 @@ fn put_line(text: &[u8], out: &mut [u8]) -> usize
     }
 }
 
-// Reads until the input ends or the text's buffer is full, and writes out the line on it.
-fn report(text: &mut [u8], out: &mut [u8])
+// A chunk's bytes kept behind those that are, as far as there is room for them, and how many there are then.
+fn keep(text: &mut [u8], before: usize, chunk: &[u8]) -> usize
+    requires { ⌜ before ≤ length (now text) ⌝ }
+    ensures { λ r. ⌜ r ≤ length (now (text .exit)) ⌝ }
+{
+    let mut len = before;
+    let mut i = 0;
+    while i < chunk.len() {
+        if text.len() <= len {
+            break;
+        }
+        text[len] = chunk[i];
+        len += 1;
+        i += 1;
+    }
+    len
+}
+
+// Reads until the input ends or the text's buffer is full. Nothing says that input ends, so the loop counts down from a number of turns that no run uses up.
+fn take_all(input: &mut [u8], text: &mut [u8]) -> Taken
+    ensures { λ r. ⌜ r .len ≤ length (now (text .exit)) ⌝ }
+{
+    let mut len = 0;
+    let mut turns = u64::MAX;
+    while turns > 0 {
+        if text.len() <= len {
+            return Taken { len, whole: true };
+        }
+        let got = libc::read(STDIN_FILENO, input);
+        if got < 0 {
+            return Taken { len, whole: false };
+        }
+        let n = io::count(got, input);
+        if n == 0 {
+            return Taken { len, whole: true };
+        }
+        len = keep(text, len, &input[0..n]);
+        turns -= 1;
+    }
+    Taken { len, whole: false }
+}
+
+// Writes out the line on what was read. Where a read fails there is no text to judge, and nothing is written: no verdict on half a history.
+fn report(input: &mut [u8], text: &mut [u8], out: &mut [u8])
     requires { ⌜ lineLimit ≤ length (now out) ⌝ }
 {
-    let n = io::read_full(STDIN_FILENO, text);
+    let taken = take_all(input, text);
+    if !taken.whole {
+        return;
+    }
+    let n = taken.len;
     let next = put_line(&text[0..n], out);
     io::write_all(STDOUT_FILENO, &out[0..next]);
 }
 
 fn main() {
+    let mut input = io::large_buffer();
     let mut text = [0u8; READ];
     let mut out = io::buffer();
-    report(&mut text, &mut out);
+    report(&mut input, &mut text, &mut out);
 }

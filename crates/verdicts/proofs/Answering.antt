@@ -37,12 +37,12 @@ fills jobs buffer h =
       size = omega (arith, length-append jobs (drop (length jobs) buffer), length-drop (length jobs) buffer);
     }
 
-module _ (text buffer : List ℕ) (room : 255 ≤ length buffer) (all : AllFaultless (linesOf text)) where
+module _ (text buffer : List ℕ) (room : judgedJobs ≤ length buffer) (all : AllFaultless (linesOf text)) where
   -- an order said of a faultless text is the paper's, and has at most 255 jobs
   order-told : (order : List ℕ) → verdictOf (eventsIn (linesOf text)) ≡ orderly order → InOrder (eventsIn (linesOf text)) buffer (filled order buffer) (length order)
   order-told order v =
       let h : History = eventsIn (linesOf text) in
-      let few : length order ≤ 255 = at-most-255 order (order-once h order v) (λ j m. committed-within (linesOf text) all j (sym (order-names h order v j) ∙ m)) in
+      let few : length order ≤ judgedJobs = at-most-255 order (order-once h order v) (λ j m. committed-within (linesOf text) all j (sym (order-names h order v j) ∙ m)) in
       record {
         order = order;
         fills = fills order buffer (omega arith);
@@ -62,7 +62,7 @@ module _ (text buffer : List ℕ) (room : 255 ≤ length buffer) (all : AllFault
       let h : History = eventsIn (linesOf text) in
       let k : Knotted (edge (committedPart h)) (jobsOf h) js = knot-shows h js v in
       let same-list : ks ≡ js = cc in
-      let few : length js ≤ 255 = at-most-255 js (k .once) (λ j m. committed-within (linesOf text) all j (sym (jobs-committed h j) ∙ k .only j m)) in
+      let few : length js ≤ judgedJobs = at-most-255 js (k .once) (λ j m. committed-within (linesOf text) all j (sym (jobs-committed h j) ∙ k .only j m)) in
       record {
         knot = js;
         fills = fills js buffer (omega arith);
@@ -82,7 +82,7 @@ module _ (text buffer : List ℕ) (room : 255 ≤ length buffer) (all : AllFault
   told (knotted js) e = in-knot room all (knot-by js e (verdict-exactly (eventsIn (linesOf text)) (knotted js) .1 e) refl)
 
 -- what is said of the lines is one of the paper's answers
-lines-told : (text buffer : List ℕ) → 255 ≤ length buffer → (o : Option Faulty) → Tells (linesOf text) o → Answers text buffer (sayLines buffer (linesOf text) o)
+lines-told : (text buffer : List ℕ) → judgedJobs ≤ length buffer → (o : Option Faulty) → Tells (linesOf text) o → Answers text buffer (sayLines buffer (linesOf text) o)
 unfolding sayLines
 lines-told text buffer room none t = told text buffer room t (verdictOf (eventsIn (linesOf text))) refl
 lines-told text buffer room (some f) t =

@@ -3,13 +3,13 @@
 use Prim.Native.Nat.{ℕ}
 use mathlib.Core.Path.{_≡_, refl}
 use mathlib.Core.List.{List, [], _∷_, map}
+use Rattle.laws.specs.Lists.{member, put}
 use Rattle.conflict.specs.declared.action.Kind.the-variants.{Read, Write, Increment}
 use Rattle.conflict.specs.declared.action.Mark.the-variants.{Commit, Back}
 use Rattle.conflict.specs.declared.action.Event.{Event}
 use Rattle.conflict.specs.declared.action.Event.the-variants.{Does, Ends}
-use Rattle.conflict.specs.Jobs.{member}
 use Rattle.conflict.specs.Schedule.{agree, conflicts, keep, touches, edge}
-use Rattle.conflict.specs.History.{History, isCommit, isBack, marked, partOf, committedPart, put, commitOrder}
+use Rattle.conflict.specs.History.{History, isCommit, isBack, marked, partOf, committedPart, commitOrder}
 use Rattle.verdicts.specs.Order.{preceded, first, ready, without, ends, leads, taken, orderOf, stuck}
 use Rattle.verdicts.specs.Knot.{predecessor, upTo, from, walk, least, turnTo, turn, knotIn}
 use Rattle.verdicts.specs.Judged.{Verdict, orderly, knotted, verdictBy, judged, insert, sorted, jobsOf, verdictOf}

@@ -11,16 +11,17 @@ use lib.Dec.{leb}
 use lib.ListN.{length, getD}
 use borrow.Author.Tests.{eqb-true, eqb-false, leb-true, not-false}
 use Rattle.laws.specs.Choice.{pick, by-test, not-both}
+use Rattle.laws.specs.Lists.{same, member, distinct}
+use Rattle.laws.proofs.Parts.{and-first, and-second, or-either}
 use Rattle.terms.specs.declared.letters.Letter.the-variants.{Begin, Commit, GiveUp, Retry, Back, Asks}
 use Rattle.terms.specs.declared.refusals.Refusal.{Refusal}
 use Rattle.terms.specs.declared.refusals.Refusal.the-variants.{BadLine, CellAbove, TooManyLines, JobOutside, Ended}
 use Rattle.terms.specs.Letters.{ofHistories}
+use Rattle.terms.specs.Limits.{judgedJobs}
 use Rattle.conflict.specs.declared.action.Mark.{Mark}
 use Rattle.conflict.specs.declared.action.Mark.the-variants.{Commit as commits, GiveUp as gives-up, Back as goes-back}
 use Rattle.conflict.specs.declared.action.Event.the-variants.{Ends}
-use Rattle.conflict.specs.Jobs.{same, member, distinct}
 use Rattle.conflict.specs.History.{History, isCommit, marked}
-use Rattle.conflict.proofs.Parts.{and-first, and-second, or-either}
 use Rattle.conflict.proofs.OneEvent.{marked-none, marked-does, marked-ends}
 use Rattle.text.specs.declared.reader.Reading.{Reading}
 use Rattle.text.specs.declared.reader.Reading.the-variants.{Good, Bad}
@@ -48,9 +49,9 @@ counted (suc n) j a b =
     by-test (same (suc n) j) (λ t. rw t) (λ f. let other′ : suc n ≢ j = eqb-false (suc n) j f in rw f (counted n j a (omega arith)))
 
 -- jobs from 1 to 255, none twice, are at most 255
-pub at-most-255 : (js : List ℕ) → distinct js ≡ true → ((j : ℕ) → member j js ≡ true → (1 ≤ j) × (j ≤ 255)) → length js ≤ 255
+pub at-most-255 : (js : List ℕ) → distinct js ≡ true → ((j : ℕ) → member j js ≡ true → (1 ≤ j) × (j ≤ judgedJobs)) → length js ≤ judgedJobs
 at-most-255 js d within =
-    omega (arith, no-more js (countdown 255) d (λ j m. counted 255 j (within j m .0) (within j m .1)), counted-length 255)
+    omega (arith, no-more js (countdown judgedJobs) d (λ j m. counted judgedJobs j (within j m .0) (within j m .1)), counted-length judgedJobs)
 
 -- a row that is first of those that are left and of which none holds does not hold, and none of the others does
 pick-none : (b : Bool) (x : Refusal) (rest : Option Refusal) → pick b (some x) rest ≡ none → (b ≡ false) × (rest ≡ none)
@@ -78,10 +79,10 @@ clean-line n before line e =
     record { few = p .0; good = q .0; inside = s .0; below = t .0; open′ = u .0 }
 
 -- a job that is not outside is 1 to 255
-not-outside : (job : ℕ) → not (leb 1 job && leb job 255) ≡ false → (1 ≤ job) × (job ≤ 255)
+not-outside : (job : ℕ) → not (leb 1 job && leb job judgedJobs) ≡ false → (1 ≤ job) × (job ≤ judgedJobs)
 not-outside job e =
-    let both : (leb 1 job && leb job 255) ≡ true = not-false (leb 1 job && leb job 255) e in
-    (leb-true 1 job (and-first (leb 1 job) (leb job 255) both), leb-true job 255 (and-second (leb 1 job) (leb job 255) both))
+    let both : (leb 1 job && leb job judgedJobs) ≡ true = not-false (leb 1 job && leb job judgedJobs) e in
+    (leb-true 1 job (and-first (leb 1 job) (leb job judgedJobs) both), leb-true job judgedJobs (and-second (leb 1 job) (leb job judgedJobs) both))
 
 -- a job with a c has it on this line, and then is 1 to 255, or after it
 marked-here : {P : Type 0} (m : Mark) (job j : ℕ) (h : History) → marked isCommit j (Ends m job ∷ h) ≡ true → (job ≡ j → P) → (marked isCommit j h ≡ true → P) → P
@@ -91,25 +92,25 @@ marked-here m job j h e one′ two′ =
 
 -- the same by what the line reads
 marked-line : {P : Type 0} (r : Reading) (h : History) (j : ℕ) → outside r ≡ false → marked isCommit j (eventOf r ++ h) ≡ true →
-    ((1 ≤ j) × (j ≤ 255) → P) → (marked isCommit j h ≡ true → P) → P
+    ((1 ≤ j) × (j ≤ judgedJobs) → P) → (marked isCommit j h ≡ true → P) → P
 unfolding eventOf
 marked-line Bad h j o e one′ two′ = two′ e
 marked-line (Good Begin job cell) h j o e one′ two′ = two′ e
-marked-line (Good Commit job cell) h j o e one′ two′ = marked-here commits job j h e (λ q. one′ (subst (λ x. (1 ≤ x) × (x ≤ 255)) q (not-outside job o))) two′
-marked-line (Good GiveUp job cell) h j o e one′ two′ = marked-here gives-up job j h e (λ q. one′ (subst (λ x. (1 ≤ x) × (x ≤ 255)) q (not-outside job o))) two′
+marked-line (Good Commit job cell) h j o e one′ two′ = marked-here commits job j h e (λ q. one′ (subst (λ x. (1 ≤ x) × (x ≤ judgedJobs)) q (not-outside job o))) two′
+marked-line (Good GiveUp job cell) h j o e one′ two′ = marked-here gives-up job j h e (λ q. one′ (subst (λ x. (1 ≤ x) × (x ≤ judgedJobs)) q (not-outside job o))) two′
 marked-line (Good Retry job cell) h j o e one′ two′ = two′ e
-marked-line (Good Back job cell) h j o e one′ two′ = marked-here goes-back job j h e (λ q. one′ (subst (λ x. (1 ≤ x) × (x ≤ 255)) q (not-outside job o))) two′
+marked-line (Good Back job cell) h j o e one′ two′ = marked-here goes-back job j h e (λ q. one′ (subst (λ x. (1 ≤ x) × (x ≤ judgedJobs)) q (not-outside job o))) two′
 marked-line (Good (Asks a) job cell) h j o e one′ two′ = two′ (sym (marked-does isCommit j _ h) ∙ e)
 
 -- a job with a c on lines of which none has a job outside is 1 to 255
-marked-within : (ls : List (List ℕ)) → ((k : ℕ) → k < length ls → outside (readLine ofHistories (getD ls k [])) ≡ false) → (j : ℕ) → marked isCommit j (eventsIn ls) ≡ true → (1 ≤ j) × (j ≤ 255)
+marked-within : (ls : List (List ℕ)) → ((k : ℕ) → k < length ls → outside (readLine ofHistories (getD ls k [])) ≡ false) → (j : ℕ) → marked isCommit j (eventsIn ls) ≡ true → (1 ≤ j) × (j ≤ judgedJobs)
 unfolding eventsIn
 marked-within [] all j e = not-both e (marked-none isCommit j)
 marked-within (l ∷ ls) all j e =
     marked-line (readLine ofHistories l) (eventsIn ls) j (all 0 (omega arith)) e (λ w. w) (λ m. marked-within ls (λ k h. all (suc k) (omega arith)) j m)
 
 -- the jobs with a c in a faultless text are 1 to 255
-pub committed-within : (ls : List (List ℕ)) → AllFaultless ls → (j : ℕ) → marked isCommit j (eventsIn ls) ≡ true → (1 ≤ j) × (j ≤ 255)
+pub committed-within : (ls : List (List ℕ)) → AllFaultless ls → (j : ℕ) → marked isCommit j (eventsIn ls) ≡ true → (1 ≤ j) × (j ≤ judgedJobs)
 committed-within ls all j m =
     marked-within ls (λ k h. subst (λ i. outside (readLine ofHistories (getD ls i [])) ≡ false) (less-one k) (clean-line (suc k) (linesBefore ls (suc k)) (lineAt ls (suc k)) (all (suc k) (omega arith) h) .inside)) j m
   where

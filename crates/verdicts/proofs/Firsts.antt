@@ -9,9 +9,9 @@ use native.Mathlib.Omega.{arith}
 use lib.Dec.{ltb}
 use borrow.Author.Tests.{eqb-true, ltb-true}
 use Rattle.laws.specs.Choice.{by-test, not-both}
-use Rattle.conflict.specs.Jobs.{same, member}
-use Rattle.conflict.proofs.Parts.{and-first, and-second, or-either}
-use Rattle.conflict.proofs.JobLists.{member-first, member-more}
+use Rattle.laws.specs.Lists.{same, member}
+use Rattle.laws.proofs.Lists.{member-first, member-more}
+use Rattle.laws.proofs.Parts.{and-first, and-second, or-either}
 use Rattle.verdicts.specs.Order.{under, ascending, first}
 use Rattle.verdicts.specs.Meant.{Smallest}
 

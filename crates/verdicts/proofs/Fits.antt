@@ -6,9 +6,9 @@ use mathlib.Core.Bool.{true, false}
 use mathlib.Core.List.{List, [], _∷_}
 use borrow.Author.Tests.{eqb-true}
 use Rattle.laws.specs.Choice.{by-test, not-both}
-use Rattle.conflict.specs.Jobs.{same, member}
-use Rattle.conflict.proofs.Parts.{nor-first, nor-second}
-use Rattle.conflict.proofs.JobLists.{member-first, member-later, member-more}
+use Rattle.laws.specs.Lists.{same, member}
+use Rattle.laws.proofs.Lists.{member-first, member-later, member-more}
+use Rattle.laws.proofs.Parts.{nor-first, nor-second}
 use Rattle.verdicts.specs.Order.{Edges, preceded, without}
 use Rattle.verdicts.specs.Meant.{Fits}
 use Rattle.verdicts.proofs.Without.{left-before, left-other}

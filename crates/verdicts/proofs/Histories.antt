@@ -6,7 +6,7 @@ use mathlib.Core.Logic.{_↔_}
 use mathlib.Core.Bool.{true}
 use mathlib.Core.List.{List}
 use Rattle.laws.specs.Choice.{by-test, not-both}
-use Rattle.conflict.specs.Jobs.{member, distinct}
+use Rattle.laws.specs.Lists.{member, distinct}
 use Rattle.conflict.specs.Schedule.{Equivalent, serial, ConflictSerializable, edge, names}
 use Rattle.conflict.specs.History.{History, isCommit, marked, committedPart, commitOrder}
 use Rattle.conflict.proofs.Marks.{listed}

@@ -7,8 +7,8 @@ use mathlib.Core.Bool.{true}
 use mathlib.Core.List.{List, [], _∷_, _++_}
 use native.Mathlib.Omega.{arith}
 use Rattle.laws.specs.Choice.{not-both}
-use Rattle.conflict.specs.Jobs.{member}
-use Rattle.conflict.proofs.JobLists.{member-first}
+use Rattle.laws.specs.Lists.{member}
+use Rattle.laws.proofs.Lists.{member-first}
 use Rattle.verdicts.specs.Order.{Edges, ascending, orderOf, stuck}
 use Rattle.verdicts.specs.Knot.{knotIn}
 use Rattle.verdicts.specs.Judged.{Verdict, orderly, knotted, verdictBy, judged}

@@ -6,9 +6,9 @@ use mathlib.Core.Bool.{true}
 use mathlib.Core.List.{List, [], _∷_, _++_}
 use native.Mathlib.Omega.{arith}
 use lib.ListN.{length}
-use Rattle.conflict.specs.Jobs.{member, distinct}
+use Rattle.laws.specs.Lists.{member, distinct}
+use Rattle.laws.proofs.Lists.{member-first}
 use Rattle.conflict.specs.Schedule.{knot}
-use Rattle.conflict.proofs.JobLists.{member-first}
 use Rattle.conflict.proofs.Ways.{knot-on}
 use Rattle.verdicts.specs.Order.{Edges, preceded, ascending}
 use Rattle.verdicts.specs.Knot.{upTo, from, walk, least, turnTo, turn, knotIn}

@@ -24,5 +24,6 @@ pub mod Refusing
 pub mod JudgedTexts
 pub mod RecordLines
 pub mod RecordsSay
+pub mod ReadBack
 pub mod WrittenHistories
 pub mod Examples

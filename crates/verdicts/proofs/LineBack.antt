@@ -10,8 +10,8 @@ use lib.ListN.{length, drop, getD}
 use lib.Seq.{split-at}
 use borrow.Author.Tests.{eqb-true, not-true}
 use Rattle.laws.specs.Choice.{by-test, not-both}
+use Rattle.laws.proofs.Parts.{and-first, and-second}
 use Rattle.terms.specs.Words.{newline}
-use Rattle.conflict.proofs.Parts.{and-first, and-second}
 use Rattle.text.specs.Split.{linesOf, joined, oneLine, every}
 use Rattle.text.proofs.TextLines.{lines-join, lines-one}
 use Rattle.verdicts.specs.HistoryText.{bare}

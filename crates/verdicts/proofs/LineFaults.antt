@@ -12,13 +12,13 @@ use lib.ListN.{length, length-append}
 use lib.Seq.{take-at, getD-at}
 use borrow.Author.Tests.{eqb-true, eqb-false, eq-eqb, ne-eqb, ltb-true, ltb-false, le-leb, lt-leb}
 use Rattle.laws.specs.Choice.{pick, by-test}
+use Rattle.laws.specs.Lists.{member}
+use Rattle.laws.proofs.Parts.{or-swap}
 use Rattle.terms.specs.declared.letters.Letter.the-variants.{Begin, Commit, GiveUp, Retry, Back, Asks}
 use Rattle.terms.specs.declared.refusals.Refusal.{Refusal}
 use Rattle.terms.specs.declared.refusals.Refusal.the-variants.{TooManyLines}
 use Rattle.terms.specs.Letters.{ofHistories}
 use Rattle.terms.specs.Limits.{judgedJobs, judgedLines}
-use Rattle.conflict.specs.Jobs.{member}
-use Rattle.conflict.proofs.Parts.{or-swap}
 use Rattle.text.specs.declared.reader.Reading.{Reading}
 use Rattle.text.specs.declared.reader.Reading.the-variants.{Good, Bad}
 use Rattle.text.specs.Lines.{readLine}
@@ -59,36 +59,36 @@ keeps-more ended before l k j =
     keeps-reading ended j (readLine ofHistories l) ∙ ap (λ x. ends j (readLine ofHistories l) || x) (k j) ∙ sym (ended-more j before l)
 
 -- a job is outside 1 to 255 where it is 0 or above 255
-outside-is : (job : ℕ) → (eqb job 0 || ltb judgedJobs job) ≡ not (leb 1 job && leb job 255)
+outside-is : (job : ℕ) → (eqb job 0 || ltb judgedJobs job) ≡ not (leb 1 job && leb job judgedJobs)
 outside-is job =
     by-test (eqb job 0)
     (λ t. let z : job ≡ 0 = eqb-true job 0 t in rw (t, lt-leb 1 job (omega arith)))
     (λ f. let p : job ≢ 0 = eqb-false job 0 f in
     by-test (ltb judgedJobs job)
-    (λ t. let h : 255 < job = ltb-true 255 job t in rw (f, t, le-leb 1 job (omega arith), lt-leb job 255 h))
-    (λ g. let h : job ≤ 255 = ltb-false 255 job g in rw (f, g, le-leb 1 job (omega arith), le-leb job 255 h)))
+    (λ t. let h : judgedJobs < job = ltb-true judgedJobs job t in rw (f, t, le-leb 1 job (omega arith), lt-leb job judgedJobs h))
+    (λ g. let h : job ≤ judgedJobs = ltb-false judgedJobs job g in rw (f, g, le-leb 1 job (omega arith), le-leb job judgedJobs h)))
 
 -- up to line 4,097, a line past 4,096 is line 4,097
-too-many-is : (n : ℕ) → n ≤ 4_097 → ltb judgedLines n ≡ eqb n 4_097
+too-many-is : (n : ℕ) → n ≤ suc judgedLines → ltb judgedLines n ≡ eqb n (suc judgedLines)
 too-many-is n h =
     by-test (ltb judgedLines n)
-    (λ t. let g : 4_096 < n = ltb-true judgedLines n t in t ∙ sym (eq-eqb n 4_097 (omega arith)))
-    (λ f. let g : n ≤ 4_096 = ltb-false judgedLines n f in f ∙ sym (ne-eqb n 4_097 (omega arith)))
+    (λ t. let g : judgedLines < n = ltb-true judgedLines n t in t ∙ sym (eq-eqb n (suc judgedLines) (omega arith)))
+    (λ f. let g : n ≤ judgedLines = ltb-false judgedLines n f in f ∙ sym (ne-eqb n (suc judgedLines) (omega arith)))
 
 -- the judge's fault of a line that reads so is the table's
-reading-fault : (n : ℕ) (ended : List ℕ) (before : List (List ℕ)) (r : Reading) → n ≤ 4_097 → Keeps ended before →
+reading-fault : (n : ℕ) (ended : List ℕ) (before : List (List ℕ)) (r : Reading) → n ≤ suc judgedLines → Keeps ended before →
     pick (ltb judgedLines n) (some TooManyLines) (faultOf ended r) ≡ firstOf (holds n before r) order
 unfolding faultOf faultOfGood holds firstOf order
 reading-fault n ended before Bad h k = rw (too-many-is n h)
 reading-fault n ended before (Good l job cell) h k = rw (too-many-is n h, outside-is job, k job)
 
 -- the judge's fault of a line is the table's
-pub line-fault : (n : ℕ) (ended : List ℕ) (before : List (List ℕ)) (line : List ℕ) → n ≤ 4_097 → Keeps ended before → lineFault n ended line ≡ tableSays n before line
+pub line-fault : (n : ℕ) (ended : List ℕ) (before : List (List ℕ)) (line : List ℕ) → n ≤ suc judgedLines → Keeps ended before → lineFault n ended line ≡ tableSays n before line
 unfolding lineFault tableSays
 line-fault n ended before line h k = reading-fault n ended before (readLine ofHistories line) h k
 
 -- a line past 4,096 has a fault
-pub few-lines : (n : ℕ) (ended : List ℕ) (line : List ℕ) → lineFault n ended line ≡ none → n ≤ 4_096
+pub few-lines : (n : ℕ) (ended : List ℕ) (line : List ℕ) → lineFault n ended line ≡ none → n ≤ judgedLines
 unfolding lineFault
 few-lines n ended line e =
     by-test (ltb judgedLines n) (λ t. let q : some TooManyLines ≡ none = rw t at e in let z : _≡_ {A = ℕ} 0 1 = cc in absurd (omega arith))
@@ -107,7 +107,7 @@ said-of before line after =
     (getD-at before line after [] (suc (length before) - 1) (omega arith))
 
 module _ (whole before : List (List ℕ)) (l : List ℕ) (ls : List (List ℕ)) (n : ℕ) (ended : List ℕ) (w : whole ≡ before ++ l ∷ ls)
-    (e : n ≡ suc (length before)) (h : n ≤ 4_097) (k : Keeps ended before) (good : (m : ℕ) → 1 ≤ m → m < n → Faultless whole m) where
+    (e : n ≡ suc (length before)) (h : n ≤ suc judgedLines) (k : Keeps ended before) (good : (m : ℕ) → 1 ≤ m → m < n → Faultless whole m) where
   -- the judge's fault of line n is what the table says of it
   fault-at : lineFault n ended l ≡ tableSays n (linesBefore whole n) (lineAt whole n)
   fault-at = line-fault n ended before l h k ∙ sym (rw (w, e) (said-of before l ls))
@@ -129,7 +129,7 @@ module _ (whole before : List (List ℕ)) (l : List ℕ) (ls : List (List ℕ)) 
       )
 
 -- from line n on, where the lines before it are faultless
-walks : (whole before ls : List (List ℕ)) (n : ℕ) (ended : List ℕ) → whole ≡ before ++ ls → n ≡ suc (length before) → n ≤ 4_097 → Keeps ended before →
+walks : (whole before ls : List (List ℕ)) (n : ℕ) (ended : List ℕ) → whole ≡ before ++ ls → n ≡ suc (length before) → n ≤ suc judgedLines → Keeps ended before →
     ((m : ℕ) → 1 ≤ m → m < n → Faultless whole m) → Tells whole (firstFaulty n ended ls)
 unfolding firstFaulty
 walks whole before [] n ended w e h k good =
@@ -138,7 +138,7 @@ walks whole before [] n ended w e h k good =
 walks whole before (l ∷ ls) n ended w e h k good =
     line-tells whole before l ls n ended w e h k good (lineFault n ended l) _ refl
     (λ q.
-    let few : n ≤ 4_096 = few-lines n ended l q in
+    let few : n ≤ judgedLines = few-lines n ended l q in
     walks whole (before ++ l ∷ []) ls (suc n) (endedAfter ended (readLine ofHistories l)) (w ∙ sym (append-assoc before (l ∷ []) ls))
     (omega (arith, length-append before (l ∷ []))) (omega arith) (keeps-more ended before l k) (good-more whole before l ls n ended w e h k good q))
 

@@ -59,11 +59,11 @@ same-answer e f g = λ i. record { said = e i; order = f i; line = g i }
 
 module _ (text buffer : List ℕ) where
   -- where the buffer is too short, 14 is the answer
-  short-is : length buffer < 255 → judgementOf text buffer ≡ record { said = No 0 ShortOrder; order = buffer; line = [] }
+  short-is : length buffer < judgedJobs → judgementOf text buffer ≡ record { said = No 0 ShortOrder; order = buffer; line = [] }
   unfolding judgementOf
   short-is h = rw (lt-ltb (length buffer) judgedJobs h)
 
-  module _ (room : 255 ≤ length buffer) where
+  module _ (room : judgedJobs ≤ length buffer) where
     -- else the lines decide
     lines-decide : judgementOf text buffer ≡ sayLines buffer (linesOf text) (firstFaulty 1 [] (linesOf text))
     unfolding judgementOf

@@ -6,9 +6,9 @@ use mathlib.Core.Bool.{true, false}
 use mathlib.Core.List.{List, [], _∷_, _++_}
 use native.Mathlib.Omega.{arith}
 use lib.ListN.{length}
-use Rattle.conflict.specs.Jobs.{member, distinct}
-use Rattle.conflict.proofs.Parts.{nor-second}
-use Rattle.conflict.proofs.JobLists.{member-first, member-more, once-first}
+use Rattle.laws.specs.Lists.{member, distinct}
+use Rattle.laws.proofs.Lists.{member-first, member-more, once-first}
+use Rattle.laws.proofs.Parts.{nor-second}
 use Rattle.verdicts.specs.Order.{Edges, preceded, ascending}
 use Rattle.verdicts.specs.Knot.{predecessor, walk, least, turnTo, turn, knotIn}
 use Rattle.verdicts.specs.Meant.{Smallest, Walk, Cycle, Shown}

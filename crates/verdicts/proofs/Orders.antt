@@ -6,9 +6,9 @@ use mathlib.Core.Bool.{true, false, not}
 use mathlib.Core.List.{List, []}
 use borrow.Author.Tests.{eqb-true}
 use Rattle.laws.specs.Choice.{by-test, not-both}
-use Rattle.conflict.specs.Jobs.{same, member, distinct, pos}
-use Rattle.conflict.proofs.Parts.{and-both, or-either}
-use Rattle.conflict.proofs.JobLists.{first-ahead, pos-both, member-first, member-more}
+use Rattle.laws.specs.Lists.{same, member, distinct, pos}
+use Rattle.laws.proofs.Lists.{first-ahead, pos-both, member-first, member-more}
+use Rattle.laws.proofs.Parts.{and-both, or-either}
 use Rattle.verdicts.specs.Order.{Edges, without, ascending}
 use Rattle.verdicts.specs.Meant.{Takes, Orderly}
 use Rattle.verdicts.specs.Meant.Takes.{stops, takes}

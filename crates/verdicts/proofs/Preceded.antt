@@ -7,9 +7,9 @@ use mathlib.Core.List.{List, [], _∷_}
 use mathlib.Core.Option.{none, some}
 use borrow.Author.Tests.{eqb-true, not-true, not-false}
 use Rattle.laws.specs.Choice.{not-both}
-use Rattle.conflict.specs.Jobs.{same, member}
-use Rattle.conflict.proofs.Parts.{or-either, or-first, or-second}
-use Rattle.conflict.proofs.JobLists.{member-first, member-more}
+use Rattle.laws.specs.Lists.{same, member}
+use Rattle.laws.proofs.Lists.{member-first, member-more}
+use Rattle.laws.proofs.Parts.{or-either, or-first, or-second}
 use Rattle.verdicts.specs.Order.{Edges, preceded, ready, ascending}
 use Rattle.verdicts.specs.Meant.{Smallest}
 use Rattle.verdicts.proofs.Firsts.{first-is, first-none, first-smallest}

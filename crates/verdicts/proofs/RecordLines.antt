@@ -1,12 +1,13 @@
 -- The lines of a history's text are its records: each is one line with its newline (01, Lines).
 -- Assumes nothing.
 use Prim.Native.Nat.{ℕ, _≤_}
-use mathlib.Core.Path.{_≡_, refl, ap, _∙_}
+use mathlib.Core.Path.{_≡_, refl, sym, ap, _∙_}
 use mathlib.Core.Bool.{Bool, true, false, not, _&&_}
-use mathlib.Core.List.{List, [], _∷_, _++_, map, dropLast}
+use mathlib.Core.List.{List, [], _∷_, _++_, append-assoc, map, dropLast}
 use native.Mathlib.Omega.{arith}
 use lib.Dec.{eqb, leb}
 use borrow.Author.Tests.{leb-true, ne-eqb}
+use Rattle.laws.proofs.Parts.{and-first, and-second, and-both}
 use Rattle.terms.specs.declared.letters.Ask.the-variants.{Read as asks-read, Write as asks-write, Increment as asks-increment}
 use Rattle.terms.specs.declared.letters.Letter.{Letter}
 use Rattle.terms.specs.declared.letters.Letter.the-variants.{Begin, Commit, GiveUp, Retry, Back, Asks}
@@ -15,7 +16,6 @@ use Rattle.terms.specs.Words.{newline}
 use Rattle.conflict.specs.declared.action.Event.{Event}
 use Rattle.conflict.specs.declared.action.Event.the-variants.{Does, Ends}
 use Rattle.conflict.specs.History.{History}
-use Rattle.conflict.proofs.Parts.{and-first, and-second, and-both}
 use Rattle.text.specs.Lines.{isDigit}
 use Rattle.text.specs.Decimal.{decimal}
 use Rattle.text.specs.Records.{field, lineRecord}
@@ -101,6 +101,12 @@ every-event : (f : List ℕ → Bool) → ((e : Event) → f (eventLine e) ≡ t
 unfolding every
 every-event f each [] = refl
 every-event f each (e ∷ h) = and-both (f (eventLine e)) (every f (map eventLine h)) (each e) (every-event f each h)
+
+-- the text of some events and then of others
+pub text-append : (h k : History) → textOf (h ++ k) ≡ textOf h ++ textOf k
+unfolding textOf
+text-append [] k = refl
+text-append (e ∷ h) k = ap (λ t. eventLine e ++ t) (text-append h k) ∙ sym (append-assoc (eventLine e) (textOf h) (textOf k))
 
 -- the text is its records, joined
 text-joined : (h : History) → textOf h ≡ joined (map eventLine h)

@@ -6,8 +6,8 @@ use mathlib.Core.Bool.{Bool, true, false, cond}
 use mathlib.Core.List.{List, [], _∷_}
 use borrow.Author.Tests.{eqb-true}
 use Rattle.laws.specs.Choice.{by-test, not-both}
-use Rattle.conflict.specs.Jobs.{same, member}
-use Rattle.conflict.proofs.JobLists.{member-first, member-more}
+use Rattle.laws.specs.Lists.{same, member}
+use Rattle.laws.proofs.Lists.{member-first, member-more}
 use Rattle.verdicts.specs.Order.{Edges, preceded, without, stuck}
 use Rattle.verdicts.specs.Meant.{Takes}
 use Rattle.verdicts.specs.Meant.Takes.{stops, takes}

@@ -8,8 +8,8 @@ use native.Mathlib.Omega.{arith}
 use lib.ListN.{length}
 use borrow.Author.Tests.{eqb-true, not-true}
 use Rattle.laws.specs.Choice.{by-test, not-both}
-use Rattle.conflict.specs.Jobs.{same, member}
-use Rattle.conflict.proofs.JobLists.{member-first, member-later, member-more}
+use Rattle.laws.specs.Lists.{same, member}
+use Rattle.laws.proofs.Lists.{member-first, member-later, member-more}
 use Rattle.verdicts.specs.Order.{Edges, preceded, ready, without, ascending, ends, leads, taken, orderOf, stuck}
 use Rattle.verdicts.specs.Meant.{Fits, SmallestFirst, Smallest, Takes}
 use Rattle.verdicts.specs.Meant.Takes.{stops, takes}

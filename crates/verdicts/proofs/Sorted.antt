@@ -9,9 +9,9 @@ use native.Mathlib.Omega.{arith}
 use lib.Dec.{ltb}
 use borrow.Author.Tests.{eqb-true, eqb-false, ltb-true, ltb-false, lt-ltb}
 use Rattle.laws.specs.Choice.{by-test, not-both}
-use Rattle.conflict.specs.Jobs.{same, member, distinct}
-use Rattle.conflict.proofs.Parts.{and-first, and-second, and-both, or-either, or-swap}
-use Rattle.conflict.proofs.JobLists.{member-first, member-later, member-more, once-first}
+use Rattle.laws.specs.Lists.{same, member, distinct}
+use Rattle.laws.proofs.Lists.{member-first, member-later, member-more, once-first}
+use Rattle.laws.proofs.Parts.{and-first, and-second, and-both, or-either, or-swap}
 use Rattle.verdicts.specs.Order.{under, ascending}
 use Rattle.verdicts.specs.Judged.{insert, sorted}
 use Rattle.verdicts.proofs.Firsts.{under-each, head-least}

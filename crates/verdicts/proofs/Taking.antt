@@ -8,7 +8,7 @@ use mathlib.Core.Option.{none}
 use native.Mathlib.Omega.{arith}
 use lib.ListN.{length}
 use Rattle.laws.specs.Choice.{not-both}
-use Rattle.conflict.specs.Jobs.{member}
+use Rattle.laws.specs.Lists.{member}
 use Rattle.verdicts.specs.Order.{Edges, ready, without, ends, leads, taken, orderOf, stuck}
 use Rattle.verdicts.specs.Meant.{Takes}
 use Rattle.verdicts.specs.Meant.Takes.{stops, takes}

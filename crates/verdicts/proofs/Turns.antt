@@ -8,9 +8,9 @@ use native.Mathlib.Omega.{arith}
 use lib.Dec.{ltb}
 use borrow.Author.Tests.{eqb-true, ltb-true, ltb-false}
 use Rattle.laws.specs.Choice.{by-test, not-both}
-use Rattle.conflict.specs.Jobs.{same, member, distinct}
-use Rattle.conflict.proofs.Parts.{and-both, or-either, nor-first, nor-second}
-use Rattle.conflict.proofs.JobLists.{same-refl, same-sym, member-first, member-later, member-more, once-first, once-rest}
+use Rattle.laws.specs.Lists.{same, member, distinct}
+use Rattle.laws.proofs.Lists.{same-refl, same-sym, member-first, member-later, member-more, once-first, once-rest}
+use Rattle.laws.proofs.Parts.{and-both, or-either, nor-first, nor-second}
 use Rattle.verdicts.specs.Knot.{upTo, from, least}
 use Rattle.verdicts.proofs.Joined.{member-append}
 

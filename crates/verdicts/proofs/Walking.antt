@@ -9,10 +9,10 @@ use native.Mathlib.Omega.{arith}
 use lib.ListN.{length}
 use borrow.Author.Tests.{eqb-true}
 use Rattle.laws.specs.Choice.{by-test, not-both}
-use Rattle.conflict.specs.Jobs.{same, member, distinct}
+use Rattle.laws.specs.Lists.{same, member, distinct}
+use Rattle.laws.proofs.Lists.{member-first, member-more, once-first, once-rest, member-other}
+use Rattle.laws.proofs.Parts.{and-both, or-either}
 use Rattle.conflict.specs.Schedule.{path, knot}
-use Rattle.conflict.proofs.Parts.{and-both, or-either}
-use Rattle.conflict.proofs.JobLists.{member-first, member-more, once-first, once-rest, member-other}
 use Rattle.conflict.proofs.Ways.{path-edge, path-more, knot-of}
 use Rattle.verdicts.specs.Order.{Edges, preceded, without, ascending}
 use Rattle.verdicts.specs.Knot.{predecessor, upTo, walk}

@@ -9,9 +9,9 @@ use lib.ListN.{length}
 use lib.Dec.{ltb}
 use borrow.Author.Tests.{eqb-true}
 use Rattle.laws.specs.Choice.{by-test, not-both}
-use Rattle.conflict.specs.Jobs.{same, member}
-use Rattle.conflict.proofs.Parts.{and-first, and-second, and-both}
-use Rattle.conflict.proofs.JobLists.{member-later}
+use Rattle.laws.specs.Lists.{same, member}
+use Rattle.laws.proofs.Lists.{member-later}
+use Rattle.laws.proofs.Parts.{and-first, and-second, and-both}
 use Rattle.verdicts.specs.Order.{under, ascending, without}
 
 -- the job is gone

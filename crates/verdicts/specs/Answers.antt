@@ -5,10 +5,11 @@ use mathlib.Core.Bool.{Bool, true, not, _&&_}
 use mathlib.Core.List.{List, [], _∷_, _++_}
 use lib.Dec.{eqb}
 use lib.ListN.{length, take, drop}
+use Rattle.laws.specs.Lists.{member, distinct}
 use Rattle.terms.specs.declared.refusals.Refusal.{Refusal}
 use Rattle.terms.specs.declared.refusals.Refusal.the-variants.{ShortOrder}
 use Rattle.terms.specs.Words.{newline}
-use Rattle.conflict.specs.Jobs.{member, distinct}
+use Rattle.terms.specs.Limits.{judgedJobs}
 use Rattle.conflict.specs.Schedule.{Equivalent, serial, edge}
 use Rattle.conflict.specs.History.{History, isCommit, marked, committedPart}
 use Rattle.text.specs.Split.{linesOf, joined}
@@ -48,7 +49,7 @@ pub record InOrder (h : History) (before after : List ℕ) (n : ℕ) : Type 0 wh
   pub order : List ℕ
   pub fills : Fills order before after
   pub count : n ≡ length order
-  pub most : n ≤ 255
+  pub most : n ≤ judgedJobs
   pub serially : Equivalent (committedPart h) (serial order (committedPart h))
   pub once : distinct order ≡ true
   pub names : (j : ℕ) → member j order ≡ marked isCommit j h
@@ -60,7 +61,7 @@ pub record InKnot (h : History) (before after : List ℕ) (n : ℕ) : Type 0 whe
   pub knot : List ℕ
   pub fills : Fills knot before after
   pub count : n ≡ length knot
-  pub most : n ≤ 255
+  pub most : n ≤ judgedJobs
   pub shows : Knotted (edge (committedPart h)) (jobsOf h) knot
   pub taken : List ℕ
   pub remain : List ℕ
@@ -70,10 +71,10 @@ pub record InKnot (h : History) (before after : List ℕ) (n : ℕ) : Type 0 whe
 -- the judge's answer: 14 where the buffer has fewer than 255 places, before anything else and with line number 0; the refusal of the first faulty line, which is handed back,
 -- and the buffer stays; or of a faultless text orderly or a knot, and no line is handed back
 pub data Answers (text buffer : List ℕ) : Judgement → Type 0 where
-  short : length buffer < 255 → Answers text buffer (record { said = No 0 ShortOrder; order = buffer; line = [] })
-  faulty : {n : ℕ} {why : Refusal} {line : List ℕ} → 255 ≤ length buffer → FirstFault (linesOf text) n why → Stands text n line →
+  short : length buffer < judgedJobs → Answers text buffer (record { said = No 0 ShortOrder; order = buffer; line = [] })
+  faulty : {n : ℕ} {why : Refusal} {line : List ℕ} → judgedJobs ≤ length buffer → FirstFault (linesOf text) n why → Stands text n line →
       Answers text buffer (record { said = No n why; order = buffer; line = line })
-  in-order : {n : ℕ} {after : List ℕ} → 255 ≤ length buffer → AllFaultless (linesOf text) → InOrder (eventsIn (linesOf text)) buffer after n →
+  in-order : {n : ℕ} {after : List ℕ} → judgedJobs ≤ length buffer → AllFaultless (linesOf text) → InOrder (eventsIn (linesOf text)) buffer after n →
       Answers text buffer (record { said = Orderly n; order = after; line = [] })
-  in-knot : {n : ℕ} {after : List ℕ} → 255 ≤ length buffer → AllFaultless (linesOf text) → InKnot (eventsIn (linesOf text)) buffer after n →
+  in-knot : {n : ℕ} {after : List ℕ} → judgedJobs ≤ length buffer → AllFaultless (linesOf text) → InKnot (eventsIn (linesOf text)) buffer after n →
       Answers text buffer (record { said = Knot n; order = after; line = [] })

@@ -5,6 +5,7 @@ use mathlib.Core.List.{List, [], _∷_, _++_}
 use mathlib.Core.Option.{Option, none, some}
 use lib.Dec.{eqb, ltb, leb}
 use Rattle.laws.specs.Choice.{pick}
+use Rattle.laws.specs.Lists.{member}
 use Rattle.terms.specs.declared.letters.Letter.{Letter}
 use Rattle.terms.specs.declared.letters.Letter.the-variants.{Begin, Commit, GiveUp, Retry, Back, Asks}
 use Rattle.terms.specs.declared.refusals.Refusal.{Refusal}
@@ -16,7 +17,6 @@ use Rattle.conflict.specs.declared.action.Mark.the-variants.{Commit as commits,
 use Rattle.conflict.specs.declared.action.Event.{Event}
 use Rattle.conflict.specs.declared.action.Event.the-variants.{Does, Ends}
 use Rattle.conflict.specs.Modes.{recorded}
-use Rattle.conflict.specs.Jobs.{member}
 use Rattle.conflict.specs.History.{History}
 use Rattle.text.specs.declared.reader.Reading.{Reading}
 use Rattle.text.specs.declared.reader.Reading.the-variants.{Good, Bad}

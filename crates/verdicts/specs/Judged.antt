@@ -3,7 +3,7 @@ use Prim.Native.Nat.{ℕ}
 use mathlib.Core.Bool.{Bool, true, false, cond}
 use mathlib.Core.List.{List, [], _∷_}
 use lib.Dec.{ltb}
-use Rattle.conflict.specs.Jobs.{same}
+use Rattle.laws.specs.Lists.{same}
 use Rattle.conflict.specs.Schedule.{edge}
 use Rattle.conflict.specs.History.{History, committedPart, commitOrder}
 use Rattle.verdicts.specs.Order.{Edges, orderOf, stuck}

@@ -5,7 +5,7 @@ use mathlib.Core.List.{List, [], _∷_, _++_}
 use mathlib.Core.Option.{Option}
 use lib.ListN.{length}
 use lib.Dec.{ltb}
-use Rattle.conflict.specs.Jobs.{same, member}
+use Rattle.laws.specs.Lists.{same, member}
 use Rattle.verdicts.specs.Order.{Edges, first, found}
 
 -- the smallest remaining predecessor of j, if it has one

@@ -1,5 +1,5 @@
 -- The judge's refusals of a line as the paper's table prints them: each row by itself, then the order in which the rows are tested. Nothing here speaks of the judge (01, Refusals by number).
-use Prim.Native.Nat.{ℕ, _-_, _≤_, _<_}
+use Prim.Native.Nat.{ℕ, suc, _-_, _≤_, _<_}
 use mathlib.Core.Path.{_≡_}
 use mathlib.Core.Bool.{Bool, true, false, not, _&&_, _||_}
 use mathlib.Core.List.{List, [], _∷_}
@@ -11,6 +11,7 @@ use Rattle.terms.specs.declared.letters.Letter.the-variants.{Begin, Commit, Giv
 use Rattle.terms.specs.declared.refusals.Refusal.{Refusal}
 use Rattle.terms.specs.declared.refusals.Refusal.the-variants.{UnknownKind, CellAbove, NotOpen, Waiting, SentBack, AllOpen, NoNumberLeft, Running, BadLine, StartedAtZero, TooManyLines, JobOutside, Ended, ShortOrder, NoRoom, TooLong}
 use Rattle.terms.specs.Letters.{ofHistories, hasCell}
+use Rattle.terms.specs.Limits.{cells, judgedJobs, judgedLines}
 use Rattle.text.specs.declared.reader.Reading.{Reading}
 use Rattle.text.specs.declared.reader.Reading.the-variants.{Good, Bad}
 use Rattle.text.specs.Lines.{readLine}
@@ -25,7 +26,7 @@ linesBefore ls n = take (n - 1) ls
 
 -- 11: history has a line 4,097
 abbrev pub tooMany : ℕ → Bool
-tooMany n = eqb n 4_097
+tooMany n = eqb n (suc judgedLines)
 
 -- 9: bad line
 abbrev pub isBad : Reading → Bool
@@ -35,12 +36,12 @@ isBad (Good l job cell) = false
 -- 12: job outside 1 to 255
 abbrev pub outside : Reading → Bool
 outside Bad = false
-outside (Good l job cell) = not (leb 1 job && leb job 255)
+outside (Good l job cell) = not (leb 1 job && leb job judgedJobs)
 
 -- 2: cell above 63; r, w and i have a cell
 abbrev pub above : Reading → Bool
 above Bad = false
-above (Good l job cell) = hasCell l && ltb 63 cell
+above (Good l job cell) = hasCell l && leb cells cell
 
 -- the line is a c or an a of this job
 unfoldable pub ends : ℕ → Reading → Bool
@@ -80,6 +81,14 @@ holds n before r Ended = overAlready before r
 holds n before r ShortOrder = false
 holds n before r NoRoom = false
 holds n before r TooLong = false
+
+-- the row of this refusal holds for line n of the lines
+abbrev pub holdsAt : List (List ℕ) → ℕ → Refusal → Bool
+holdsAt ls n why = holds n (linesBefore ls n) (readLine ofHistories (lineAt ls n)) why
+
+-- every line is read back: none is a bad line, none has a cell above 63, and none is for a job that has committed or given up before it (01, refusals 9, 2 and 13)
+abbrev pub AllReadBack : List (List ℕ) → Type 0
+AllReadBack ls = (n : ℕ) → 1 ≤ n → n ≤ length ls → (holdsAt ls n BadLine ≡ false) × (holdsAt ls n CellAbove ≡ false) × (holdsAt ls n Ended ≡ false)
 
 -- the order of the tests: on one line 11, 9, 12, 2, 13
 unfoldable pub order : List Refusal

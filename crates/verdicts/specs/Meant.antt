@@ -3,7 +3,7 @@ use Prim.Native.Nat.{ℕ, _≤_, _<_}
 use mathlib.Core.Path.{_≡_}
 use mathlib.Core.Bool.{Bool, true, false}
 use mathlib.Core.List.{List, [], _∷_, _++_}
-use Rattle.conflict.specs.Jobs.{member, distinct, pos}
+use Rattle.laws.specs.Lists.{member, distinct, pos}
 use Rattle.conflict.specs.Schedule.{knot}
 use Rattle.verdicts.specs.Order.{Edges, preceded, without}
 use Rattle.verdicts.specs.Knot.{upTo}

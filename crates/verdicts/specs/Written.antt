@@ -1,19 +1,22 @@
 -- A history as the text of its records, one after another, as the desk writes them (01, Lines: History records).
-use Prim.Native.Nat.{ℕ}
+use Prim.Native.Nat.{ℕ, _≤_}
+use mathlib.Core.Path.{_≡_}
 use mathlib.Core.Bool.{Bool, true, _&&_}
 use mathlib.Core.List.{List, [], _∷_, _++_}
 use lib.Dec.{leb, ltb}
+use lib.ListN.{length}
 use Rattle.terms.specs.declared.letters.Ask.{Ask}
 use Rattle.terms.specs.declared.letters.Ask.the-variants.{Read as asks-read, Write as asks-write, Increment as asks-increment}
 use Rattle.terms.specs.declared.letters.Letter.{Letter}
 use Rattle.terms.specs.declared.letters.Letter.the-variants.{Commit, GiveUp, Back, Asks}
+use Rattle.terms.specs.Limits.{cells, judgedJobs, judgedLines}
 use Rattle.conflict.specs.declared.action.Kind.{Kind}
 use Rattle.conflict.specs.declared.action.Kind.the-variants.{Read, Write, Increment}
 use Rattle.conflict.specs.declared.action.Mark.{Mark}
 use Rattle.conflict.specs.declared.action.Mark.the-variants.{Commit as commits, GiveUp as gives-up, Back as goes-back}
 use Rattle.conflict.specs.declared.action.Event.{Event}
 use Rattle.conflict.specs.declared.action.Event.the-variants.{Does, Ends}
-use Rattle.conflict.specs.History.{History}
+use Rattle.conflict.specs.History.{History, lineOf}
 use Rattle.text.specs.Records.{lineRecord}
 
 -- r, w or i, by the kind of the action
@@ -38,12 +41,17 @@ unfoldable pub textOf : History → List ℕ
 textOf [] = []
 textOf (e ∷ h) = eventLine e ++ textOf h
 
--- the job of an event is 1 to 255, and its cell is 0 to 63
-unfoldable pub within : Event → Bool
-within (Does a) = (leb 1 (a .job) && leb (a .job) 255) && ltb (a .cell) 64
-within (Ends m j) = leb 1 j && leb j 255
+-- the job of an event is from 1 to the last one, and its cell is 0 to 63
+unfoldable pub within : ℕ → Event → Bool
+within last (Does a) = (leb 1 (a .job) && leb (a .job) last) && ltb (a .cell) cells
+within last (Ends m j) = leb 1 j && leb j last
 
 -- so are all of a history
-unfoldable pub allWithin : History → Bool
-allWithin [] = true
-allWithin (e ∷ h) = within e && allWithin h
+unfoldable pub allWithin : ℕ → History → Bool
+allWithin last [] = true
+allWithin last (e ∷ h) = within last e && allWithin last h
+
+-- a history keeps within the judge's limits: no job above 255, and no event after the 4,096th (01, refusals 12 and 11)
+pub record KeepsLimits (h : History) : Type 0 where
+  pub jobs : (j : ℕ) → lineOf j h ≡ true → j ≤ judgedJobs
+  pub events : length h ≤ judgedLines

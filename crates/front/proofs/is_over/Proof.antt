@@ -1,16 +1,16 @@
 -- `front::is_over` meets its contract, test by test.
 -- Assumes nothing.
 use Rattle.laws.specs.Choice.{cases}
-use Rattle.front.specs.Over.{over}
+use Rattle.runs.specs.Work.{allRead}
 use Rattle.front.proofs.is_over.Statement.{statement}
 use Rattle.front.proofs.is_over.Tie as tie
 
 returns : tie.Need-returns
-unfolding over
+unfolding allRead
 returns c = search cases
 
 returns-2 : tie.Need-returns-2
-unfolding over
+unfolding allRead
 returns-2 c = search cases
 
 pub is-over-spec : {M : Type 1} → statement M

@@ -4,7 +4,7 @@ use Prim.Native.Nat.{_+_, _-_, _≤_}
 use mathlib.Core.Path.{_≡_, refl, _∙_}
 use native.Mathlib.Omega.{arith}
 use lib.ListN.{drop}
-use Rattle.conflict.specs.Jobs.{pos}
+use Rattle.laws.specs.Lists.{pos}
 use Rattle.judge.proofs.Trail.{place-here, place-past, place-end}
 use Rattle.judge.proofs.knots.place_of.Statement.{statement}
 use Rattle.judge.proofs.knots.place_of.Tie as tie

@@ -5,7 +5,7 @@ use Prim.Native.Nat.{_≤_}
 use native.Mathlib.Omega.{arith}
 use lib.ListN.{length}
 use borrow.Author.Tests.{eq-eqb, ne-eqb}
-use Rattle.conflict.specs.Jobs.{pos}
+use Rattle.laws.specs.Lists.{pos}
 use Rattle.board.specs.Steps.{statusOf}
 use Rattle.moves.specs.Plan.{foundAt}
 use Rattle.moves.proofs.Open.{nowhere-free}

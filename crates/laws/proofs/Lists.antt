@@ -1,14 +1,14 @@
--- Laws of lists of jobs: who is in one, whether it names each once, and where a job stands in it.
+-- Laws of lists of numbers, such as jobs: who is in one, whether it names each once, where one stands in it, and one more in front.
 -- Assumes nothing.
 use Prim.Native.Nat.{ℕ, suc, _<_}
 use mathlib.Core.Path.{_≡_, refl, sym, ap, _∙_}
-use mathlib.Core.Bool.{true, false, not}
+use mathlib.Core.Bool.{Bool, true, false, not, _&&_, _||_, and-true, and-false}
 use mathlib.Core.List.{List, _∷_}
 use native.Mathlib.Omega.{arith}
 use borrow.Author.Tests.{eqb-true, eqb-false, eq-eqb, ne-eqb, not-true}
 use Rattle.laws.specs.Choice.{by-test, not-both}
-use Rattle.conflict.specs.Jobs.{same, member, distinct, pos}
-use Rattle.conflict.proofs.Parts.{and-first, and-second}
+use Rattle.laws.specs.Lists.{same, member, distinct, pos, put}
+use Rattle.laws.proofs.Parts.{and-first, and-second}
 
 -- a number is the same as itself
 pub same-refl : (j : ℕ) → same j j ≡ true
@@ -77,3 +77,21 @@ once-rest k ks h = and-second (not (member k ks)) (distinct ks) h
 pub member-other : (k j : ℕ) (ks : List ℕ) → member k ks ≡ false → member j ks ≡ true → same k j ≡ false
 member-other k j ks f h =
     by-test (same k j) (λ t. not-both (ap (λ i. member i ks) (eqb-true k j t) ∙ h) f) (λ g. g)
+
+-- who is in a list with one more where it is listed
+pub member-put : (b : Bool) (i j : ℕ) (js : List ℕ) → member j (put b i js) ≡ ((same i j && b) || member j js)
+unfolding member put
+member-put true i j js = rw and-true
+member-put false i j js = rw and-false
+
+-- a list that names none twice with one more names none twice without it
+pub put-once : (b : Bool) (k : ℕ) (order : List ℕ) → distinct (put b k order) ≡ true → distinct order ≡ true
+unfolding put
+put-once true k order d = once-rest k order d
+put-once false k order d = d
+
+-- of two in a list, one ahead of the other, that one is so too with one more in front
+pub put-ahead : (b : Bool) (k : ℕ) (order : List ℕ) (i j : ℕ) → distinct (put b k order) ≡ true → member i order ≡ true → member j order ≡ true → pos order i < pos order j → pos (put b k order) i < pos (put b k order) j
+unfolding put
+put-ahead true k order i j d p q h = pos-both k order i j (member-other k i order (once-first k order d) p) (member-other k j order (once-first k order d) q) h
+put-ahead false k order i j d p q h = h

@@ -1,4 +1,5 @@
--- Lists of jobs: who is in one, whether it names each once, and where a job stands in it.
+-- Lists of numbers, such as jobs: who is in one, whether it names each once, where one stands in it, and one more in front.
+-- Nothing here is of the paper; the definitions are open to every crate.
 use Prim.Native.Nat.{ℕ, zero, suc}
 use mathlib.Core.Bool.{Bool, true, false, not, _&&_, _||_, cond}
 use mathlib.Core.List.{List, [], _∷_}
@@ -8,17 +9,22 @@ use lib.Dec.{eqb}
 abbrev pub same : ℕ → ℕ → Bool
 same m n = eqb m n
 
--- whether the list names the job
+-- whether the list names the number
 unfoldable pub member : ℕ → List ℕ → Bool
 member j [] = false
 member j (k ∷ ks) = same k j || member j ks
 
--- whether the list names no job twice
+-- whether the list names none twice
 unfoldable pub distinct : List ℕ → Bool
 distinct [] = true
 distinct (k ∷ ks) = not (member k ks) && distinct ks
 
--- how many jobs stand before the first place of this one
+-- how many stand before the first place of this one
 unfoldable pub pos : List ℕ → ℕ → ℕ
 pos [] j = 0
 pos (k ∷ ks) j = cond (same k j) 0 (suc (pos ks j))
+
+-- one more in front where it is to be listed
+unfoldable pub put : Bool → ℕ → List ℕ → List ℕ
+put true i js = i ∷ js
+put false i js = js

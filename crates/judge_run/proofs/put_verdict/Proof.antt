@@ -1,0 +1,61 @@
+-- `judge_run::put_verdict` is safe: the place that the reporter tells lies within the buffer.
+-- Assumes nothing.
+use mathlib.Core.Path.{sym, _∙_}
+use native.Mathlib.Omega.{arith}
+use borrow.Author.Needs.{needs}
+use Rattle.text.proofs.WriterLaws.{next-told}
+use Rattle.judge_run.proofs.put_verdict.Statement.{statement}
+use Rattle.judge_run.proofs.put_verdict.Tie as tie
+
+buffer-requires : tie.Need-buffer-requires
+buffer-requires c κs = search needs
+
+slice-aggregate-write-verdict : tie.Need-slice-aggregate-write-verdict
+slice-aggregate-write-verdict c = search needs
+
+write-verdict-requires : tie.Need-write-verdict-requires
+write-verdict-requires c κs = search needs
+
+enum-known-next : tie.Need-enum-known-next
+enum-known-next c = search needs
+
+sub-write-all : tie.Need-sub-write-all
+sub-write-all c = search needs
+
+part-write-all-start : tie.Need-part-write-all-start
+part-write-all-start c = search needs
+
+part-write-all-end : tie.Need-part-write-all-end
+part-write-all-end c = let h = next-told _ _ _ _ (sym (c .before .before .before .before .before .write-verdict .ensures .0) ∙ c .before .before .next .given .1) in omega arith
+
+write-all-requires : tie.Need-write-all-requires
+write-all-requires c κs = search needs
+
+enum-told : tie.Need-enum-told
+enum-told c = search needs
+
+put-mark-requires : tie.Need-put-mark-requires
+put-mark-requires c κs = search needs
+
+returns : tie.Need-returns
+returns c = search needs
+
+returns-2 : tie.Need-returns-2
+returns-2 c = search needs
+
+pub put-verdict-spec : {M : Type 1} → statement M
+put-verdict-spec =
+    tie.close
+    (tie.spec
+    buffer-requires
+    slice-aggregate-write-verdict
+    write-verdict-requires
+    enum-known-next
+    sub-write-all
+    part-write-all-start
+    part-write-all-end
+    write-all-requires
+    enum-told
+    put-mark-requires
+    returns
+    returns-2)

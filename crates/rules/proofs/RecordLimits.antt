@@ -1,0 +1,53 @@
+-- The numbers in a history that the desk writes: each job is from 1 to 4,294,967,295, and each cell is one of the 64 (01, Jobs and their numbers; 01, refusal 2).
+-- Assumes nothing.
+use Prim.Native.Nat.{ℕ, _≤_, _<_}
+use mathlib.Core.Path.{_≡_, sym, _∙_, subst}
+use mathlib.Core.Bool.{true}
+use Rattle.laws.specs.Choice.{not-both}
+use Rattle.terms.specs.Limits.{cells, lastNumber}
+use Rattle.conflict.specs.declared.action.Action.{Action}
+use Rattle.conflict.specs.declared.action.Event.the-variants.{Does}
+use Rattle.conflict.specs.History.{History, lineOf}
+use Rattle.laws.proofs.Parts.{or-either}
+use Rattle.conflict.proofs.OneEvent.{line-none}
+use Rattle.conflict.proofs.Appended.{line-append}
+use Rattle.rules.specs.Desk.{Desk, Request}
+use Rattle.rules.specs.Rules.{Outcome, wake, rowsAfter}
+use Rattle.rules.specs.Step.{events, Started, fresh, after}
+use Rattle.rules.specs.Histories.{Has}
+use Rattle.rules.proofs.Invariant.{Inv}
+use Rattle.rules.proofs.Kept.{started-inv}
+use Rattle.rules.proofs.RunEnd.{row-releases}
+use Rattle.rules.proofs.Written.{asking, Wrote, nothing, action, mark, step-wrote}
+use Rattle.rules.proofs.WakeRecords.{has-none, has-split, has-either, WakeOf, record-of}
+use Rattle.rules.proofs.NoEventAfterEnd.{line-open}
+use Rattle.rules.proofs.NumberLimits.{open-within}
+use Rattle.rules.proofs.UnderLock.{same-action, no-mark}
+
+-- in every history that the desk writes, a job's number is from 1 to 4,294,967,295
+pub recorded-jobs : {d : Desk} {h : History} → Started d h → (j : ℕ) → lineOf j h ≡ true → (1 ≤ j) × (j ≤ lastNumber)
+recorded-jobs (fresh n _ _) j l = not-both l (line-none j)
+recorded-jobs (after {d = d} {h = h} s r) j l =
+    or-either (lineOf j h) (lineOf j (events d r)) (sym (line-append j h (events d r)) ∙ l) (λ t. recorded-jobs s j t)
+    (λ t. open-within s j (line-open (started-inv s) (step-wrote d r (started-inv s)) j t))
+
+module _ {d : Desk} (v : Inv d) (r : Request) where
+  -- a woken action is on the cell in whose queue its job stood
+  woken-cell : (x : Action) → WakeOf (rowsAfter d (r .job)) x → x .cell < cells
+  unfolding wake
+  woken-cell x k =
+      let w = k .waiter in
+      subst (λ y. y .cell < cells) (sym (k .is)) (v .rows (k .cell) .within w (row-releases v (r .job) (k .cell) .woken-was w (k .granted)))
+
+  -- an action that a step writes is on the cell that was asked for, or on that of a wake
+  wrote-cell : {o : Outcome} {g : History} → Wrote d r o g → (x : Action) → Has (Does x) g → x .cell < cells
+  unfolding asking
+  wrote-cell (nothing w) x h = has-none h
+  wrote-cell (action a k w c) x h = has-split h (λ e. subst (λ y. y .cell < cells) (sym (same-action e)) (k .within)) has-none
+  wrote-cell (mark m s js said o l) x h = has-split h no-mark (λ k. woken-cell x (record-of (rowsAfter d (r .job)) x cells k))
+
+-- in every history that the desk writes, an action's cell is below 64
+pub recorded-cells : {d : Desk} {h : History} → Started d h → (x : Action) → Has (Does x) h → x .cell < cells
+recorded-cells (fresh n _ _) x k = has-none k
+recorded-cells (after {d = d} {h = h} s r) x k =
+    has-either h (events d r) k (λ t. recorded-cells s x t) (wrote-cell (started-inv s) r (step-wrote d r (started-inv s)) x)

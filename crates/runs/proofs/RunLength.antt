@@ -1,0 +1,43 @@
+-- The history of a run has no more records than the run has lines: each line gives one at most, at once or when its job is woken (01, Lines).
+-- Assumes nothing.
+use Prim.Native.Nat.{ℕ, suc, _+_, _≤_}
+use mathlib.Core.Path.{ap}
+use mathlib.Core.List.{List, [], _∷_}
+use native.Mathlib.Omega.{arith}
+use lib.Dec.{ltb}
+use lib.ListN.{length, length-append}
+use Rattle.laws.specs.Choice.{by-test}
+use Rattle.terms.specs.Letters.{byteOf, ofRequests}
+use Rattle.terms.specs.Limits.{cells, requestLines}
+use Rattle.text.specs.declared.reader.Reading.{Reading}
+use Rattle.text.specs.declared.reader.Reading.the-variants.{Good, Bad}
+use Rattle.text.specs.Lines.{readLine}
+use Rattle.text.specs.Split.{linesOf}
+use Rattle.rules.specs.Desk.{Desk, freshDesk}
+use Rattle.rules.specs.Step.{events}
+use Rattle.rules.proofs.OneRecordEach.{waitersOf, none-standing, one-record-each}
+use Rattle.runs.specs.Run.{answered, lineBy, runOf}
+use Rattle.runs.specs.Programs.{onPaper, firstNumber, runOn}
+use Rattle.runs.specs.Shown.{historyOfRun, historyOn}
+use Rattle.runs.proofs.StartedRun.{recorded, bad-records}
+
+-- the records of a line and those who wait after it are at most one more than those who waited before
+line-few : (D : Desk) (n : ℕ) (r : Reading) → length (recorded (answered onPaper D n r .told)) + waitersOf (answered onPaper D n r .desk) ≤ suc (waitersOf D)
+unfolding answered onPaper events
+line-few D n Bad = omega (arith, ap length bad-records)
+line-few D n (Good l job cell) = one-record-each D (record { kind = byteOf l; job = job; cell = cell })
+
+-- so all lines have at most one record each, and one for each who waited before them
+run-few : (D : Desk) (n : ℕ) (ls : List (List ℕ)) → length (historyOfRun (runOf onPaper D n ls)) ≤ waitersOf D + length ls
+unfolding runOf lineBy historyOfRun
+run-few D n [] = omega arith
+run-few D n (l ∷ ls) =
+    let o = answered onPaper D n (readLine ofRequests l) in
+    let rest = historyOfRun (runOf onPaper (o .desk) (n + 1) ls) in
+    by-test (ltb requestLines n) (λ e. rw e (omega arith))
+    (λ e. rw e (omega (arith, length-append (recorded (o .told)) rest, line-few D n (readLine ofRequests l), run-few (o .desk) (n + 1) ls)))
+
+-- on a fresh desk nobody waits: the history of a text has no more records than the text has lines
+pub history-no-longer : (text : List ℕ) → length (historyOn text) ≤ length (linesOf text)
+unfolding runOn
+history-no-longer text = omega (arith, run-few (freshDesk firstNumber) 1 (linesOf text), none-standing firstNumber cells)
