@@ -5,4 +5,3 @@ pub mod Planned
 pub mod Room
 pub mod StepUnique
 pub mod Waiters
-pub mod Wanted

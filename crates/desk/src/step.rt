@@ -62,7 +62,7 @@ pub fn step(mut d: Desk, kind: u8, job: u32, cell: u32) -> Outcome
     ensures { λ r. ⌜ r ≡ stepOf d kind job cell ⌝ }
 {
     let n = d.next;
-    let m = plan(n, &d.held, &d.number, &d.status, &d.cell, kind, job, cell);
+    let m = plan(n, d.number, d.status, &d.cell, &d.held, kind, job, cell);
     let answer = answer_to(m, job);
     match m {
         Move::Refuse(_) => {}

@@ -1,1 +1,2 @@
+pub mod Grants
 pub mod Plan

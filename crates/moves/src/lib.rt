@@ -1,8 +1,4 @@
-// What a step of the desk has to find out before anything changes: tests over the places, and the plan.
+// What a step of the desk has to find out before anything changes: its plan, and for rule 4 who is granted next.
+pub mod grants;
 mod places;
 pub mod plan;
-
-pub use places::agrees;
-pub use places::front_of;
-pub use places::mode_at;
-pub use places::wide;

@@ -257,26 +257,25 @@ fn ask_move<'a>(
 // What a request is to do, by its kind.
 pub fn plan<'a>(
     next: u64,
-    held: &'a [u8; 2048],
-    number: &'a [u32; 32],
-    status: &'a [u8; 32],
+    number: [u32; 32],
+    status: [u8; 32],
     cell: &'a [u8; 32],
+    held: &'a [u8; 2048],
     kind: u8,
     job: u32,
     c: u32,
 ) -> Move
-    requires { ⌜ (length (now number) ≡ 32) × (length (now status) ≡ 32) ⌝ }
-    ensures { λ r. ⌜ r ≡ moveFor (over next (now (number .entry)) (now (status .entry)) (now (cell .entry)) [] (now (held .entry))) job c (letterOf kind) ⌝ }
+    ensures { λ r. ⌜ r ≡ moveFor (over next number status (now (cell .entry)) [] (now (held .entry))) job c (letterOf kind) ⌝ }
 {
     match letter_of(kind) {
         Lettered::Unknown => Move::Refuse(Refusal::UnknownKind),
         Lettered::Known(l) => match l {
             Letter::Back => Move::Refuse(Refusal::UnknownKind),
-            Letter::Begin => begin_move(next, number),
-            Letter::Commit => commit_move(find(number, status, job)),
-            Letter::GiveUp => give_up_move(find(number, status, job)),
-            Letter::Retry => retry_move(find(number, status, job)),
-            Letter::Asks(a) => ask_move(held, number, status, cell, job, c, a),
+            Letter::Begin => begin_move(next, &number),
+            Letter::Commit => commit_move(find(&number, &status, job)),
+            Letter::GiveUp => give_up_move(find(&number, &status, job)),
+            Letter::Retry => retry_move(find(&number, &status, job)),
+            Letter::Asks(a) => ask_move(held, &number, &status, cell, job, c, a),
         },
     }
 }

@@ -20,7 +20,7 @@ drop-locks-requires c κs = search needs
 settle-all-requires : tie.Need-settle-all-requires
 settle-all-requires c κs =
     let s = c .before .before .before .before .before .before .before .args in
-    (search needs, omega (arith, waiters-most (set (s .status) (s .p) (c .before .before .before .before .before .before .code-after .result)) 32))
+    omega (arith, waiters-most (set (s .status) (s .p) (c .before .before .before .before .before .before .code-after .result)) 32)
 
 returns : tie.Need-returns
 unfolding noAction settled

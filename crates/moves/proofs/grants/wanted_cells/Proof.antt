@@ -1,13 +1,13 @@
--- `desk::settling::wanted_cells` meets its contract. The loop's invariant: the cells of the places passed are marked; the measure is what is left of 32.
+-- `moves::grants::wanted_cells` meets its contract. The loop's invariant: the cells of the places passed are marked; the measure is what is left of 32.
 -- Assumes nothing.
 use Prim.Native.Nat.{_≤_, _-_}
 use mathlib.Core.Path.{_≡_, refl, ap, _∙_}
 use mathlib.Core.Logic.{⊎-elim}
 use native.Mathlib.Omega.{arith}
 use Rattle.board.specs.Settling.{wanted}
-use Rattle.desk.proofs.Wanted.{wanted-marked, wanted-outside, wanted-unmarked}
-use Rattle.desk.proofs.settling.wanted_cells.Statement.{statement}
-use Rattle.desk.proofs.settling.wanted_cells.Tie as tie
+use Rattle.moves.proofs.Wanted.{wanted-marked, wanted-outside, wanted-unmarked}
+use Rattle.moves.proofs.grants.wanted_cells.Statement.{statement}
+use Rattle.moves.proofs.grants.wanted_cells.Tie as tie
 
 abbrev Inv-loop : tie.InvT-loop
 Inv-loop status cell cells₀ q₀ cells q = (q ≤ 32) × (cells ≡ wanted status cell q)

@@ -1,9 +1,9 @@
--- `desk::settling::wanted_mode` meets its contract: the definition computes.
+-- `moves::grants::wanted_mode` meets its contract: the definition computes.
 -- Assumes nothing.
 use borrow.Author.Needs.{needs}
 use Rattle.board.specs.Places.{wantsAt}
-use Rattle.desk.proofs.settling.wanted_mode.Statement.{statement}
-use Rattle.desk.proofs.settling.wanted_mode.Tie as tie
+use Rattle.moves.proofs.grants.wanted_mode.Statement.{statement}
+use Rattle.moves.proofs.grants.wanted_mode.Tie as tie
 
 mode-at-requires : tie.Need-mode-at-requires
 mode-at-requires c κs = search needs
