@@ -11,10 +11,10 @@ use Rattle.laws.specs.Choice.{by-test, not-both}
 use Rattle.board.specs.declared.state.Woken.{Woken}
 use Rattle.board.specs.Places.{waitsAt}
 use Rattle.board.specs.Settling.{Settling, wanted, settleCell, settleAll}
-use Rattle.desk.proofs.Front.{front-nobody}
+use Rattle.moves.proofs.Front.{front-nobody}
 use Rattle.desk.proofs.Grants.{stands-empty, settle-stop}
 use Rattle.desk.proofs.Room.{room, NoNewWaiter, waits-status, all-room, all-waiting}
-use Rattle.desk.proofs.Wanted.{unwanted}
+use Rattle.moves.proofs.Wanted.{unwanted}
 
 -- a state by its two parts
 pub both-parts : {h : List ℕ} {t : Woken} {x : Settling} → h ≡ x .held → t ≡ x .told → _≡_ {A = Settling} (record { held = h; told = t }) x

@@ -1,14 +1,7 @@
 pub mod Cells
-pub mod Decides
-pub mod Ended
-pub mod Every
-pub mod Found
-pub mod Front
 pub mod Grants
-pub mod Open
+pub mod Performed
 pub mod Planned
 pub mod Room
 pub mod StepUnique
-pub mod Tests
 pub mod Waiters
-pub mod Wanted

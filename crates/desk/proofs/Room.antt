@@ -16,7 +16,7 @@ use Rattle.board.specs.Codes.{runningCode, waitingCode}
 use Rattle.board.specs.Places.{waitsAt, waiters}
 use Rattle.board.specs.Settling.{Settling, woken, granted, grantFront, settleCell, settleAll}
 use Rattle.desk.proofs.Waiters.{waiters-less}
-use Rattle.desk.proofs.Front.{front-waits}
+use Rattle.moves.proofs.Front.{front-waits}
 use Rattle.desk.proofs.Grants.{front, mayGrant, grant-stands, grant-grants}
 
 -- a place that waits for a cell has the status of one that waits

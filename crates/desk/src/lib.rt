@@ -1,5 +1,3 @@
 // The desk that runs: a step over the arrays, in the order of the paper's rules.
-mod places;
-mod plan;
 mod settling;
 pub mod step;

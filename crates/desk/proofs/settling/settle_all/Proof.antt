@@ -26,7 +26,7 @@ array-read-if1 : tie.Need-array-read-if1 Inv-loop μ-loop
 array-read-if1 c = omega arith
 
 settle-cell-requires : tie.Need-settle-cell-requires Inv-loop μ-loop
-settle-cell-requires c κs = (omega arith, c .before .before .before .before .before .before .before .pre .0, cells-room _ _ _ _ _ (c .before .before .before .loop .inv .1) (c .before .before .before .before .before .before .before .pre .1))
+settle-cell-requires c κs = (omega arith, cells-room _ _ _ _ _ (c .before .before .before .loop .inv .1) (c .before .before .before .before .before .before .before .pre))
 
 add-c : tie.Need-add-c Inv-loop μ-loop
 add-c c = omega arith

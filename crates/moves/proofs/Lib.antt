@@ -1,0 +1,9 @@
+pub mod Decides
+pub mod Every
+pub mod Found
+pub mod Front
+pub mod Granting
+pub mod Open
+pub mod Tests
+pub mod Unique
+pub mod Wanted
