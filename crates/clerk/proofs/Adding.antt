@@ -10,14 +10,14 @@ use Rattle.terms.specs.declared.letters.Letter.{Letter}
 use Rattle.terms.specs.declared.refusals.Refusal.{Refusal}
 use Rattle.terms.specs.Letters.{hasJob, hasCell}
 use Rattle.terms.specs.Limits.{lastNumber}
-use Rattle.text.specs.declared.writer.Written.{Written}
-use Rattle.text.specs.declared.writer.Written.the-variants.{Next, Refused}
-use Rattle.text.specs.Records.{lineRecord, told, left}
-use Rattle.text.specs.Wrote.{Wrote}
-use Rattle.text.proofs.Length.{line-length}
-use Rattle.text.proofs.FieldLaws.{field-at-most}
-use Rattle.text.proofs.WriterLaws.{next-wrote, not-refused}
-use Rattle.text.proofs.WroteLaws.{wrote-none, wrote-then, wrote-as, wrote-length}
+use Rattle.formats.specs.declared.Written.{Written}
+use Rattle.formats.specs.declared.Written.the-variants.{Next, Refused}
+use Rattle.formats.specs.Records.{lineRecord, told, left}
+use Rattle.formats.specs.Wrote.{Wrote}
+use Rattle.formats.proofs.Length.{line-length}
+use Rattle.formats.proofs.FieldLaws.{field-at-most}
+use Rattle.formats.proofs.WriterLaws.{next-wrote, not-refused}
+use Rattle.formats.proofs.WroteLaws.{wrote-none, wrote-then, wrote-as, wrote-length}
 use Rattle.clerk.specs.Parts.{Added}
 
 -- no line of a letter with numbers of 32 bits is longer than 24 bytes

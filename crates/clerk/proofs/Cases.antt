@@ -11,7 +11,7 @@ use Rattle.terms.specs.declared.words.Word.the-variants.{Wake, No}
 use Rattle.terms.specs.declared.refusals.Refusal.the-variants.{BadLine}
 use Rattle.terms.specs.Refusals.{numberOf}
 use Rattle.conflict.specs.declared.action.Action.{Action}
-use Rattle.text.specs.Records.{answerRecord, lineRecord}
+use Rattle.formats.specs.Records.{answerRecord, lineRecord}
 use Rattle.rules.specs.declared.Answer.{Answer}
 use Rattle.runs.specs.declared.View.{View}
 use Rattle.runs.specs.declared.View.the-variants.{Answers, History}

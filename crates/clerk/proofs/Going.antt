@@ -8,15 +8,15 @@ use native.Mathlib.Omega.{arith}
 use lib.ListN.{length}
 use Rattle.terms.specs.declared.letters.Letter.{Letter}
 use Rattle.terms.specs.Letters.{byteOf, ofRequests}
-use Rattle.text.specs.declared.reader.Reading.{Reading}
-use Rattle.text.specs.declared.reader.Reading.the-variants.{Good, Bad}
-use Rattle.text.specs.declared.splitter.Splitter.{Splitter}
-use Rattle.text.specs.declared.splitter.Cut.{Cut}
-use Rattle.text.specs.Lines.{readLine}
-use Rattle.text.specs.Split.{cutOf, foundAt}
-use Rattle.text.specs.Wrote.{Wrote}
-use Rattle.text.proofs.Cuts.{cut-ahead}
-use Rattle.text.proofs.WroteLaws.{wrote-as, wrote-length}
+use Rattle.formats.specs.declared.Reading.{Reading}
+use Rattle.formats.specs.declared.Reading.the-variants.{Good, Bad}
+use Rattle.formats.specs.declared.splitter.Splitter.{Splitter}
+use Rattle.formats.specs.declared.splitter.Cut.{Cut}
+use Rattle.formats.specs.Lines.{readLine}
+use Rattle.formats.specs.Split.{cutOf, foundAt}
+use Rattle.formats.specs.Wrote.{Wrote}
+use Rattle.formats.proofs.Cuts.{cut-ahead}
+use Rattle.formats.proofs.WroteLaws.{wrote-as, wrote-length}
 use Rattle.board.specs.declared.state.Outcome.{Outcome}
 use Rattle.board.specs.Steps.{stepOf}
 use Rattle.runs.specs.declared.Clerk.{Clerk}

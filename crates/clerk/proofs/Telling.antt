@@ -14,7 +14,7 @@ use Rattle.terms.proofs.Alphabet.{letter-of-byte}
 use Rattle.conflict.specs.declared.action.Action.{Action}
 use Rattle.conflict.specs.Modes.{recorded}
 use Rattle.conflict.proofs.Clauses.{records-read, records-write, records-increment}
-use Rattle.text.specs.Records.{lineRecord}
+use Rattle.formats.specs.Records.{lineRecord}
 use Rattle.rules.specs.declared.Answer.{Answer}
 use Rattle.rules.specs.declared.Answer.the-variants.{Go, Wait, Back as goes-back, No}
 use Rattle.rules.specs.Desk.{Request}

@@ -9,8 +9,8 @@ use lib.ListN.{length, take, getD, length-append}
 use lib.Seq.{take-suc, take-all}
 use Rattle.terms.specs.declared.letters.Letter.{Letter}
 use Rattle.conflict.specs.declared.action.Action.{Action}
-use Rattle.text.specs.Wrote.{Wrote}
-use Rattle.text.proofs.WroteLaws.{wrote-then, wrote-as}
+use Rattle.formats.specs.Wrote.{Wrote}
+use Rattle.formats.proofs.WroteLaws.{wrote-then, wrote-as}
 use Rattle.board.specs.declared.state.Said.{Said}
 use Rattle.runs.specs.declared.View.{View}
 use Rattle.clerk.specs.Parts.{Added, firstRecord, wakeRecord, wakeRecords, lineRecords}

@@ -6,8 +6,8 @@ use Rattle.terms.specs.declared.letters.Letter.{Letter}
 use Rattle.terms.specs.declared.letters.Letter.the-variants.{Begin, Commit, GiveUp, Retry, Back, Asks}
 use Rattle.terms.specs.declared.words.Word.the-variants.{Wake}
 use Rattle.conflict.specs.declared.action.Action.{Action}
-use Rattle.text.specs.Records.{answerRecord, lineRecord}
-use Rattle.text.specs.Wrote.{Wrote}
+use Rattle.formats.specs.Records.{answerRecord, lineRecord}
+use Rattle.formats.specs.Wrote.{Wrote}
 use Rattle.rules.specs.declared.Answer.{Answer}
 use Rattle.rules.specs.declared.Answer.the-variants.{Go, Wait, Back as goes-back, No}
 use Rattle.board.specs.declared.state.Said.{Said}

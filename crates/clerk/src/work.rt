@@ -2,22 +2,22 @@
 use crate::records::put_bad;
 use crate::records::put_records;
 use desk::step::step;
+use formats::Reading;
+use formats::splitter::KEPT;
+use formats::splitter::Splitter;
 use runs::Clerk;
 use runs::Finished;
 use runs::View;
 use runs::Worked;
 use terms::letters::byte_of;
 use terms::limits::REQUEST_LINES;
-use text::reader::Reading;
 use text::reader::read_request;
-use text::splitter::KEPT;
-use text::splitter::Splitter;
 ghost use mathlib.Core.Path.{_≡_};
 ghost use Prim.Native.Nat.{_+_};
 ghost use lib.Dec.{leb};
 ghost use Rattle.terms.specs.Letters.{ofRequests};
-ghost use Rattle.text.specs.Lines.{readLine};
-ghost use Rattle.text.specs.Split.{Found, foundAt};
+ghost use Rattle.formats.specs.Lines.{readLine};
+ghost use Rattle.formats.specs.Split.{Found, foundAt};
 ghost use Rattle.runs.specs.Work.{lineRoom, due, owing, workOf, finishOf};
 
 // No line has more bytes of records: its own record and at most 32 wakes, each of at most 24 bytes.

@@ -1,12 +1,12 @@
 // The front of both desk programs: chunk after chunk of standard input to the clerk, and the records to standard output (01, What is delivered).
 use clerk::work::finish;
 use clerk::work::work;
+use formats::splitter::Splitter;
 use libc::STDIN_FILENO;
 use libc::STDOUT_FILENO;
 use runs::Clerk;
 use runs::View;
 use terms::limits::REQUEST_LINES;
-use text::splitter::Splitter;
 ghost use mathlib.Core.Path.{_≡_};
 ghost use Prim.Native.Nat.{_≤_};
 ghost use lib.ListN.{length};

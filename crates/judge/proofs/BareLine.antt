@@ -10,8 +10,8 @@ use lib.ListN.{length, getD, take, drop, length-drop}
 use lib.Seq.{getD-drop}
 use Rattle.laws.specs.Choice.{by-test}
 use Rattle.terms.specs.Words.{newline}
-use Rattle.text.specs.Split.{used}
-use Rattle.text.proofs.Cutting.{used-within, used-some}
+use Rattle.formats.specs.Split.{used}
+use Rattle.formats.proofs.Cutting.{used-within, used-some}
 use Rattle.verdicts.specs.HistoryText.{bare}
 use Rattle.judge.specs.Scanned.{bareEnd}
 

@@ -13,9 +13,9 @@ use Rattle.terms.specs.declared.letters.Letter.the-variants.{Begin, Commit, Giv
 use Rattle.terms.specs.declared.refusals.Refusal.{Refusal}
 use Rattle.terms.specs.Letters.{ofHistories}
 use Rattle.terms.specs.Limits.{judgedLines}
-use Rattle.text.specs.declared.reader.Reading.{Reading}
-use Rattle.text.specs.declared.reader.Reading.the-variants.{Good, Bad}
-use Rattle.text.specs.Lines.{readLine}
+use Rattle.formats.specs.declared.Reading.{Reading}
+use Rattle.formats.specs.declared.Reading.the-variants.{Good, Bad}
+use Rattle.formats.specs.Lines.{readLine}
 use Rattle.verdicts.specs.HistoryText.{Faulty, lineFault, orLater, endedAfter, firstFaulty, eventOf, eventsIn}
 
 -- nothing found is not something found

@@ -9,7 +9,7 @@ use lib.ListN.{length, take, drop, getD}
 use Rattle.terms.specs.declared.refusals.Refusal.{Refusal}
 use Rattle.terms.specs.declared.refusals.Refusal.the-variants.{ShortOrder}
 use Rattle.terms.specs.Limits.{judgedJobs, judgedLines}
-use Rattle.text.specs.Split.{linesOf}
+use Rattle.formats.specs.Split.{linesOf}
 use Rattle.verdicts.specs.declared.verdict.Verdict.{Verdict}
 use Rattle.verdicts.specs.declared.verdict.Verdict.the-variants.{No}
 use Rattle.verdicts.specs.Judged.{orderly, knotted, verdictOf}

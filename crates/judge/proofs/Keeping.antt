@@ -18,10 +18,10 @@ use Rattle.terms.specs.declared.refusals.Refusal.{Refusal}
 use Rattle.terms.specs.Letters.{ofHistories}
 use Rattle.terms.specs.Limits.{cells, judgedJobs, judgedLines}
 use Rattle.conflict.proofs.Clauses.{records-read, records-write, records-increment}
-use Rattle.text.specs.declared.reader.Reading.{Reading}
-use Rattle.text.specs.declared.reader.Reading.the-variants.{Good, Bad}
-use Rattle.text.specs.Lines.{readLine}
-use Rattle.text.proofs.GoodLine.{good-is-record}
+use Rattle.formats.specs.declared.Reading.{Reading}
+use Rattle.formats.specs.declared.Reading.the-variants.{Good, Bad}
+use Rattle.formats.specs.Lines.{readLine}
+use Rattle.formats.proofs.GoodLine.{good-is-record}
 use Rattle.verdicts.specs.HistoryText.{endedAfter, eventOf}
 use Rattle.verdicts.specs.Arrays.{eventBy}
 use Rattle.judge.specs.declared.scan.Looked.the-variants.{Kept, Refused}

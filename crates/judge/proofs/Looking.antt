@@ -14,10 +14,10 @@ use Rattle.terms.specs.declared.letters.Letter.{Letter}
 use Rattle.terms.specs.declared.refusals.Refusal.{Refusal}
 use Rattle.terms.specs.Letters.{ofHistories, hasCell}
 use Rattle.terms.specs.Limits.{cells, judgedJobs, judgedLines}
-use Rattle.text.specs.declared.reader.Reading.{Reading}
-use Rattle.text.specs.declared.reader.Reading.the-variants.{Good, Bad}
-use Rattle.text.specs.Lines.{readLine}
-use Rattle.text.proofs.GoodLine.{good-is-record}
+use Rattle.formats.specs.declared.Reading.{Reading}
+use Rattle.formats.specs.declared.Reading.the-variants.{Good, Bad}
+use Rattle.formats.specs.Lines.{readLine}
+use Rattle.formats.proofs.GoodLine.{good-is-record}
 use Rattle.verdicts.specs.HistoryText.{faultOfGood, faultOf, lineFault}
 use Rattle.judge.specs.declared.scan.Looked.{Looked}
 use Rattle.judge.specs.declared.scan.Looked.the-variants.{Kept, Refused}

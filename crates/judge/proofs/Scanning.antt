@@ -13,10 +13,10 @@ use Rattle.terms.specs.declared.refusals.Refusal.{Refusal}
 use Rattle.terms.specs.Letters.{ofHistories}
 use Rattle.terms.specs.Limits.{judgedLines}
 use Rattle.conflict.specs.declared.action.Event.{Event}
-use Rattle.text.specs.Lines.{readLine}
-use Rattle.text.specs.Split.{linesOf, used}
-use Rattle.text.proofs.Cutting.{used-within, used-some}
-use Rattle.text.proofs.TextLines.{lines-at}
+use Rattle.formats.specs.Lines.{readLine}
+use Rattle.formats.specs.Split.{linesOf, used}
+use Rattle.formats.proofs.Cutting.{used-within, used-some}
+use Rattle.formats.proofs.TextLines.{lines-at}
 use Rattle.verdicts.specs.HistoryText.{lineFault, orLater, endedAfter, firstFaulty, eventOf, eventsIn}
 use Rattle.verdicts.specs.Arrays.{eventBy, historyBy}
 use Rattle.judge.specs.declared.scan.Looked.{Looked}

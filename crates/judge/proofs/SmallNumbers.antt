@@ -14,7 +14,7 @@ use Rattle.terms.specs.Limits.{judgedJobs, judgedLines}
 use Rattle.conflict.specs.declared.action.Event.the-variants.{Does, Ends}
 use Rattle.conflict.specs.History.{History, isCommit, commitOrder}
 use Rattle.conflict.proofs.OneEvent.{order-none, order-does, order-ends}
-use Rattle.text.specs.Split.{linesOf}
+use Rattle.formats.specs.Split.{linesOf}
 use Rattle.verdicts.specs.Judged.{orderly, knotted, insert, sorted, jobsOf, verdictOf}
 use Rattle.verdicts.specs.HistoryText.{Faulty, firstFaulty, eventsIn}
 use Rattle.verdicts.specs.Judgement.{sayVerdict, sayLines, judgementOf}

@@ -1,9 +1,3 @@
 pub mod Looked
 pub mod Scanned
 pub mod Judged
-pub mod Lists
-pub mod Counted
-pub mod Meeting
-pub mod Grouped
-pub mod Left
-pub mod Rounds

@@ -11,9 +11,9 @@ use Rattle.terms.specs.declared.letters.Letter.the-variants.{Begin, Commit, Giv
 use Rattle.terms.specs.declared.refusals.Refusal.the-variants.{BadLine, CellAbove, TooManyLines, JobOutside, Ended}
 use Rattle.terms.specs.Letters.{ofHistories}
 use Rattle.terms.specs.Limits.{cells, judgedJobs, judgedLines}
-use Rattle.text.specs.declared.reader.Reading.{Reading}
-use Rattle.text.specs.declared.reader.Reading.the-variants.{Good, Bad}
-use Rattle.text.specs.Lines.{readLine}
+use Rattle.formats.specs.declared.Reading.{Reading}
+use Rattle.formats.specs.declared.Reading.the-variants.{Good, Bad}
+use Rattle.formats.specs.Lines.{readLine}
 use Rattle.judge.specs.declared.scan.Looked.{Looked}
 use Rattle.judge.specs.declared.scan.Looked.the-variants.{Kept, Refused}
 

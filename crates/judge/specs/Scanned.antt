@@ -11,7 +11,7 @@ use Rattle.laws.specs.Lists.{member}
 use Rattle.terms.specs.declared.refusals.Refusal.{Refusal}
 use Rattle.terms.specs.Words.{newline}
 use Rattle.terms.specs.Limits.{judgedLines}
-use Rattle.text.specs.Split.{linesOf}
+use Rattle.formats.specs.Split.{linesOf}
 use Rattle.verdicts.specs.HistoryText.{firstFaulty, eventsIn, bare}
 use Rattle.verdicts.specs.Arrays.{historyBy}
 use Rattle.judge.specs.declared.scan.Scanned.{Scanned}

@@ -1,7 +1,7 @@
 // The judge's two entries: one tells the verdict, and one hands back the faulty line too, with the verdict in three numbers (01, The judge's rules).
-use crate::decide::decide;
 use crate::scan::Scanned;
 use crate::scan::scan;
+use deciding::kept::judge_kept;
 use terms::limits::JUDGED_JOBS;
 use terms::limits::JUDGED_LINES;
 use terms::refusals::Refusal;
@@ -37,7 +37,7 @@ fn judgement(text: &[u8], order: &mut [u8]) -> Judged
     let mut cells = [0u8; JUDGED_LINES];
     match scan(text, &mut codes, &mut jobs, &mut cells) {
         Scanned::Faultless(n) => {
-            let said = decide(&codes, &jobs, &cells, n, order);
+            let said = judge_kept(&codes, &jobs, &cells, n, order);
             Judged {
                 said,
                 from: 0,

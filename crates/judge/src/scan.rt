@@ -1,4 +1,6 @@
 // The scanning half of the judge: the lines of a history text in order, what each says kept as three numbers, up to the first faulty one (01, Refusals by number).
+use formats::Reading;
+use formats::splitter::line_end;
 use terms::letters::Ask;
 use terms::letters::Letter;
 use terms::limits::CELLS;
@@ -6,9 +8,7 @@ use terms::limits::JUDGED_JOBS;
 use terms::limits::JUDGED_LINES;
 use terms::refusals::Refusal;
 use terms::words::NEWLINE;
-use text::reader::Reading;
 use text::reader::read_history;
-use text::splitter::line_end;
 ghost use mathlib.Core.Path.{_≡_};
 ghost use Prim.Native.Nat.{_≤_, _<_};
 ghost use lib.ListN.{length};

@@ -1,5 +1,6 @@
 // Runs the judge by cases: a line `= N` opens a case, the lines up to the next such line are its history, and N places of a buffer are lent for the order.
 // Writes for each case the verdict's line, then the line handed back, where there is one, and `!` where the buffer or the judge's two entries are not as told.
+use formats::Written;
 use judge::entry::judge;
 use judge::entry::judge_text;
 use libc::STDIN_FILENO;
@@ -9,7 +10,6 @@ use terms::limits::JUDGED_BYTES;
 use terms::refusals::Refusal;
 use terms::refusals::number_of;
 use terms::words::NEWLINE;
-use text::writer::Written;
 use verdicts::verdict::Verdict;
 ghost use Prim.Native.Nat.{_≤_};
 ghost use lib.ListN.{length};

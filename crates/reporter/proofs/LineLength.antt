@@ -21,13 +21,13 @@ use Rattle.terms.specs.Limits.{judgedJobs, judgedBytes}
 use Rattle.terms.specs.Refusals.{numberOf}
 use Rattle.terms.specs.Words.{tab}
 use Rattle.conflict.specs.History.{isCommit, marked}
-use Rattle.text.specs.declared.writer.Written.the-variants.{Next}
-use Rattle.text.specs.Decimal.{decimal}
-use Rattle.text.specs.Records.{fits, told, left}
-use Rattle.text.specs.Split.{linesOf}
-use Rattle.text.proofs.DigitLaws.{decimal-at-most-20, digits-at-most}
+use Rattle.formats.specs.declared.Written.the-variants.{Next}
+use Rattle.formats.specs.Decimal.{decimal}
+use Rattle.formats.specs.Records.{fits, told, left}
+use Rattle.formats.specs.Split.{linesOf}
+use Rattle.formats.proofs.DigitLaws.{decimal-at-most-20, digits-at-most}
 use Rattle.text.proofs.WordLaws.{word-at-most-7}
-use Rattle.text.proofs.WriterLaws.{told-next, left-text}
+use Rattle.formats.proofs.WriterLaws.{told-next, left-text}
 use Rattle.verdicts.specs.Judged as judged
 use Rattle.verdicts.specs.Judged.{orderly, knotted}
 use Rattle.verdicts.specs.HistoryText.{Faulty, firstFaulty, eventsIn}

@@ -10,8 +10,8 @@ use Rattle.terms.specs.declared.refusals.Refusal.the-variants.{TooLong}
 use Rattle.terms.specs.declared.words.Word as word
 use Rattle.terms.specs.Limits.{judgedBytes, judgedJobs}
 use Rattle.terms.specs.Refusals.{numberOf}
-use Rattle.text.specs.declared.writer.Written.{Written}
-use Rattle.text.specs.Records.{told, left}
+use Rattle.formats.specs.declared.Written.{Written}
+use Rattle.formats.specs.Records.{told, left}
 use Rattle.verdicts.specs.declared.verdict.Verdict.{Verdict}
 use Rattle.verdicts.specs.declared.verdict.Verdict.the-variants.{Orderly, Knot, No}
 use Rattle.verdicts.specs.Judgement.{judgementOf}

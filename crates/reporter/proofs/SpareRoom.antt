@@ -8,7 +8,7 @@ use native.Mathlib.Omega.{arith}
 use borrow.Author.Tests.{le-leb, lt-leb}
 use lib.Dec.{leb}
 use lib.ListN.{length, take, getD}
-use Rattle.text.specs.Decimal.{decimal}
+use Rattle.formats.specs.Decimal.{decimal}
 use Rattle.runs.specs.Programs.{tabbed}
 use Rattle.reporter.proofs.TabbedLaws.{next-length, first-shorter, tabbed-all}
 

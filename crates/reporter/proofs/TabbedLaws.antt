@@ -8,9 +8,9 @@ use native.Mathlib.Omega.{arith}
 use lib.ListN.{length, take, drop, getD, length-append, take-append-drop}
 use lib.Seq.{take-suc, take-all}
 use Rattle.terms.specs.Words.{tab}
-use Rattle.text.specs.Decimal.{decimal}
-use Rattle.text.specs.Wrote.{Wrote}
-use Rattle.text.proofs.WroteLaws.{wrote-none}
+use Rattle.formats.specs.Decimal.{decimal}
+use Rattle.formats.specs.Wrote.{Wrote}
+use Rattle.formats.proofs.WroteLaws.{wrote-none}
 use Rattle.runs.specs.Programs.{tabbed}
 
 -- numbers and then more numbers

@@ -10,7 +10,7 @@ use lib.Dec.{leb}
 use lib.ListN.{length, length-append}
 use Rattle.terms.specs.declared.words.Word.{Word}
 use Rattle.terms.specs.Words.{tab, newline, spelt}
-use Rattle.text.specs.Decimal.{decimal}
+use Rattle.formats.specs.Decimal.{decimal}
 use Rattle.runs.specs.Programs.{tabbed, wordLine}
 
 -- how many bytes a line of a word and numbers has

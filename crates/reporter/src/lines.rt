@@ -1,8 +1,8 @@
 // Lines of a word and numbers: a line that fits is written whole, from the buffer's first byte on, and of one that does not nothing is written (01, The judge's rules; refusal 15).
+use formats::Written;
 use terms::refusals::Refusal;
 use terms::words::Word;
 use terms::words::spelled;
-use text::writer::Written;
 use text::writer::width;
 use text::writer::write_end;
 use text::writer::write_field;
@@ -14,9 +14,9 @@ ghost use lib.Dec.{leb};
 ghost use lib.ListN.{length};
 ghost use Rattle.terms.specs.declared.words.Word.the-variants.{No};
 ghost use Rattle.terms.specs.Words.{tab, newline, spelt};
-ghost use Rattle.text.specs.Decimal.{decimal};
-ghost use Rattle.text.specs.Records.{told, left};
-ghost use Rattle.text.specs.Wrote.{Wrote};
+ghost use Rattle.formats.specs.Decimal.{decimal};
+ghost use Rattle.formats.specs.Records.{told, left};
+ghost use Rattle.formats.specs.Wrote.{Wrote};
 ghost use Rattle.runs.specs.Programs.{tabbed, wordLine};
 
 // A word that there is room for, and the place after it.

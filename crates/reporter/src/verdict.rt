@@ -1,17 +1,17 @@
 // The verdict as a line: orderly or knot and the jobs, or no, line number, refusal (01, The judge's rules).
 use crate::lines::write_jobs;
 use crate::lines::write_no;
+use formats::Written;
 use judge::entry::judge_text;
 use terms::limits::JUDGED_BYTES;
 use terms::limits::JUDGED_JOBS;
 use terms::refusals::Refusal;
 use terms::refusals::number_of;
 use terms::words::Word;
-use text::writer::Written;
 use verdicts::verdict::Verdict;
 ghost use mathlib.Core.Path.{_≡_};
 ghost use lib.ListN.{take};
-ghost use Rattle.text.specs.Records.{told, left};
+ghost use Rattle.formats.specs.Records.{told, left};
 ghost use Rattle.runs.specs.Programs.{sayLine, verdictOf};
 
 // The first n places of the order, or all where there are fewer.

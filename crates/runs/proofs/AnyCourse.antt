@@ -9,10 +9,10 @@ use lib.ListN.{length, take}
 use borrow.Author.Tests.{leb-true}
 use lib.Dec.{leb}
 use Rattle.laws.specs.Choice.{pick, by-test}
-use Rattle.text.specs.declared.splitter.Splitter.{Splitter}
-use Rattle.text.specs.Split.{following, fresh, linesOf, joined, afterAll, foundIn, foundLast, foundOver, numberedOn}
-use Rattle.text.proofs.Found.{finds-all}
-use Rattle.text.proofs.TextLines.{lines-one}
+use Rattle.formats.specs.declared.splitter.Splitter.{Splitter}
+use Rattle.formats.specs.Split.{following, fresh, linesOf, joined, afterAll, foundIn, foundLast, foundOver, numberedOn}
+use Rattle.formats.proofs.Found.{finds-all}
+use Rattle.formats.proofs.TextLines.{lines-one}
 use Rattle.board.specs.Steps.{emptyDesk}
 use Rattle.runs.specs.declared.Clerk.{Clerk}
 use Rattle.runs.specs.declared.View.{View}

@@ -10,9 +10,9 @@ use lib.ListN.{take}
 use borrow.Author.Tests.{leb-true, ltb-true, ltb-false, le-leb, lt-ltb, lt-leb}
 use Rattle.laws.specs.Choice.{pick, by-test, not-both}
 use Rattle.terms.specs.Limits.{requestLines}
-use Rattle.text.specs.declared.splitter.Splitter.{Splitter}
-use Rattle.text.specs.Split.{kept, following, fresh, taken, afterAll, Found, foundAt, foundNow, foundIn}
-use Rattle.text.proofs.Chunks.{after-append}
+use Rattle.formats.specs.declared.splitter.Splitter.{Splitter}
+use Rattle.formats.specs.Split.{kept, following, fresh, taken, afterAll, Found, foundAt, foundNow, foundIn}
+use Rattle.formats.proofs.Chunks.{after-append}
 use Rattle.runs.specs.declared.Clerk.{Clerk}
 use Rattle.runs.specs.declared.View.{View}
 use Rattle.runs.specs.Run.{Stepping, Told, written}

@@ -15,7 +15,7 @@ use Rattle.terms.specs.declared.refusals.Refusal.the-variants.{TooManyLines, Jo
 use Rattle.terms.specs.Limits.{judgedBytes, judgedJobs, judgedLines}
 use Rattle.conflict.specs.Schedule.{ConflictSerializable, edge}
 use Rattle.conflict.specs.History.{committedPart, commitOrder}
-use Rattle.text.specs.Split.{linesOf}
+use Rattle.formats.specs.Split.{linesOf}
 use Rattle.rules.specs.Step.{Started}
 use Rattle.rules.proofs.Serial.{committed-jobs-serializable}
 use Rattle.verdicts.specs.declared.verdict.Verdict.{Verdict}

@@ -15,15 +15,15 @@ use Rattle.terms.specs.declared.letters.Letter.{Letter}
 use Rattle.terms.specs.Letters.{byteOf, hasJob, hasCell, ofRequests}
 use Rattle.terms.specs.Words.{newline}
 use Rattle.terms.specs.Limits.{requestLines}
-use Rattle.text.specs.declared.reader.Reading.{Reading}
-use Rattle.text.specs.declared.reader.Reading.the-variants.{Good, Bad}
-use Rattle.text.specs.declared.splitter.Splitter.{Splitter}
-use Rattle.text.specs.Lines.{readLine}
-use Rattle.text.specs.Records.{field, lineRecord}
-use Rattle.text.specs.Split.{kept, fresh, taken, afterAll, Sized, Found, foundAt, foundLast, hasNewline}
-use Rattle.text.proofs.Cuts.{taken-ended}
-use Rattle.text.proofs.Held.{fresh-sized, taken-sized}
-use Rattle.text.proofs.GoodLine.{good-is-record}
+use Rattle.formats.specs.declared.Reading.{Reading}
+use Rattle.formats.specs.declared.Reading.the-variants.{Good, Bad}
+use Rattle.formats.specs.declared.splitter.Splitter.{Splitter}
+use Rattle.formats.specs.Lines.{readLine}
+use Rattle.formats.specs.Records.{field, lineRecord}
+use Rattle.formats.specs.Split.{kept, fresh, taken, afterAll, Sized, Found, foundAt, foundLast, hasNewline}
+use Rattle.formats.proofs.Cuts.{taken-ended}
+use Rattle.formats.proofs.Held.{fresh-sized, taken-sized}
+use Rattle.formats.proofs.GoodLine.{good-is-record}
 use Rattle.runs.specs.Run.{Stepping, Told, answered, lineBy}
 use Rattle.runs.specs.Work.{unended, owing}
 use Rattle.runs.proofs.Tellings.{telling, tellings}

@@ -10,9 +10,9 @@ use lib.ListN.{length, take, drop, length-append, length-drop}
 use lib.Seq.{length-take-le, take-at}
 use borrow.Author.Tests.{ltb-true}
 use Rattle.laws.specs.Choice.{by-test}
-use Rattle.text.specs.declared.splitter.Splitter.{Splitter}
-use Rattle.text.specs.Split.{cutOf, afterAll, Found, foundAt, foundNow, foundIn}
-use Rattle.text.proofs.Cuts.{cut-ahead}
+use Rattle.formats.specs.declared.splitter.Splitter.{Splitter}
+use Rattle.formats.specs.Split.{cutOf, afterAll, Found, foundAt, foundNow, foundIn}
+use Rattle.formats.proofs.Cuts.{cut-ahead}
 use Rattle.board.specs.declared.state.Desk.{Desk}
 use Rattle.runs.specs.declared.Clerk.{Clerk}
 use Rattle.runs.specs.declared.View.{View}

@@ -10,9 +10,9 @@ use lib.ListN.{length, take, drop, length-drop}
 use lib.Seq.{drop-drop, take-all, take-add}
 use Rattle.laws.specs.Choice.{by-test}
 use Rattle.terms.specs.Words.{newline}
-use Rattle.text.specs.declared.splitter.Splitter.{Splitter}
-use Rattle.text.specs.Split.{taken, through, used, cutOf, afterAll, Found, foundNow, foundIn}
-use Rattle.text.proofs.Cuts.{through-all, taken-ended}
+use Rattle.formats.specs.declared.splitter.Splitter.{Splitter}
+use Rattle.formats.specs.Split.{taken, through, used, cutOf, afterAll, Found, foundNow, foundIn}
+use Rattle.formats.proofs.Cuts.{through-all, taken-ended}
 use Rattle.runs.specs.Callers.{portion}
 
 -- a byte that is no newline ends no line

@@ -9,8 +9,8 @@ use lib.Dec.{ltb}
 use lib.ListN.{length}
 use borrow.Author.Tests.{ltb-true, ltb-false}
 use Rattle.laws.specs.Choice.{by-test, not-both}
-use Rattle.text.specs.Split.{cutOf}
-use Rattle.text.proofs.Cuts.{cut-ahead}
+use Rattle.formats.specs.Split.{cutOf}
+use Rattle.formats.proofs.Cuts.{cut-ahead}
 use Rattle.runs.specs.declared.Clerk.{Clerk}
 use Rattle.runs.specs.declared.View.{View}
 use Rattle.runs.specs.Work.{roomy, turning, cutting, Working, stopped, workBy, workOf}

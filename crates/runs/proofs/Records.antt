@@ -9,9 +9,9 @@ use lib.Dec.{leb}
 use lib.ListN.{length}
 use Rattle.laws.specs.Choice.{by-test, not-both}
 use Rattle.terms.specs.Limits.{requestLines}
-use Rattle.text.specs.declared.splitter.Splitter.{Splitter}
-use Rattle.text.specs.Split.{afterAll, Found, foundAt, foundNow, foundIn}
-use Rattle.text.proofs.Chunks.{after-append, found-append}
+use Rattle.formats.specs.declared.splitter.Splitter.{Splitter}
+use Rattle.formats.specs.Split.{afterAll, Found, foundAt, foundNow, foundIn}
+use Rattle.formats.proofs.Chunks.{after-append, found-append}
 use Rattle.board.specs.declared.state.Desk.{Desk}
 use Rattle.runs.specs.declared.Clerk.{Clerk}
 use Rattle.runs.specs.declared.View.{View}

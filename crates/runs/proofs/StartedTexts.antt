@@ -15,7 +15,7 @@ use Rattle.laws.proofs.Parts.{and-both, or-first, or-second}
 use Rattle.laws.proofs.Lists.{same-refl}
 use Rattle.conflict.proofs.Marks.{listed}
 use Rattle.conflict.proofs.OneEvent.{line-does, line-ends}
-use Rattle.text.specs.Split.{linesOf}
+use Rattle.formats.specs.Split.{linesOf}
 use Rattle.rules.specs.Desk.{Desk}
 use Rattle.rules.specs.Step.{Started}
 use Rattle.rules.specs.Histories.{Has, now, then}

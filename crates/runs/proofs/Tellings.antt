@@ -11,8 +11,8 @@ use borrow.Author.Tests.{leb-true, leb-false, ltb-true, ltb-false, le-leb, lt-le
 use Rattle.laws.specs.Choice.{pick, by-test, not-both}
 use Rattle.terms.specs.Letters.{ofRequests}
 use Rattle.terms.specs.Limits.{requestLines}
-use Rattle.text.specs.Split.{kept, following, oneLine, every, Found, numberedOn}
-use Rattle.text.proofs.ShortLines.{short-reads}
+use Rattle.formats.specs.Split.{kept, following, oneLine, every, Found, numberedOn}
+use Rattle.formats.proofs.ShortLines.{short-reads}
 use Rattle.runs.specs.Run.{Stepping, Told, Lined, answered, lineBy, runOf, written}
 
 module _ {S : Type 0} (step : Stepping S) where

@@ -12,12 +12,12 @@ use Rattle.laws.specs.Choice.{by-test, not-both}
 use Rattle.terms.specs.declared.letters.Letter.{Letter}
 use Rattle.terms.specs.Letters.{byteOf, ofRequests}
 use Rattle.terms.specs.Limits.{requestLines}
-use Rattle.text.specs.declared.reader.Reading.the-variants.{Good, Bad}
-use Rattle.text.specs.declared.splitter.Splitter.{Splitter}
-use Rattle.text.specs.Lines.{readLine}
-use Rattle.text.specs.Split.{cutOf, foundAt}
-use Rattle.text.specs.Wrote.{Wrote}
-use Rattle.text.proofs.Cuts.{cut-ahead}
+use Rattle.formats.specs.declared.Reading.the-variants.{Good, Bad}
+use Rattle.formats.specs.declared.splitter.Splitter.{Splitter}
+use Rattle.formats.specs.Lines.{readLine}
+use Rattle.formats.specs.Split.{cutOf, foundAt}
+use Rattle.formats.specs.Wrote.{Wrote}
+use Rattle.formats.proofs.Cuts.{cut-ahead}
 use Rattle.board.specs.declared.state.Said.{Said}
 use Rattle.board.specs.declared.state.Outcome.{Outcome}
 use Rattle.board.specs.Steps.{stepOf}

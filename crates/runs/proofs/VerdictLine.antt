@@ -17,11 +17,11 @@ use Rattle.terms.specs.declared.refusals.Refusal.the-variants.{TooLong}
 use Rattle.terms.specs.Limits.{judgedBytes, judgedJobs}
 use Rattle.terms.specs.Refusals.{numberOf}
 use Rattle.terms.specs.Words.{tab, newline, spelt}
-use Rattle.text.specs.Lines.{shortest, valueFrom}
-use Rattle.text.specs.Decimal.{decimal}
-use Rattle.text.specs.Split.{inFront, linesOf}
-use Rattle.text.proofs.DigitLaws.{decimal-0}
-use Rattle.text.proofs.DecimalLaws.{tens, decimal-digits, decimal-shortest, decimal-value}
+use Rattle.formats.specs.Lines.{shortest, valueFrom}
+use Rattle.formats.specs.Decimal.{decimal}
+use Rattle.formats.specs.Split.{inFront, linesOf}
+use Rattle.formats.proofs.DigitLaws.{decimal-0}
+use Rattle.formats.proofs.DecimalLaws.{tens, decimal-digits, decimal-shortest, decimal-value}
 use Rattle.verdicts.specs.declared.verdict.Verdict.{Verdict}
 use Rattle.verdicts.specs.declared.verdict.Verdict.the-variants.{Orderly as is-orderly, Knot as is-knot, No as is-refused}
 use Rattle.verdicts.specs.Answers.{noNewline}

@@ -10,8 +10,8 @@ use Rattle.terms.specs.declared.refusals.Refusal.the-variants.{TooLong}
 use Rattle.terms.specs.Refusals.{numberOf}
 use Rattle.terms.specs.Words.{tab, newline, spelt}
 use Rattle.terms.specs.Limits.{judgedBytes, judgedJobs}
-use Rattle.text.specs.Decimal.{decimal}
-use Rattle.text.specs.Split.{linesOf}
+use Rattle.formats.specs.Decimal.{decimal}
+use Rattle.formats.specs.Split.{linesOf}
 use Rattle.rules.specs.Desk.{Desk, Request, freshDesk}
 use Rattle.rules.specs.Step.{step}
 use Rattle.board.specs.declared.state.Desk as board

@@ -11,10 +11,10 @@ use Rattle.terms.specs.Letters.{byteOf, ofRequests}
 use Rattle.terms.specs.Refusals.{numberOf}
 use Rattle.terms.specs.Limits.{requestLines}
 use Rattle.conflict.specs.declared.action.Action.{Action}
-use Rattle.text.specs.declared.reader.Reading.{Reading}
-use Rattle.text.specs.declared.reader.Reading.the-variants.{Good, Bad}
-use Rattle.text.specs.Lines.{readLine}
-use Rattle.text.specs.Records.{answerRecord}
+use Rattle.formats.specs.declared.Reading.{Reading}
+use Rattle.formats.specs.declared.Reading.the-variants.{Good, Bad}
+use Rattle.formats.specs.Lines.{readLine}
+use Rattle.formats.specs.Records.{answerRecord}
 use Rattle.rules.specs.declared.Answer.{Answer}
 use Rattle.rules.specs.declared.Answer.the-variants.{Go as goes, Wait as waits, Back as back, No as refuses}
 use Rattle.rules.specs.Desk.{Request}

@@ -7,8 +7,8 @@ use lib.ListN.{length, take, drop}
 use Rattle.laws.specs.Choice.{pick}
 use Rattle.terms.specs.declared.refusals.Refusal.the-variants.{BadLine}
 use Rattle.terms.specs.Limits.{requestLines}
-use Rattle.text.specs.declared.splitter.Splitter.{Splitter}
-use Rattle.text.specs.Split.{fresh, cutOf, Found, foundAt}
+use Rattle.formats.specs.declared.splitter.Splitter.{Splitter}
+use Rattle.formats.specs.Split.{fresh, cutOf, Found, foundAt}
 use Rattle.rules.specs.declared.Answer.the-variants.{No}
 use Rattle.board.specs.Steps.{emptyDesk}
 use Rattle.board.specs.declared.state.Desk as board

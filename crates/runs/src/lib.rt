@@ -1,6 +1,6 @@
 // What a clerk keeps between the chunks of an input, and the runs of the desk programs as definitions (01, What is delivered).
 use board::state::Desk;
-use text::splitter::Splitter;
+use formats::splitter::Splitter;
 ghost use mathlib.Core.Path.{_≡_};
 ghost use Rattle.runs.specs.Work.{startedClerk};
 

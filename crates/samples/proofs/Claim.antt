@@ -6,10 +6,10 @@ use Rattle.laws.specs.Lists.{member, distinct, pos, put}
 use Rattle.conflict.specs.Modes.{needed, recorded, covers, beside, grants, asked, lets, isFree, codeOf, modeOf}
 use Rattle.conflict.specs.Schedule.{agree, conflicts, keep, own, serial, touches, edge, names, path, knot}
 use Rattle.conflict.specs.History.{isCommit, isBack, marked, partOf, committedPart, commits, committed, commitOrder, lineOf, endsForGood, undisturbed, strict}
-use Rattle.text.specs.Decimal.{digitsIn, decimal}
-use Rattle.text.specs.Records.{answerRecord, field, lineRecord, fits, told, left}
-use Rattle.text.specs.Lines.{isDigit, digitsOf, afterDigits, valueFrom, shortest, numberThen, ending, cellPart, jobPart, letterPart, readLine}
-use Rattle.text.specs.Split.{inFront, linesOf, following, fresh, taken, underWay, through, used, cutOf, joined, afterAll, foundAt, foundNow, foundLast, foundIn, foundOver, numbered, afterCuts, foundCuts, foundByCuts, oneLine, hasNewline, every}
+use Rattle.formats.specs.Decimal.{digitsIn, decimal}
+use Rattle.formats.specs.Records.{answerRecord, field, lineRecord, fits, told, left}
+use Rattle.formats.specs.Lines.{isDigit, digitsOf, afterDigits, valueFrom, shortest, numberThen, ending, cellPart, jobPart, letterPart, readLine}
+use Rattle.formats.specs.Split.{inFront, linesOf, following, fresh, taken, underWay, through, used, cutOf, joined, afterAll, foundAt, foundNow, foundLast, foundIn, foundOver, numbered, afterCuts, foundCuts, foundByCuts, oneLine, hasNewline, every}
 use Rattle.rules.specs.Desk.{isOpen, isLive, at, idle, freshDesk, seated, vacated}
 use Rattle.rules.specs.Locks.{every as locks-every, everyWaiter, isEmpty, agrees, alone, olderThanHolders, olderThanWaiters, without, wants, woke, settle, released}
 use Rattle.rules.specs.Rules.{refused, withRow, withStatus, wake, wakesAt, wakesOf, isWoken, wakened, rowsAfter, rule4, close, sendBack, grant, queued, rule1, rule2, rule3, ask, retry, begin}

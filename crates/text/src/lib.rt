@@ -1,4 +1,3 @@
-// The lines that come in and the records that go out: line reader, record writer, splitter (01, Lines).
+// The lines that come in and the records that go out: line reader and record writer (01, Lines).
 pub mod reader;
-pub mod splitter;
 pub mod writer;

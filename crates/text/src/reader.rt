@@ -1,4 +1,6 @@
 // The line reader: what one line of requests or of a history says (01, Lines).
+use formats::Numeral;
+use formats::Reading;
 use terms::letters::Letter;
 use terms::letters::Lettered;
 use terms::letters::has_cell;
@@ -12,20 +14,8 @@ use terms::words::TAB;
 ghost use mathlib.Core.Path.{_≡_};
 ghost use lib.ListN.{drop};
 ghost use Rattle.terms.specs.Letters.{ofRequests, ofHistories};
-ghost use Rattle.text.specs.Lines.{isDigit, digitsOf, shortest, ending, cellPart, jobPart, readLine};
-ghost use Rattle.text.specs.Fields.{digitAhead, firstLetter, digitsAt, numberAt};
-
-// A good line with its letter, job and cell, 0 for a field that the letter does not have; or a bad line, which is refusal 9.
-pub enum Reading {
-    Good { letter: Letter, job: u32, cell: u32 },
-    Bad,
-}
-
-// A number of a line with the place after it, or none.
-enum Numeral {
-    Is { value: u32, next: usize },
-    Missing,
-}
+ghost use Rattle.formats.specs.Lines.{isDigit, digitsOf, shortest, ending, cellPart, jobPart, readLine};
+ghost use Rattle.formats.specs.Fields.{digitAhead, firstLetter, digitsAt, numberAt};
 
 // A cell has one or two digits.
 const LAST_CELL: u32 = 99;

@@ -1,5 +1,6 @@
 // The record writer: one record into a lent buffer, from the place given and not before it (01, Lines).
 // The buffer's part from that place on is lent, and within it the later part to one field writer after another; each writes from its part's first byte on.
+use formats::Written;
 use terms::letters::Letter;
 use terms::letters::byte_of;
 use terms::letters::has_cell;
@@ -17,15 +18,9 @@ ghost use lib.Dec.{leb};
 ghost use lib.ListN.{length};
 ghost use Rattle.terms.specs.Letters.{hasJob, hasCell};
 ghost use Rattle.terms.specs.Words.{tab, newline, spelt};
-ghost use Rattle.text.specs.Decimal.{decimal};
-ghost use Rattle.text.specs.Wrote.{Wrote};
-ghost use Rattle.text.specs.Records.{field, answerRecord, lineRecord, told, left};
-
-// The place after the record, or the refusal of a record that does not fit.
-pub enum Written {
-    Next(usize),
-    Refused(Refusal),
-}
+ghost use Rattle.formats.specs.Decimal.{decimal};
+ghost use Rattle.formats.specs.Wrote.{Wrote};
+ghost use Rattle.formats.specs.Records.{field, answerRecord, lineRecord, told, left};
 
 // How many digits a number has in shortest decimal.
 pub fn width(n: u64) -> usize

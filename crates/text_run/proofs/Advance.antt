@@ -5,11 +5,11 @@ use mathlib.Core.Path.{_≡_}
 use mathlib.Core.List.{List}
 use native.Mathlib.Omega.{arith}
 use lib.ListN.{length, drop, length-drop}
-use Rattle.text.specs.declared.splitter.Splitter.{Splitter}
-use Rattle.text.specs.declared.splitter.Cut.{Cut}
-use Rattle.text.specs.Split.{used, cutOf, Sized}
-use Rattle.text.proofs.Cutting.{used-some}
-use Rattle.text.proofs.Held.{cut-sized}
+use Rattle.formats.specs.declared.splitter.Splitter.{Splitter}
+use Rattle.formats.specs.declared.splitter.Cut.{Cut}
+use Rattle.formats.specs.Split.{used, cutOf, Sized}
+use Rattle.formats.proofs.Cutting.{used-some}
+use Rattle.formats.proofs.Held.{cut-sized}
 
 -- a cut's splitter is sized where the one before was
 pub stays-sized : (s : Splitter) (chunk : List ℕ) (from : ℕ) (r : Cut) → r ≡ cutOf s chunk from → Sized s → Sized (r .splitter)

@@ -9,9 +9,9 @@ use borrow.Author.Tests.{leb-true}
 use lib.Dec.{leb}
 use lib.ListN.{length}
 use Rattle.terms.specs.declared.refusals.Refusal.the-variants.{NoRoom}
-use Rattle.text.specs.declared.writer.Written.{Written}
-use Rattle.text.specs.declared.writer.Written.the-variants.{Next, Refused}
-use Rattle.text.specs.Records.{fits, told}
+use Rattle.formats.specs.declared.Written.{Written}
+use Rattle.formats.specs.declared.Written.the-variants.{Next, Refused}
+use Rattle.formats.specs.Records.{fits, told}
 
 -- a record that fits has its place told
 told-fits : (b : List ℕ) (at : ℕ) (bs : List ℕ) → leb (at + length bs) (length b) ≡ true → told b at bs ≡ Next (at + length bs)

@@ -1,4 +1,7 @@
 // Prints what both line readers say of every line of standard input (01, Lines).
+use formats::Reading;
+use formats::Written;
+use formats::splitter::Splitter;
 use libc::STDIN_FILENO;
 use libc::STDOUT_FILENO;
 use terms::letters::Letter;
@@ -8,16 +11,13 @@ use terms::letters::has_job;
 use terms::refusals::Refusal;
 use terms::refusals::number_of;
 use terms::words::Word;
-use text::reader::Reading;
 use text::reader::read_history;
 use text::reader::read_request;
-use text::splitter::Splitter;
-use text::writer::Written;
 use text::writer::write_answer;
 use text::writer::write_line;
 ghost use Prim.Native.Nat.{_≤_};
 ghost use lib.ListN.{length};
-ghost use Rattle.text.specs.Split.{Sized};
+ghost use Rattle.formats.specs.Split.{Sized};
 
 // The records of one line have fewer bytes than this, whatever its number.
 const ROOM: usize = 128;

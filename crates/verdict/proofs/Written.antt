@@ -6,9 +6,9 @@ use mathlib.Core.List.{List}
 use native.Mathlib.Omega.{arith}
 use lib.ListN.{length, take}
 use Rattle.terms.specs.declared.refusals.Refusal.{Refusal}
-use Rattle.text.specs.declared.writer.Written.{Written}
-use Rattle.text.specs.declared.writer.Written.the-variants.{Next, Refused}
-use Rattle.text.specs.Records.{told, left}
+use Rattle.formats.specs.declared.Written.{Written}
+use Rattle.formats.specs.declared.Written.the-variants.{Next, Refused}
+use Rattle.formats.specs.Records.{told, left}
 use Rattle.runs.specs.Programs.{verdictOf}
 use Rattle.reporter.proofs.LineLength.{lineLimit, verdict-at-most, verdict-told, verdict-left}
 

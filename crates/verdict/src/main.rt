@@ -1,9 +1,9 @@
 // The program `verdict`: the judge's verdict on the history on standard input, as one line (01, What is delivered).
+use formats::Written;
 use libc::STDIN_FILENO;
 use libc::STDOUT_FILENO;
 use reporter::verdict::verdict_line;
 use terms::limits::JUDGED_BYTES;
-use text::writer::Written;
 ghost use mathlib.Core.Path.{_≡_};
 ghost use Prim.Native.Nat.{_≤_};
 ghost use lib.ListN.{length, take};

@@ -13,7 +13,7 @@ use Rattle.laws.specs.Choice.{by-test}
 use Rattle.terms.specs.Limits.{judgedJobs}
 use Rattle.conflict.specs.Schedule.{edge}
 use Rattle.conflict.specs.History.{History, committedPart}
-use Rattle.text.specs.Split.{linesOf}
+use Rattle.formats.specs.Split.{linesOf}
 use Rattle.verdicts.specs.Judged.{Verdict, orderly, knotted, jobsOf, verdictOf}
 use Rattle.verdicts.specs.Meant.{Knotted, Says}
 use Rattle.verdicts.specs.Meant.Says.{says-order, says-cycle}

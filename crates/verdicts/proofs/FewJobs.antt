@@ -23,9 +23,9 @@ use Rattle.conflict.specs.declared.action.Mark.the-variants.{Commit as commits,
 use Rattle.conflict.specs.declared.action.Event.the-variants.{Ends}
 use Rattle.conflict.specs.History.{History, isCommit, marked}
 use Rattle.conflict.proofs.OneEvent.{marked-none, marked-does, marked-ends}
-use Rattle.text.specs.declared.reader.Reading.{Reading}
-use Rattle.text.specs.declared.reader.Reading.the-variants.{Good, Bad}
-use Rattle.text.specs.Lines.{readLine}
+use Rattle.formats.specs.declared.Reading.{Reading}
+use Rattle.formats.specs.declared.Reading.the-variants.{Good, Bad}
+use Rattle.formats.specs.Lines.{readLine}
 use Rattle.verdicts.specs.HistoryText.{eventOf, eventsIn}
 use Rattle.verdicts.specs.LineTable.{tooMany, isBad, outside, above, overAlready, holds, order, firstOf, tableSays, lineAt, linesBefore, AllFaultless}
 use Rattle.verdicts.proofs.Walking.{no-more}

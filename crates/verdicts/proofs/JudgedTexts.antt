@@ -9,7 +9,7 @@ use lib.ListN.{length}
 use Rattle.terms.specs.Limits.{judgedJobs}
 use Rattle.conflict.specs.Schedule.{ConflictSerializable, edge}
 use Rattle.conflict.specs.History.{History, committedPart}
-use Rattle.text.specs.Split.{linesOf}
+use Rattle.formats.specs.Split.{linesOf}
 use Rattle.verdicts.specs.declared.verdict.Verdict.the-variants.{Orderly, Knot}
 use Rattle.verdicts.specs.Judged.{orderly, knotted, jobsOf}
 use Rattle.verdicts.specs.Meant.{SmallestFirst}

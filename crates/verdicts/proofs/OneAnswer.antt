@@ -13,7 +13,7 @@ use Rattle.laws.specs.Choice.{by-test}
 use Rattle.terms.specs.declared.refusals.Refusal.{Refusal}
 use Rattle.terms.specs.declared.refusals.Refusal.the-variants.{ShortOrder}
 use Rattle.terms.specs.Limits.{judgedJobs}
-use Rattle.text.specs.Split.{linesOf}
+use Rattle.formats.specs.Split.{linesOf}
 use Rattle.verdicts.specs.declared.verdict.Verdict.the-variants.{Orderly, Knot, No}
 use Rattle.verdicts.specs.Judged.{orderly, knotted, verdictOf}
 use Rattle.verdicts.specs.Meant.Says.{says-order, says-cycle}

@@ -26,9 +26,9 @@ use Rattle.laws.proofs.Lists.{same-refl}
 use Rattle.conflict.proofs.Marks.{ended-alone, ends-rest}
 use Rattle.conflict.proofs.OneEvent.{line-does, line-ends, good-does, commit-not-back, give-up-not-back}
 use Rattle.conflict.proofs.Appended.{line-append}
-use Rattle.text.specs.declared.reader.Reading.the-variants.{Good}
-use Rattle.text.specs.Lines.{readLine}
-use Rattle.text.specs.Split.{linesOf}
+use Rattle.formats.specs.declared.Reading.the-variants.{Good}
+use Rattle.formats.specs.Lines.{readLine}
+use Rattle.formats.specs.Split.{linesOf}
 use Rattle.verdicts.specs.LineTable.{lineAt, linesBefore, isBad, above, ends, endedIn, overAlready, holds, holdsAt, AllReadBack, FirstFault}
 use Rattle.verdicts.specs.Written.{markLetter, eventLine, textOf, within, allWithin}
 use Rattle.verdicts.proofs.RecordLines.{text-lines}

@@ -24,10 +24,10 @@ use Rattle.conflict.specs.Modes.{recorded}
 use Rattle.conflict.specs.History.{History}
 use Rattle.conflict.proofs.Clauses.{records-read, records-write, records-increment}
 use Rattle.laws.proofs.Parts.{and-first, and-second, and-both}
-use Rattle.text.specs.declared.reader.Reading.the-variants.{Good}
-use Rattle.text.specs.Lines.{readLine}
-use Rattle.text.proofs.ReadBack.{reads-record}
-use Rattle.text.proofs.Length.{line-at-most-16}
+use Rattle.formats.specs.declared.Reading.the-variants.{Good}
+use Rattle.formats.specs.Lines.{readLine}
+use Rattle.formats.proofs.ReadBack.{reads-record}
+use Rattle.formats.proofs.Length.{line-at-most-16}
 use Rattle.verdicts.specs.HistoryText.{eventOf, eventsIn}
 use Rattle.verdicts.specs.Written.{askBy, markLetter, eventLine, textOf, within, allWithin}
 

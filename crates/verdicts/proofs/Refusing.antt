@@ -13,8 +13,8 @@ use Rattle.terms.specs.declared.refusals.Refusal.{Refusal}
 use Rattle.terms.specs.declared.refusals.Refusal.the-variants.{ShortOrder}
 use Rattle.terms.specs.Letters.{ofHistories}
 use Rattle.terms.specs.Limits.{judgedJobs}
-use Rattle.text.specs.Lines.{readLine}
-use Rattle.text.specs.Split.{linesOf}
+use Rattle.formats.specs.Lines.{readLine}
+use Rattle.formats.specs.Split.{linesOf}
 use Rattle.verdicts.specs.declared.verdict.Verdict.the-variants.{No}
 use Rattle.verdicts.specs.Judgement.{Judgement, judgementOf}
 use Rattle.verdicts.specs.LineTable.{lineAt, linesBefore, holds, order, firstOf, tableSays, Due, FirstFault}

@@ -17,8 +17,8 @@ use Rattle.terms.specs.declared.refusals.Refusal.{Refusal}
 use Rattle.terms.specs.declared.refusals.Refusal.the-variants.{CellAbove, BadLine, TooManyLines, JobOutside, Ended}
 use Rattle.terms.specs.Letters.{ofHistories}
 use Rattle.terms.specs.Limits.{lastNumber, judgedJobs, judgedLines, judgedBytes}
-use Rattle.text.specs.Lines.{readLine}
-use Rattle.text.specs.Split.{linesOf}
+use Rattle.formats.specs.Lines.{readLine}
+use Rattle.formats.specs.Split.{linesOf}
 use Rattle.verdicts.specs.declared.verdict.Verdict.the-variants.{Orderly}
 use Rattle.verdicts.specs.HistoryText.{eventsIn}
 use Rattle.verdicts.specs.Judgement.{judgementOf}

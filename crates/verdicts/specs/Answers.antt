@@ -12,7 +12,7 @@ use Rattle.terms.specs.Words.{newline}
 use Rattle.terms.specs.Limits.{judgedJobs}
 use Rattle.conflict.specs.Schedule.{Equivalent, serial, edge}
 use Rattle.conflict.specs.History.{History, isCommit, marked, committedPart}
-use Rattle.text.specs.Split.{linesOf, joined}
+use Rattle.formats.specs.Split.{linesOf, joined}
 use Rattle.verdicts.specs.declared.verdict.Verdict.the-variants.{Orderly, Knot, No}
 use Rattle.verdicts.specs.Judged.{jobsOf}
 use Rattle.verdicts.specs.Meant.{SmallestFirst, Knotted, Takes, Shown}

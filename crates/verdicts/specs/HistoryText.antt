@@ -18,10 +18,10 @@ use Rattle.conflict.specs.declared.action.Event.{Event}
 use Rattle.conflict.specs.declared.action.Event.the-variants.{Does, Ends}
 use Rattle.conflict.specs.Modes.{recorded}
 use Rattle.conflict.specs.History.{History}
-use Rattle.text.specs.declared.reader.Reading.{Reading}
-use Rattle.text.specs.declared.reader.Reading.the-variants.{Good, Bad}
-use Rattle.text.specs.Lines.{readLine}
-use Rattle.text.specs.Split.{linesOf}
+use Rattle.formats.specs.declared.Reading.{Reading}
+use Rattle.formats.specs.declared.Reading.the-variants.{Good, Bad}
+use Rattle.formats.specs.Lines.{readLine}
+use Rattle.formats.specs.Split.{linesOf}
 
 -- the fault of a good line, given the jobs that have committed or given up: 12, then 2, then 13 (01, Refusals by number)
 unfoldable pub faultOfGood : List ℕ → Letter → ℕ → ℕ → Option Refusal

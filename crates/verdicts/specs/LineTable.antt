@@ -12,9 +12,9 @@ use Rattle.terms.specs.declared.refusals.Refusal.{Refusal}
 use Rattle.terms.specs.declared.refusals.Refusal.the-variants.{UnknownKind, CellAbove, NotOpen, Waiting, SentBack, AllOpen, NoNumberLeft, Running, BadLine, StartedAtZero, TooManyLines, JobOutside, Ended, ShortOrder, NoRoom, TooLong}
 use Rattle.terms.specs.Letters.{ofHistories, hasCell}
 use Rattle.terms.specs.Limits.{cells, judgedJobs, judgedLines}
-use Rattle.text.specs.declared.reader.Reading.{Reading}
-use Rattle.text.specs.declared.reader.Reading.the-variants.{Good, Bad}
-use Rattle.text.specs.Lines.{readLine}
+use Rattle.formats.specs.declared.Reading.{Reading}
+use Rattle.formats.specs.declared.Reading.the-variants.{Good, Bad}
+use Rattle.formats.specs.Lines.{readLine}
 
 -- line n of the lines, which are numbered from 1
 abbrev pub lineAt : List (List ℕ) → ℕ → List ℕ

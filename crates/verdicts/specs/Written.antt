@@ -17,7 +17,7 @@ use Rattle.conflict.specs.declared.action.Mark.the-variants.{Commit as commits,
 use Rattle.conflict.specs.declared.action.Event.{Event}
 use Rattle.conflict.specs.declared.action.Event.the-variants.{Does, Ends}
 use Rattle.conflict.specs.History.{History, lineOf}
-use Rattle.text.specs.Records.{lineRecord}
+use Rattle.formats.specs.Records.{lineRecord}
 
 -- r, w or i, by the kind of the action
 unfoldable pub askBy : Kind → Ask

@@ -3,7 +3,7 @@
 use mathlib.Core.Path.{sym, _∙_}
 use native.Mathlib.Omega.{arith}
 use borrow.Author.Needs.{needs}
-use Rattle.text.proofs.WriterLaws.{next-told}
+use Rattle.formats.proofs.WriterLaws.{next-told}
 use Rattle.judge_run.proofs.put_verdict.Statement.{statement}
 use Rattle.judge_run.proofs.put_verdict.Tie as tie
 

@@ -6,8 +6,8 @@ use mathlib.Core.Logic.{⊎-elim}
 use native.Mathlib.Omega.{arith}
 use borrow.Author.Needs.{needs}
 use lib.ListN.{length}
-use Rattle.text.specs.Split.{Sized}
-use Rattle.text.proofs.Held.{fresh-sized}
+use Rattle.formats.specs.Split.{Sized}
+use Rattle.formats.proofs.Held.{fresh-sized}
 use Rattle.text_run.proofs.report_all.Statement.{statement}
 use Rattle.text_run.proofs.report_all.Tie as tie
 

@@ -5,7 +5,7 @@ use mathlib.Core.Path.{_≡_}
 use native.Mathlib.Omega.{arith}
 use borrow.Author.Needs.{needs}
 use lib.ListN.{length}
-use Rattle.text.specs.Split.{Sized}
+use Rattle.formats.specs.Split.{Sized}
 use Rattle.text_run.proofs.Advance.{stays-sized, moves-on}
 use Rattle.text_run.proofs.report_chunk.Statement.{statement}
 use Rattle.text_run.proofs.report_chunk.Tie as tie

@@ -22,7 +22,7 @@ use Rattle.clerk.proofs.work.is_due.Reads as is-due-reads
 use Rattle.clerk.proofs.work.reading_of.Reads as reading-of-reads
 use Rattle.desk.proofs.step.step.Reads as step-reads
 use Rattle.terms.proofs.letters.byte_of.Reads as byte-of-reads
-use Rattle.text.proofs.splitter.Splitter.cut.Reads as cut-reads
+use Rattle.formats.proofs.splitter.Splitter.cut.Reads as cut-reads
 
 abbrev Inv-loop : tie.InvT-loop
 Inv-loop view chunk from out₀ at desk₀ splitter₀ next₀ place₀ out desk splitter next place =

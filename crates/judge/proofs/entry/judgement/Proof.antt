@@ -1,7 +1,8 @@
 -- `judge::entry::judgement` meets its contract: a short buffer, a faultless text, which is decided, or a faulty line.
 -- Assumes nothing.
 use native.Mathlib.Omega.{arith}
-use Rattle.judge.proofs.Handing.{judged-short, clean-within, clean-named, judged-clean, judged-faulty}
+use Rattle.judge.proofs.Handing.{judged-short, judged-faulty}
+use Rattle.judge.proofs.KeptClean.{judged-kept}
 use borrow.Author.Needs.{needs}
 use Rattle.judge.proofs.entry.judgement.Statement.{statement}
 use Rattle.judge.proofs.entry.judgement.Tie as tie
@@ -15,8 +16,8 @@ scan-requires c κs = search needs
 enum-known-n : tie.Need-enum-known-n
 enum-known-n c = search needs
 
-decide-requires : tie.Need-decide-requires
-decide-requires c κs = ((search clean-within, search needs), search clean-named)
+judge-kept-requires : tie.Need-judge-kept-requires
+judge-kept-requires c κs = search needs
 
 enum-known-line : tie.Need-enum-known-line
 enum-known-line c = search needs
@@ -25,7 +26,7 @@ same-length : tie.Need-same-length
 same-length c = search needs
 
 returns-2 : tie.Need-returns-2
-returns-2 c = search judged-clean
+returns-2 c = search judged-kept
 
 returns-3 : tie.Need-returns-3
 returns-3 c = search judged-faulty
@@ -37,7 +38,7 @@ judgement-spec =
     returns
     scan-requires
     enum-known-n
-    decide-requires
+    judge-kept-requires
     enum-known-line
     same-length
     returns-2

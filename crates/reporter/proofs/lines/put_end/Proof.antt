@@ -2,7 +2,7 @@
 -- Assumes nothing.
 use native.Mathlib.Omega.{arith}
 use borrow.Author.Needs.{needs}
-use Rattle.text.proofs.WriterLaws.{next-wrote, not-refused}
+use Rattle.formats.proofs.WriterLaws.{next-wrote, not-refused}
 use Rattle.reporter.proofs.lines.put_end.Statement.{statement}
 use Rattle.reporter.proofs.lines.put_end.Tie as tie
 

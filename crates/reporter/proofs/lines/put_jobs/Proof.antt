@@ -4,8 +4,8 @@ use Prim.Native.Nat.{_+_, _-_, _≤_}
 use native.Mathlib.Omega.{arith}
 use borrow.Author.Needs.{needs}
 use lib.ListN.{length, take}
-use Rattle.text.specs.Wrote.{Wrote}
-use Rattle.text.proofs.WroteLaws.{wrote-as, wrote-then, wrote-length}
+use Rattle.formats.specs.Wrote.{Wrote}
+use Rattle.formats.proofs.WroteLaws.{wrote-as, wrote-then, wrote-length}
 use Rattle.runs.specs.Programs.{tabbed}
 use Rattle.reporter.proofs.TabbedLaws.{none-written, tabbed-next, tabbed-all, next-length, first-shorter}
 use Rattle.reporter.proofs.lines.put_jobs.Statement.{statement}

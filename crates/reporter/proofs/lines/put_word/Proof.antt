@@ -1,7 +1,7 @@
 -- `reporter::lines::put_word` meets its contract: where there is room, the writer does not refuse.
 -- Assumes nothing.
 use borrow.Author.Needs.{needs}
-use Rattle.text.proofs.WriterLaws.{next-wrote, not-refused}
+use Rattle.formats.proofs.WriterLaws.{next-wrote, not-refused}
 use Rattle.reporter.proofs.lines.put_word.Statement.{statement}
 use Rattle.reporter.proofs.lines.put_word.Tie as tie
 

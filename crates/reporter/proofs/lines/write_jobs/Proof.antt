@@ -6,9 +6,9 @@ use native.Mathlib.Omega.{arith}
 use borrow.Author.Needs.{needs}
 use lib.ListN.{length}
 use Rattle.terms.specs.Words.{spelt}
-use Rattle.text.proofs.RoomLaws.{written, refused}
+use Rattle.formats.proofs.RoomLaws.{written, refused}
 use Rattle.text.proofs.WordLaws.{spelling-length}
-use Rattle.text.proofs.WroteLaws.{wrote-as, wrote-then, wrote-length}
+use Rattle.formats.proofs.WroteLaws.{wrote-as, wrote-then, wrote-length}
 use Rattle.runs.specs.Programs.{tabbed}
 use Rattle.reporter.proofs.WordLines.{word-line-is, line-fits, line-too-long, word-too-long}
 use Rattle.reporter.proofs.lines.write_jobs.Statement.{statement}

@@ -3,9 +3,9 @@
 use native.Mathlib.Omega.{arith}
 use borrow.Author.Needs.{needs}
 use Rattle.terms.specs.declared.words.Word.the-variants.{No}
-use Rattle.text.proofs.DigitLaws.{decimal-at-most-20}
-use Rattle.text.proofs.RoomLaws.{written, refused}
-use Rattle.text.proofs.WroteLaws.{wrote-as, wrote-then}
+use Rattle.formats.proofs.DigitLaws.{decimal-at-most-20}
+use Rattle.formats.proofs.RoomLaws.{written, refused}
+use Rattle.formats.proofs.WroteLaws.{wrote-as, wrote-then}
 use Rattle.reporter.proofs.WordLines.{two-numbers, two-numbers-length}
 use Rattle.reporter.proofs.lines.write_no.Statement.{statement}
 use Rattle.reporter.proofs.lines.write_no.Tie as tie

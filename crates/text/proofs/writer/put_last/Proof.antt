@@ -2,7 +2,7 @@
 -- Assumes nothing.
 use native.Mathlib.Omega.{arith}
 use borrow.Author.Needs.{needs}
-use Rattle.text.proofs.WroteLaws.{wrote-byte}
+use Rattle.formats.proofs.WroteLaws.{wrote-byte}
 use Rattle.text.proofs.writer.put_last.Statement.{statement}
 use Rattle.text.proofs.writer.put_last.Tie as tie
 

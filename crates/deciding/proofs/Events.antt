@@ -1,0 +1,47 @@
+-- A history kept in arrays, from its front: its events line by line, and the marks among them.
+-- Assumes nothing.
+use Prim.Native.Nat.{ℕ, zero, suc, _+_, _≤_, _<_}
+use mathlib.Core.Path.{_≡_, refl, sym, ap, _∙_}
+use mathlib.Core.Bool.{Bool, true, false, not, _&&_, _||_}
+use mathlib.Core.List.{List, [], _∷_, _++_}
+use native.Mathlib.Nat.{add-zero, zero-add}
+use native.Mathlib.Omega.{arith}
+use lib.Dec.{eqb, ltb, leb}
+use lib.ListN.{getD}
+use borrow.Author.Tests.{eqb-true, eqb-false, ne-eqb, lt-ltb, le-ltb, ltb-true, ltb-false, lt-leb, le-leb}
+use Rattle.laws.specs.Choice.{pick, by-test, not-both}
+use Rattle.laws.specs.Lists.{same}
+use Rattle.conflict.specs.declared.action.Kind.{Kind}
+use Rattle.conflict.specs.declared.action.Kind.the-variants.{Read, Write, Increment}
+use Rattle.conflict.specs.declared.action.Action.{Action}
+use Rattle.conflict.specs.declared.action.Mark.{Mark}
+use Rattle.conflict.specs.declared.action.Mark.the-variants.{Commit, GiveUp, Back}
+use Rattle.conflict.specs.declared.action.Event.{Event}
+use Rattle.conflict.specs.declared.action.Event.the-variants.{Does, Ends}
+use Rattle.conflict.specs.History.{History, isCommit, isBack, marked}
+use Rattle.conflict.proofs.Appended.{marked-append}
+use Rattle.verdicts.specs.Arrays.{eventBy, historyBy}
+use Rattle.deciding.specs.Counted.{hasCommit, countedFrom}
+
+module _ (codes jobs cells : List ℕ) where
+  -- the event of line p
+  unfoldable pub eventAt : ℕ → Event
+  eventAt p = eventBy (getD codes p 0) (getD jobs p 0) (getD cells p 0)
+
+  -- the events of the m lines from k on
+  unfoldable pub eventsFrom : ℕ → ℕ → History
+  eventsFrom k zero = []
+  eventsFrom k (suc m) = eventAt k ∷ eventsFrom (suc k) m
+
+  -- one line more stands at the end
+  pub events-more : (k m : ℕ) → eventsFrom k (suc m) ≡ eventsFrom k m ++ eventAt (k + m) ∷ []
+  unfolding eventsFrom
+  events-more k zero = rw (add-zero k)
+  events-more k (suc m) = ap (λ h. eventAt k ∷ h) (events-more (suc k) m ∙ ap (λ n. eventsFrom (suc k) m ++ eventAt n ∷ []) (omega arith))
+
+  -- the history of the first n lines is their events
+  pub history-events : (n : ℕ) → historyBy codes jobs cells n ≡ eventsFrom 0 n
+  unfolding historyBy eventsFrom eventAt
+  history-events zero = refl
+  history-events (suc n) =
+      ap (λ h. h ++ eventAt n ∷ []) (history-events n) ∙ sym (events-more 0 n ∙ ap (λ p. eventsFrom 0 n ++ eventAt p ∷ []) (zero-add n))

@@ -1,0 +1,131 @@
+-- The smallest job that is left and passes a test, looked for from the smallest number on.
+-- Assumes nothing.
+use Prim.Native.Nat.{ℕ, zero, suc, _+_, _-_, _*_, _≤_, _<_}
+use mathlib.Core.Path.{_≡_, refl, sym, ap, _∙_}
+use mathlib.Core.Bool.{Bool, true, false, not, _&&_, _||_}
+use mathlib.Core.List.{List, [], _∷_}
+use mathlib.Core.Option.{Option, none, some}
+use native.Mathlib.Numerals.{add-one}
+use native.Mathlib.Omega.{arith}
+use lib.Dec.{ltb}
+use lib.ListN.{length, getD}
+use borrow.Author.Tests.{lt-ltb}
+use Rattle.laws.specs.Choice.{by-test, not-both}
+use Rattle.laws.specs.Lists.{member, put}
+use Rattle.verdicts.specs.Order.{Edges, first, preceded, ready}
+use Rattle.verdicts.specs.Knot.{predecessor}
+use Rattle.verdicts.proofs.Firsts.{by-one, first-is, first-none}
+use Rattle.verdicts.proofs.Preceded.{preceded-by, precedes}
+use Rattle.deciding.specs.Lists.{listed}
+use Rattle.deciding.specs.Grouped.{edgesIn}
+use Rattle.deciding.specs.Left.{leftOf, orNobody}
+use Rattle.deciding.proofs.Listing.{listed-is, listed-few}
+
+-- the jobs from i on that are left
+unfoldable pub leftFrom : List Bool → ℕ → List ℕ
+leftFrom left i = listed (λ j. getD left j false) i (256 - i)
+
+module _ (left : List Bool) where
+  -- the next number, if it is left, and those behind it
+  left-next : (i : ℕ) → i < 256 → leftFrom left i ≡ put (getD left i false) i (leftFrom left (i + 1))
+  unfolding leftFrom listed
+  left-next i h =
+      let e : 256 - i ≡ suc (256 - (i + 1)) = omega arith in
+      rw (e, add-one i)
+
+  module _ (test : ℕ → Bool) where
+    -- at first all are looked at
+    pub seek-start : first test (leftOf left) ≡ first test (leftFrom left 0)
+    unfolding leftOf leftFrom
+    seek-start = refl
+
+    -- a job that is not left is passed
+    pub seek-gone : (i : ℕ) (o : Option ℕ) → i < 256 → getD left i false ≡ false → o ≡ first test (leftFrom left i) → o ≡ first test (leftFrom left (i + 1))
+    unfolding put
+    seek-gone i o h f e = e ∙ rw (left-next i h, f)
+
+    -- and so is one that does not pass the test
+    pub seek-past : (i : ℕ) (o : Option ℕ) → i < 256 → test i ≡ false → o ≡ first test (leftFrom left i) → o ≡ first test (leftFrom left (i + 1))
+    unfolding put first
+    seek-past i o h f e =
+        e ∙ rw (left-next i h) (by-test (getD left i false) (λ t. rw (t, f)) (λ g. rw g))
+
+    -- one that is left and passes is found
+    pub seek-found : (i : ℕ) (o : Option ℕ) → i < 256 → getD left i false ≡ true → test i ≡ true → o ≡ first test (leftFrom left i) → i ≡ orNobody o
+    unfolding put first orNobody
+    seek-found i o h t p e =
+        let there : first test (leftFrom left i) ≡ some i = rw (left-next i h, t, p) in
+        sym (ap orNobody (e ∙ there))
+
+    -- when all numbers are passed there is none
+    pub seek-none : (i : ℕ) (o : Option ℕ) → 256 ≤ i → o ≡ first test (leftFrom left i) → 256 ≡ orNobody o
+    unfolding leftFrom listed first orNobody
+    seek-none i o h e =
+        let z : 256 - i ≡ 0 = omega arith in
+        let empty : first test (leftFrom left i) ≡ none = rw z in
+        sym (ap orNobody (e ∙ empty))
+
+  -- a job that is left is one of 256
+  pub left-small : (j : ℕ) → member j (leftOf left) ≡ true → j < 256
+  unfolding leftOf
+  left-small j m = let r = listed-is (λ i. getD left i false) 0 256 j m in omega (arith, r .1)
+
+  -- and they are no more
+  pub left-few : length (leftOf left) ≤ 256
+  unfolding leftOf
+  left-few = listed-few (λ i. getD left i false) 0 256
+
+  module _ (e : Edges) (j : ℕ) where
+    -- nobody found means that there is none
+    nobody-none : orNobody (predecessor e (leftOf left) j) ≡ 256 → preceded e (leftOf left) j ≡ false
+    unfolding predecessor orNobody
+    nobody-none h =
+        by-one (predecessor e (leftOf left) j)
+        (λ q. by-test (preceded e (leftOf left) j)
+        (λ t. let by = preceded-by e (leftOf left) j t in not-both (by .2) (first-none (λ i. e i j) (leftOf left) q (by .0) (by .1)))
+        (λ f. f))
+        (λ i q.
+        let small : i < 256 = left-small i (first-is (λ k. e k j) (leftOf left) i q .0) in
+        let same′ : i ≡ 256 = sym (ap orNobody q) ∙ h in
+        absurd (omega arith))
+
+    -- and somebody found that there is one
+    somebody-some : (orNobody (predecessor e (leftOf left) j) ≡ 256 → ⊥) → preceded e (leftOf left) j ≡ true
+    unfolding predecessor orNobody
+    somebody-some h =
+        by-one (predecessor e (leftOf left) j)
+        (λ q. absurd (h (ap orNobody q)))
+        (λ i q. let r = first-is (λ k. e k j) (leftOf left) i q in precedes e (leftOf left) i j (r .0) (r .1))
+
+    -- a job for which nobody is found is ready
+    pub nobody-ready : (p : ℕ) → p ≡ orNobody (predecessor e (leftOf left) j) → p ≡ 256 → not (preceded e (leftOf left) j) ≡ true
+    nobody-ready p h n = ap not (nobody-none (sym h ∙ n))
+
+    -- one for which somebody is found is not
+    pub somebody-busy : (p : ℕ) → p ≡ orNobody (predecessor e (leftOf left) j) → (p ≡ 256 → ⊥) → not (preceded e (leftOf left) j) ≡ false
+    somebody-busy p h n = ap not (somebody-some (λ q. n (h ∙ q)))
+
+  -- who is found is one of those left
+  pub found-left : (test : ℕ → Bool) (j : ℕ) → j ≡ orNobody (first test (leftOf left)) → (j ≡ 256 → ⊥) → (first test (leftOf left) ≡ some j) × (j < 256)
+  unfolding orNobody
+  found-left test j h n =
+      by-one (first test (leftOf left))
+      (λ q. absurd (n (h ∙ ap orNobody q)))
+      (λ i q.
+      let same′ : j ≡ i = h ∙ ap orNobody q in
+      (q ∙ ap some (sym same′), rw same′ (left-small i (first-is test (leftOf left) i q .0))))
+
+  -- where nobody is found there is none
+  pub none-left : (test : ℕ → Bool) (j : ℕ) → j ≡ orNobody (first test (leftOf left)) → j ≡ 256 → first test (leftOf left) ≡ none
+  unfolding orNobody
+  none-left test j h n =
+      by-one (first test (leftOf left)) (λ q. q)
+      (λ i q.
+      let small : i < 256 = left-small i (first-is test (leftOf left) i q .0) in
+      let same′ : j ≡ i = h ∙ ap orNobody q in
+      absurd (omega arith))
+
+-- the table's edges between two of the 256 jobs
+pub edge-there : (table : List Bool) (i j : ℕ) → i < 256 → j < 256 → edgesIn table i j ≡ getD table (j * 256 + i) false
+unfolding edgesIn
+edge-there table i j bi bj = rw (lt-ltb i 256 bi, lt-ltb j 256 bj)

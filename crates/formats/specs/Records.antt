@@ -1,0 +1,39 @@
+-- The records, and what writing one into a lent buffer tells and leaves (01, Lines).
+use Prim.Native.Nat.{ℕ, _+_}
+use mathlib.Core.Bool.{Bool}
+use mathlib.Core.List.{List, [], _∷_, _++_}
+use lib.Dec.{leb}
+use lib.ListN.{length, take, drop}
+use Rattle.laws.specs.Choice.{pick}
+use Rattle.terms.specs.declared.letters.Letter.{Letter}
+use Rattle.terms.specs.declared.words.Word.{Word}
+use Rattle.terms.specs.declared.refusals.Refusal.the-variants.{NoRoom}
+use Rattle.terms.specs.Letters.{byteOf, hasJob, hasCell}
+use Rattle.terms.specs.Words.{tab, newline, spelt}
+use Rattle.formats.specs.declared.Written.{Written}
+use Rattle.formats.specs.declared.Written.the-variants.{Next, Refused}
+use Rattle.formats.specs.Decimal.{decimal}
+
+-- answer record: request line number, word, number (01, Lines)
+unfoldable pub answerRecord : ℕ → Word → ℕ → List ℕ
+answerRecord line word number = decimal line ++ tab ∷ spelt word ++ tab ∷ decimal number ++ newline ∷ []
+
+-- a further field where there is one: a tab and the number
+unfoldable pub field : Bool → ℕ → List ℕ
+field there n = pick there (tab ∷ decimal n) []
+
+-- the line of a letter with the fields it has: a history record, and a request line too (01, Lines)
+unfoldable pub lineRecord : Letter → ℕ → ℕ → List ℕ
+lineRecord l job cell = byteOf l ∷ field (hasJob l) job ++ field (hasCell l) cell ++ newline ∷ []
+
+-- a record fits from the place given: it ends within the buffer, so the place is not past the end either (01, refusal 15)
+unfoldable pub fits : List ℕ → ℕ → List ℕ → Bool
+fits buffer at bytes = leb (at + length bytes) (length buffer)
+
+-- what writing tells: the place after the record, or refusal 15 (01, Lines)
+unfoldable pub told : List ℕ → ℕ → List ℕ → Written
+told buffer at bytes = pick (fits buffer at bytes) (Next (at + length bytes)) (Refused NoRoom)
+
+-- what the buffer then holds: the record from the place given and not before it, all other bytes as they were; after a refusal every byte (01, Lines)
+unfoldable pub left : List ℕ → ℕ → List ℕ → List ℕ
+left buffer at bytes = pick (fits buffer at bytes) (take at buffer ++ bytes ++ drop (at + length bytes) buffer) buffer
