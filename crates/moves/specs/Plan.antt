@@ -1,7 +1,7 @@
 -- What a step is to do, decided before anything changes (01, rules 1 to 3; 01, Refusals by number).
 use Prim.Native.Nat.{ℕ, _<_}
 use mathlib.Core.Bool.{true, false}
-use mathlib.Core.List.{List, []}
+use mathlib.Core.List.{List}
 use lib.Dec.{eqb, ltb}
 use Rattle.laws.specs.Choice.{pick}
 use Rattle.laws.specs.Lists.{pos}
