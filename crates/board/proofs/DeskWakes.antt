@@ -1,4 +1,4 @@
--- The wakes of the desk that runs: each waited for its cell with its kind, runs after the step and holds what it needs; none unless rule 4 ran; and nobody else's status or place changes (01, rule 4; 01, The desk's rules).
+-- The wakes of the desk that runs: each waited for its cell with its kind, runs after the step and holds what it needs; none unless rule 4 ran; and nobody else's status, place or lock changes (01, rule 4; 01, The desk's rules).
 -- Assumes nothing.
 use Prim.Native.Nat.{ℕ, _≤_}
 use mathlib.Core.Path.{_≡_, sym, ap, _∙_}
@@ -18,9 +18,10 @@ use Rattle.rules.specs.Table.{named}
 use Rattle.rules.specs.Waiting.{In, first, later}
 use Rattle.rules.proofs.Waking as waking
 use Rattle.rules.proofs.Bystanders.{bystander, bystander-place}
+use Rattle.rules.proofs.OthersLocks.{bystander-locks, woken-locks}
 use Rattle.board.specs.declared.state.Desk.{Desk}
 use Rattle.board.specs.Steps.{noAction, stepOf}
-use Rattle.board.specs.Stands.{statusBy, wakesTold, Tied, Started}
+use Rattle.board.specs.Stands.{statusBy, modeBy, wakesTold, Tied, Started}
 use Rattle.board.specs.Runs.{request}
 use Rattle.board.specs.Due.{namedBy}
 use Rattle.board.specs.Effects.{Woken, RunEnds, by-commit, by-give-up, by-back}
@@ -74,3 +75,16 @@ module _ {d : Desk} {h : History} (s : Started d h) (kind job c : ℕ) where
     desk-bystander-place =
         by-step s kind job c (λ D O. i ≢ table.namedBy D job (letterOf kind) → i ≢ 0 → member i (O .desk .jobs) ≡ member i (D .jobs))
         (λ D _ m. bystander-place D (request kind job c) i (unfold named in m)) (λ _ _ k. k n)
+
+    -- and, if it is not among the wakes, holds on every cell exactly what it held
+    pub desk-bystander-locks : isWoken i (wakesTold (stepOf d kind job c .said)) ≡ false → (b : ℕ) → modeBy (stepOf d kind job c .desk) b i ≡ modeBy d b i
+    unfolding namedBy
+    desk-bystander-locks =
+        by-step s kind job c (λ D O. i ≢ table.namedBy D job (letterOf kind) → isWoken i (O .wakes) ≡ false → (b : ℕ) → O .desk .row b .held i ≡ D .row b .held i)
+        (λ D g m. bystander-locks g (request kind job c) i (unfold named in m)) (λ _ _ k. k n)
+
+  -- a wake's job holds on every cell but the wake's exactly what it held
+  pub desk-woken-locks : (x : Action) → In x (wakesTold (stepOf d kind job c .said)) → (b : ℕ) → b ≢ x .cell → modeBy (stepOf d kind job c .desk) b (x .job) ≡ modeBy d b (x .job)
+  desk-woken-locks x =
+      by-step s kind job c (λ D O. In x (O .wakes) → (b : ℕ) → b ≢ x .cell → O .desk .row b .held (x .job) ≡ D .row b .held (x .job))
+      (λ D g. woken-locks g (request kind job c) x) (λ _ _ k. k)

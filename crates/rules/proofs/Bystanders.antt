@@ -29,7 +29,7 @@ ended-others d j s js said i n f = others-stay (at (d .stat) j s) (wakesAfter d 
 
 module _ (d : Desk) (r : Request) (i : ℕ) (n : i ≢ named d r) where
   -- a job that the answer does not name is not the request's, unless that is a begin
-  not-job : {l : Letter} → letterOf (r .kind) ≡ Known l → isBegin l ≡ false → i ≢ r .job
+  pub not-job : {l : Letter} → letterOf (r .kind) ≡ Known l → isBegin l ≡ false → i ≢ r .job
   unfolding named
   not-job e f q = n (q ∙ rw (e, f))
 

@@ -61,3 +61,4 @@ pub mod OneRecordEach
 pub mod ExactModes
 pub mod WakesTold
 pub mod FourKinds
+pub mod OthersLocks

@@ -32,12 +32,12 @@ use Rattle.rules.proofs.WakeOrder.{Searched, granted-ahead, before-none
 use Rattle.rules.proofs.WakeOrder as searching
 
 -- a step that ends a run leaves the cells and tells the wakes of rule 4
-record Ran (d : Desk) (r : Request) : Type 0 where
-  wakes : step d r .wakes ≡ wakesAfter d (r .job)
-  row : (c : ℕ) → step d r .desk .row c ≡ rowsAfter d (r .job) c .row
+pub record Ran (d : Desk) (r : Request) : Type 0 where
+  pub wakes : step d r .wakes ≡ wakesAfter d (r .job)
+  pub row : (c : ℕ) → step d r .desk .row c ≡ rowsAfter d (r .job) c .row
 
 -- and every commit, give-up and sending back is such a step
-ran : (d : Desk) (r : Request) → RunEnds d r → Ran d r
+pub ran : (d : Desk) (r : Request) → RunEnds d r → Ran d r
 unfolding close sendBack rule4
 ran d r (by-commit l g) = let e = commit-went d r (r .job) l g .outcome in record { wakes = ap (λ o. o .wakes) e; row = λ c. ap (λ o. o .desk .row c) e }
 ran d r (by-give-up l g) = let e = give-up-went d r (r .job) l g .outcome in record { wakes = ap (λ o. o .wakes) e; row = λ c. ap (λ o. o .desk .row c) e }
