@@ -13,7 +13,7 @@ use Rattle.rules.specs.Desk.{running, waiting, isLive, Waiter}
 use Rattle.rules.specs.Step as paper-step
 use Rattle.rules.specs.Waiting as paper-waiting
 use Rattle.rules.specs.Waiting.{ahead}
-use Rattle.rules.proofs.Invariant.{Inv}
+use Rattle.rules.specs.Invariant.{Inv}
 use Rattle.rules.proofs.Kept.{started-inv}
 use Rattle.rules.proofs.AheadLaws.{ahead-in, ahead-younger, younger-ahead}
 use Rattle.rules.proofs.InTheWay.{way-some, way-younger, way-live}

@@ -17,7 +17,7 @@ use Rattle.conflict.specs.History.{History}
 use Rattle.conflict.specs.Runs.{ended}
 use Rattle.rules.specs.declared.Answer.the-variants.{Wait}
 use Rattle.rules.specs.Desk as paper
-use Rattle.rules.specs.Desk.{waiting, Request}
+use Rattle.rules.specs.Desk.{waiting, Request, In}
 use Rattle.rules.specs.Locks.{wants}
 use Rattle.rules.specs.Rules as rules
 use Rattle.rules.specs.Rules.{wake}
@@ -25,8 +25,8 @@ use Rattle.rules.specs.Step as paper-step
 use Rattle.rules.specs.Step.{step}
 use Rattle.rules.specs.Runs as paper-runs
 use Rattle.rules.specs.Waiting as paper-waiting
-use Rattle.rules.specs.Waiting.{In, GivesUp}
-use Rattle.rules.proofs.Invariant.{Inv}
+use Rattle.rules.specs.Waiting.{GivesUp}
+use Rattle.rules.specs.Invariant.{Inv}
 use Rattle.rules.proofs.Kept.{step-inv, started-inv}
 use Rattle.rules.proofs.JustAsked.{asker-waits, in-way-when-asked}
 use Rattle.rules.proofs.NotForgotten.{still-in-way, granted-at-last}

@@ -12,11 +12,12 @@ use Rattle.conflict.specs.Modes.{isFree}
 use Rattle.conflict.specs.History.{History}
 use Rattle.rules.specs.declared.Answer.the-variants.{Go, Wait, Back}
 use Rattle.rules.specs.Desk.{running, waiting}
+use Rattle.rules.specs.Effects as effects
 use Rattle.rules.proofs.Statuses.{running-not-waiting}
-use Rattle.rules.proofs.Opening as opening
-use Rattle.rules.proofs.Ending as ending
-use Rattle.rules.proofs.Granting as granting
-use Rattle.rules.proofs.Queueing as queueing
+use Rattle.rules.proofs.Opening.{begins, retries}
+use Rattle.rules.proofs.Ending.{closes, sends-back}
+use Rattle.rules.proofs.Granting.{grants-need}
+use Rattle.rules.proofs.Queueing.{waits}
 use Rattle.board.specs.declared.state.Desk.{Desk}
 use Rattle.board.specs.Steps.{stepOf}
 use Rattle.board.specs.Stands.{statusBy, modeBy, Started, after}
@@ -31,7 +32,7 @@ module _ {d : Desk} {h : History} (s : Started d h) (kind job c : ℕ) where
   -- a begin that goes opens a running job that holds nothing, under the next number
   pub desk-begins : (j : ℕ) → letterOf kind ≡ Known Begin → stepOf d kind job c .said .answer ≡ Go j → Begins d (stepOf d kind job c .desk) j
   desk-begins j l e =
-      by-step s kind job c (λ D O. O .said ≡ Go j → opening.Begins D (O .desk) j) (λ D g. opening.begins g (request kind job c) j l)
+      by-step s kind job c (λ D O. O .said ≡ Go j → effects.Begins D (O .desk) j) (λ D g. begins g (request kind job c) j l)
       (λ q q′ k. let x = k e in record {
         number = x .number;
         next = x .next;
@@ -47,7 +48,7 @@ module _ {d : Desk} {h : History} (s : Started d h) (kind job c : ℕ) where
   -- a retry that goes makes a sent back job running again, holding nothing (01, rule 5)
   pub desk-retries : (j : ℕ) → letterOf kind ≡ Known Retry → stepOf d kind job c .said .answer ≡ Go j → Retries d (stepOf d kind job c .desk) j
   desk-retries j l e =
-      by-step s kind job c (λ D O. O .said ≡ Go j → opening.Retries D (O .desk) j) (λ D g. opening.retries g (request kind job c) j l)
+      by-step s kind job c (λ D O. O .said ≡ Go j → effects.Retries D (O .desk) j) (λ D g. retries g (request kind job c) j l)
       (λ q q′ k. let x = k e in record {
         was = x .was;
         status = x .status;
@@ -61,7 +62,7 @@ module _ {d : Desk} {h : History} (s : Started d h) (kind job c : ℕ) where
   -- a commit or a give-up that goes closes the job, frees its place and leaves it no lock (01, rule 4)
   pub desk-closes : (j : ℕ) → (letterOf kind ≡ Known Commit) ⊎ (letterOf kind ≡ Known GiveUp) → stepOf d kind job c .said .answer ≡ Go j → Closes d (stepOf d kind job c .desk) j
   desk-closes j l e =
-      by-step s kind job c (λ D O. O .said ≡ Go j → ending.Closes D (O .desk) j) (λ D g. ending.closes g (request kind job c) j l)
+      by-step s kind job c (λ D O. O .said ≡ Go j → effects.Closes D (O .desk) j) (λ D g. closes g (request kind job c) j l)
       (λ q q′ k. let x = k e in record {
         status = x .status;
         locks = x .away .holds-nothing;
@@ -74,7 +75,7 @@ module _ {d : Desk} {h : History} (s : Started d h) (kind job c : ℕ) where
   -- a sent back job holds nothing and keeps its number and its place (01, Jobs and their numbers)
   pub desk-sends-back : (j : ℕ) → stepOf d kind job c .said .answer ≡ Back j → SendsBack d (stepOf d kind job c .desk) j
   desk-sends-back j e =
-      by-step s kind job c (λ D O. O .said ≡ Back j → ending.SendsBack D (O .desk) j) (λ D g. ending.sends-back g (request kind job c) j)
+      by-step s kind job c (λ D O. O .said ≡ Back j → effects.SendsBack D (O .desk) j) (λ D g. sends-back g (request kind job c) j)
       (λ q q′ k. let x = k e in record {
         status = x .status;
         locks = x .away .holds-nothing;
@@ -86,7 +87,7 @@ module _ {d : Desk} {h : History} (s : Started d h) (kind job c : ℕ) where
   -- after a go the job holds a mode that covers what it needs, and every other job holds what it held (01, rules 1 to 3)
   pub desk-grants-need : (a : Ask) (j : ℕ) → letterOf kind ≡ Known (Asks a) → stepOf d kind job c .said .answer ≡ Go j → Grants d (stepOf d kind job c .desk) c a j
   desk-grants-need a j l e =
-      by-step s kind job c (λ D O. O .said ≡ Go j → granting.Grants D (O .desk) (request kind job c) a j) (λ D _. granting.grants-need D (request kind job c) a j l)
+      by-step s kind job c (λ D O. O .said ≡ Go j → effects.Grants D (O .desk) (request kind job c) a j) (λ D _. grants-need D (request kind job c) a j l)
       (λ q q′ k. let x = k e in record {
         holds = x .holds;
         others = x .others;
@@ -108,7 +109,7 @@ module _ {d : Desk} {h : History} (s : Started d h) (kind job c : ℕ) where
   -- a step that answers wait makes the job wait, still holding its old mode, first or last (01, rules 2 and 3)
   pub desk-waits : (j : ℕ) → stepOf d kind job c .said .answer ≡ Wait j → (a : Ask) × StartsToWait d (stepOf d kind job c .desk) c a j
   desk-waits j e =
-      by-step s kind job c (λ D O. O .said ≡ Wait j → (a : Ask) × queueing.Waits D (O .desk) (request kind job c) a j) (λ D _. queueing.waits D (request kind job c) j)
+      by-step s kind job c (λ D O. O .said ≡ Wait j → (a : Ask) × effects.StartsToWait D (O .desk) (request kind job c) a j) (λ D _. waits D (request kind job c) j)
       (λ q q′ k. let (a, x) = k e in (
         a,
         record {

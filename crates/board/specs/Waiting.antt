@@ -11,8 +11,8 @@ use Rattle.conflict.specs.declared.modes.Mode.{Mode}
 use Rattle.conflict.specs.declared.action.Action.{Action}
 use Rattle.conflict.specs.Modes.{needed, recorded, covers, asked, isFree}
 use Rattle.conflict.specs.Runs.{ended}
-use Rattle.rules.specs.Desk.{running, waiting, Request, isOpen, isLive}
-use Rattle.rules.specs.Waiting.{In, GivesUp}
+use Rattle.rules.specs.Desk.{running, waiting, Request, isOpen, isLive, In}
+use Rattle.rules.specs.Waiting.{GivesUp}
 use Rattle.board.specs.declared.state.Desk.{Desk}
 use Rattle.board.specs.declared.state.Outcome.{Outcome}
 use Rattle.board.specs.Stands.{statusBy, modeBy, wakesTold}

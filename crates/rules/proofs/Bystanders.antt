@@ -16,7 +16,8 @@ use Rattle.rules.specs.Desk.{Status, closed, running, sentback, waiting,
 use Rattle.rules.specs.Rules.{Outcome, refused, withRow, withStatus, isWoken, rule4}
 use Rattle.rules.specs.Step.{step}
 use Rattle.rules.specs.Table.{isBegin, named}
-use Rattle.rules.proofs.Moved.{Moved, refuses, begins, commits, gives-up, retries, has-it, promotes, waits-in-front, enters, waits-last, goes-back, step-moved}
+use Rattle.rules.specs.Moves.{Moved, refuses, begins, commits, gives-up, retries, has-it, promotes, waits-in-front, enters, waits-last, goes-back}
+use Rattle.rules.proofs.Moved.{step-moved}
 use Rattle.rules.proofs.Tests.{at-other}
 use Rattle.rules.proofs.Places.{seated-others, vacated-others}
 use Rattle.rules.proofs.Wakes.{others-stay}

@@ -12,9 +12,10 @@ use Rattle.rules.specs.declared.Answer.the-variants.{Go, Back}
 use Rattle.rules.specs.Desk.{Status, closed, running, waiting, sentback, isOpen, Desk, Request, at, vacated}
 use Rattle.rules.specs.Rules.{Outcome, refused, withRow, withStatus, rule4}
 use Rattle.rules.specs.Step.{step}
-use Rattle.rules.proofs.Moved.{Moved, step-moved}
-use Rattle.rules.proofs.Moved.Moved.{refuses, begins, commits, gives-up, retries, has-it, promotes, waits-in-front, enters, waits-last, goes-back}
-use Rattle.rules.proofs.Invariant.{Inv}
+use Rattle.rules.specs.Moves.{Moved}
+use Rattle.rules.specs.Moves.Moved.{refuses, begins, commits, gives-up, retries, has-it, promotes, waits-in-front, enters, waits-last, goes-back}
+use Rattle.rules.proofs.Moved.{step-moved}
+use Rattle.rules.specs.Invariant.{Inv}
 use Rattle.rules.proofs.Statuses.{running-open, sentback-open, closed-not-open, not-open-not-waiting}
 use Rattle.rules.proofs.Tests.{at-other}
 use Rattle.rules.proofs.RunEnd.{others-not-woken, others-after}

@@ -1,5 +1,4 @@
 pub mod Moved
-pub mod Invariant
 pub mod Statuses
 pub mod Queue
 pub mod WakeOrder

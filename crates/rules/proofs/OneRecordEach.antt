@@ -25,7 +25,8 @@ use Rattle.rules.specs.Desk.{Status, Waiter, Row, Desk, Request, at, idl
 use Rattle.rules.specs.Locks.{without, agrees, wants, woke, settle, released}
 use Rattle.rules.specs.Rules.{Outcome, refused, withRow, withStatus, wakesAt, wakesOf, rowsAfter, rule4}
 use Rattle.rules.specs.Step.{step, wentBy, ownRecords, wakeRecords, recordsOf, events}
-use Rattle.rules.proofs.Moved.{Moved, refuses, begins, commits, gives-up, retries, has-it, promotes, waits-in-front, enters, waits-last, goes-back, taking, standing as standing-in, step-moved}
+use Rattle.rules.specs.Moves.{Moved, refuses, begins, commits, gives-up, retries, has-it, promotes, waits-in-front, enters, waits-last, goes-back, taking, standing as standing-in}
+use Rattle.rules.proofs.Moved.{step-moved}
 use Rattle.rules.proofs.Tests.{at-same, at-other}
 
 -- how many stand in the queues of the first n cells

@@ -10,21 +10,22 @@ use Rattle.terms.specs.Limits.{cells}
 use Rattle.conflict.specs.declared.action.Action.{Action}
 use Rattle.conflict.specs.declared.modes.Mode.{Mode}
 use Rattle.conflict.specs.History.{History}
-use Rattle.rules.specs.Desk.{Waiter, Desk, Request, at}
+use Rattle.rules.specs.Desk.{Waiter, Desk, Request, at, In}
 use Rattle.rules.specs.Rules.{Outcome, refused, withRow, withStatus, wake, isWoken, rowsAfter, rule4}
 use Rattle.rules.specs.Step.{step, Started}
 use Rattle.rules.specs.Table.{named}
-use Rattle.rules.specs.Waiting.{In}
+use Rattle.rules.specs.Effects.{RunEnds}
+use Rattle.rules.specs.Moves.{Moved, refuses, begins, commits, gives-up, retries, has-it, promotes, waits-in-front, enters, waits-last, goes-back}
 use Rattle.rules.proofs.Kept.{started-inv}
-use Rattle.rules.proofs.Invariant.{Inv}
+use Rattle.rules.specs.Invariant.{Inv}
 use Rattle.rules.proofs.Queue.{in-none}
 use Rattle.rules.proofs.Statuses.{one-cell}
 use Rattle.rules.proofs.Tests.{at-other, at-each}
 use Rattle.rules.proofs.RunEnd.{wakesAfter, row-releases, granted-woken}
 use Rattle.rules.proofs.WakeOrder.{search-order}
-use Rattle.rules.proofs.Waking.{RunEnds, wakes-only-rule-4}
+use Rattle.rules.proofs.Waking.{wakes-only-rule-4}
 use Rattle.rules.proofs.WakesTold.{Ran, ran}
-use Rattle.rules.proofs.Moved.{Moved, refuses, begins, commits, gives-up, retries, has-it, promotes, waits-in-front, enters, waits-last, goes-back, step-moved}
+use Rattle.rules.proofs.Moved.{step-moved}
 use Rattle.rules.proofs.Bystanders.{not-job}
 
 module _ (d : Desk) (j c i : ℕ) where

@@ -24,9 +24,11 @@ use Rattle.rules.specs.declared.Answer.the-variants.{Go, Back as sent-ba
 use Rattle.rules.specs.Desk.{Status, closed, sentback, isOpen, Desk, Request, Waiter, Row, at, vacated}
 use Rattle.rules.specs.Rules.{Outcome, refused, withRow, withStatus, wakesOf, rowsAfter, rule4, grant}
 use Rattle.rules.specs.Step.{step, wentBy, ownRecords, wakeRecords, recordsOf, events}
-use Rattle.rules.proofs.Moved.{Asking, Moved, step-moved}
-use Rattle.rules.proofs.Moved.Moved.{refuses, begins, commits, gives-up, retries, has-it, promotes, waits-in-front, enters, waits-last, goes-back}
-use Rattle.rules.proofs.Invariant.{Inv}
+use Rattle.rules.specs.Asked.{Asking}
+use Rattle.rules.specs.Moves.{Moved}
+use Rattle.rules.specs.Moves.Moved.{refuses, begins, commits, gives-up, retries, has-it, promotes, waits-in-front, enters, waits-last, goes-back}
+use Rattle.rules.proofs.Moved.{step-moved}
+use Rattle.rules.specs.Invariant.{Inv}
 use Rattle.rules.proofs.Statuses.{running-open}
 use Rattle.rules.proofs.Tests.{at-same, at-each, agrees-each, alone-each}
 use Rattle.rules.proofs.Settle.{taking-pairs}

@@ -13,16 +13,11 @@ use Rattle.conflict.specs.declared.modes.Mode.{Mode}
 use Rattle.conflict.specs.Modes.{needed, covers, isFree}
 use Rattle.laws.specs.Lists.{member, distinct}
 use Rattle.conflict.specs.Runs.{ended}
-use Rattle.rules.specs.Desk.{running, waiting, Waiter, Row, Desk, Request, isOpen, isLive}
+use Rattle.rules.specs.Desk.{running, waiting, Waiter, Row, Desk, Request, isOpen, isLive, In}
 use Rattle.rules.specs.Locks.{wants}
 use Rattle.rules.specs.Rules.{Outcome, wake}
 use Rattle.rules.specs.Step.{step}
 use Rattle.rules.specs.Runs.{deskAfter, historyOf}
-
--- it stands in the list
-pub data In {A : Type 0} (w : A) : List A → Type 0 where
-  first : {q : List A} → In w (w ∷ q)
-  later : {v : A} {q : List A} → In w q → In w (v ∷ q)
 
 -- v stands ahead of w in the queue
 pub data Ahead (v w : Waiter) : List Waiter → Type 0 where
