@@ -36,12 +36,12 @@ use Rattle.board.specs.declared.state.Outcome.{Outcome}
 use Rattle.board.specs.Steps.{emptyDesk, stepOf}
 use Rattle.board.specs.Stands.{Stands, Tied, Started, after}
 use Rattle.board.specs.Runs.{request, stepTo, deskAfter, historyOf}
-use Rattle.board.specs.Waiting.{IsWaiting, InWay, WasInWay, held-it, stood-ahead, Waits, Patient, AllEnd, wakeOf, Granted, wantedMode, Served, ServedInTime}
+use Rattle.board.specs.Waiting.{IsWaiting, InWay, WasInWay, held-it, stood-ahead, Waits, Patient, AllEnd, wakeOf, Granted, wantedMode, Served, ServedInTime, waiterOf}
 use Rattle.board.proofs.StepTied.{tie}
 use Rattle.board.proofs.StartedStands.{stands-for-paper}
 use Rattle.board.proofs.Carrying.{run-stands, run-history, run-inv}
 use Rattle.board.proofs.DeskRuns.{desk-started-from-empty}
-use Rattle.board.proofs.DeskInWay.{waiterOf, way-to, way-from, desk-in-way-live, desk-waiter-is-older, desk-at-most-31}
+use Rattle.board.proofs.DeskInWay.{way-to, way-from, desk-in-way-live, desk-waiter-is-older, desk-at-most-31}
 
 module _ (c j : ℕ) (a : Ask) where
   -- to wait on by the arrays is to wait on at the paper's desk

@@ -8,14 +8,16 @@ use Rattle.terms.specs.declared.letters.Ask.{Ask}
 use Rattle.terms.specs.declared.letters.Letter.the-variants.{Begin, Commit, GiveUp, Retry, Asks}
 use Rattle.terms.specs.declared.letters.Lettered.the-variants.{Known}
 use Rattle.terms.specs.Letters.{letterOf}
+use Rattle.conflict.specs.declared.modes.Mode.the-variants.{Free}
 use Rattle.conflict.specs.Modes.{isFree}
 use Rattle.conflict.specs.History.{History}
 use Rattle.rules.specs.declared.Answer.the-variants.{Go, Wait, Back}
-use Rattle.rules.specs.Desk.{running, waiting}
+use Rattle.rules.specs.Desk.{closed, running, waiting, sentback}
 use Rattle.rules.specs.Effects as effects
 use Rattle.rules.proofs.Statuses.{running-not-waiting}
 use Rattle.rules.proofs.Opening.{begins, retries}
-use Rattle.rules.proofs.Ending.{closes, sends-back}
+use Rattle.rules.proofs.Ending.{closes, sends-back, sent-back-away}
+use Rattle.rules.proofs.ClosedForGood.{closed-for-good}
 use Rattle.rules.proofs.Granting.{grants-need}
 use Rattle.rules.proofs.Queueing.{waits}
 use Rattle.board.specs.declared.state.Desk.{Desk}
@@ -24,7 +26,7 @@ use Rattle.board.specs.Stands.{statusBy, modeBy, Started, after}
 use Rattle.board.specs.Runs.{request}
 use Rattle.board.specs.Waiting.{holds-it, stood-ahead}
 use Rattle.board.specs.Effects.{Begins, Retries, Closes, SendsBack, Grants, StartsToWait}
-use Rattle.board.proofs.Carrying.{by-step}
+use Rattle.board.proofs.Carrying.{by-desk, by-step}
 use Rattle.board.proofs.DeskInWay.{desk-waiter-is-older}
 use Rattle.board.proofs.DeskServed.{desk-asker-waits, desk-in-way-when-asked}
 
@@ -83,6 +85,15 @@ module _ {d : Desk} {h : History} (s : Started d h) (kind job c : ℕ) where
         places = x .places;
         next = x .next;
       })
+
+  -- and as long as it is sent back it holds nothing
+  pub desk-sent-back-away : (j : ℕ) → statusBy d j ≡ sentback → (b : ℕ) → modeBy d b j ≡ Free
+  desk-sent-back-away j e = by-desk s (λ D. D .stat j ≡ sentback → (b : ℕ) → D .row b .held j ≡ Free) (λ D g w. sent-back-away g j w .holds-nothing) (λ _ k. k e)
+
+  -- a job that was closed stays closed, and its number is never open again (01, Jobs and their numbers)
+  pub desk-closed-for-good : (j : ℕ) → j < d .next → statusBy d j ≡ closed → statusBy (stepOf d kind job c .desk) j ≡ closed
+  desk-closed-for-good j l e =
+      by-step s kind job c (λ D O. j < D .next → D .stat j ≡ closed → O .desk .stat j ≡ closed) (λ D g. closed-for-good g (request kind job c) j) (λ _ _ k. k l e)
 
   -- after a go the job holds a mode that covers what it needs, and every other job holds what it held (01, rules 1 to 3)
   pub desk-grants-need : (a : Ask) (j : ℕ) → letterOf kind ≡ Known (Asks a) → stepOf d kind job c .said .answer ≡ Go j → Grants d (stepOf d kind job c .desk) c a j

@@ -13,16 +13,16 @@ use Rattle.laws.specs.Lists.{same, member}
 use Rattle.laws.proofs.Lists.{member-first, member-later, member-more}
 use Rattle.conflict.specs.History.{History}
 use Rattle.rules.specs.declared.Answer.the-variants.{Go, Back}
-use Rattle.rules.specs.Desk.{closed, sentback, Desk, Request, isOpen, vacated}
+use Rattle.rules.specs.Desk.{closed, sentback, Desk, Request, isOpen, vacated, isLive}
 use Rattle.rules.specs.Rules.{rule4, close, sendBack}
 use Rattle.rules.specs.Step.{step, Started}
-use Rattle.rules.specs.Effects.{Closes, SendsBack}
+use Rattle.rules.specs.Effects.{Closes, SendsBack, Away}
 use Rattle.rules.proofs.Kept.{started-inv}
 use Rattle.rules.specs.Invariant.{Inv}
 use Rattle.rules.proofs.Statuses.{running-open}
 use Rattle.rules.proofs.Places.{vacated-others, vacated-gone}
 use Rattle.rules.proofs.OpenJobs.{open-not-zero}
-use Rattle.rules.proofs.Away.{ended-away, ended-status}
+use Rattle.rules.proofs.Away.{ended-away, ended-status, not-live-away}
 use Rattle.rules.proofs.Courses.{commit-went, give-up-went, ask-back}
 
 -- a place that is freed is free
@@ -70,3 +70,7 @@ pub sends-back : {d : Desk} {h : History} → Started d h → (r : Request) (j :
 sends-back {d} s r j g =
     let c = ask-back d r j g in
     rw (c .job, c .outcome) (back-sends (started-inv s) (r .job) (running-open (c .was .1 .runs)))
+
+-- and as long as it is sent back it holds nothing and stands in no queue (01, Jobs and their numbers)
+pub sent-back-away : {d : Desk} {h : History} → Started d h → (j : ℕ) → d .stat j ≡ sentback → Away d j
+sent-back-away s j e = not-live-away (started-inv s) j (unfold isLive in rw e)

@@ -58,6 +58,7 @@ pub mod WaiterStep
 pub mod RecordLimits
 pub mod OneRecordEach
 pub mod ExactModes
+pub mod RunEnded
 pub mod WakesTold
 pub mod FourKinds
 pub mod OthersLocks

@@ -9,8 +9,8 @@ use Rattle.conflict.specs.declared.action.Action.{Action}
 use Rattle.conflict.specs.declared.action.Event.the-variants.{Does, Ends}
 use Rattle.conflict.specs.Modes.{lets}
 use Rattle.conflict.specs.History.{History}
-use Rattle.conflict.specs.LockMachine.{Table, allows, Ran}
-use Rattle.conflict.specs.LockMachine.Ran.{start, grows, acts, stops}
+use Rattle.conflict.proofs.LockTable.{Table, allows, Ran}
+use Rattle.conflict.proofs.LockTable.Ran.{start, grows, acts, stops}
 use Rattle.conflict.proofs.ModeLaws.{covers-lets}
 use Rattle.rules.specs.Desk.{Desk, Request, freshDesk, idle, In, first, later}
 use Rattle.rules.specs.Rules.{Outcome, wake, rowsAfter, rule4}

@@ -24,7 +24,7 @@ use Rattle.rules.proofs.Tests.{at-other, at-each}
 use Rattle.rules.proofs.RunEnd.{wakesAfter, row-releases, granted-woken}
 use Rattle.rules.proofs.WakeOrder.{search-order}
 use Rattle.rules.proofs.Waking.{wakes-only-rule-4}
-use Rattle.rules.proofs.WakesTold.{Ran, ran}
+use Rattle.rules.proofs.RunEnded.{Ran, ran}
 use Rattle.rules.proofs.Moved.{step-moved}
 use Rattle.rules.proofs.Bystanders.{not-job}
 

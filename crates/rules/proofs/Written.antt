@@ -16,8 +16,7 @@ use Rattle.conflict.specs.declared.action.Mark.the-variants.{Commit, GiveUp, Ba
 use Rattle.conflict.specs.declared.action.Event.the-variants.{Does, Ends}
 use Rattle.conflict.specs.Modes.{needed, recorded, covers, beside, grants, asked, isFree}
 use Rattle.conflict.specs.History.{History}
-use Rattle.conflict.specs.Runs.{isLast}
-use Rattle.conflict.proofs.OneEvent.{back-not-last}
+use Rattle.conflict.proofs.OneEvent.{back-not-last, isLast}
 use Rattle.conflict.proofs.ModeLaws.{covers-refl, asked-covers, asked-grows, asked-free, is-free, grants-free}
 use Rattle.rules.specs.declared.Answer.{Answer}
 use Rattle.rules.specs.declared.Answer.the-variants.{Go, Back as sent-back}

@@ -8,9 +8,12 @@ use Rattle.laws.specs.Lists.{member}
 use Rattle.conflict.specs.declared.modes.Mode.{Mode}
 use Rattle.conflict.specs.declared.modes.Mode.the-variants.{Free}
 use Rattle.conflict.specs.Modes.{covers, beside, isFree}
-use Rattle.rules.specs.Desk.{In, Waiter, Row}
+use Rattle.rules.specs.Desk.{In, Waiter, Row, Desk, Request}
 use Rattle.rules.specs.Locks.{without, Settled, wants}
 use Rattle.rules.specs.Invariant.{Falling, FirstBlocked}
+use Rattle.rules.specs.Rules.{wakesOf}
+use Rattle.rules.specs.Step.{step}
+use Rattle.terms.specs.Limits.{cells}
 
 -- every holder is among the jobs listed
 abbrev pub Seated : List ℕ → (ℕ → Mode) → Type 0
@@ -42,3 +45,10 @@ pub record Releases (js : List ℕ) (j : ℕ) (r : Row) (s : Settled) : Type 0 w
   pub elder : (w : Waiter) (i : ℕ) → In w (s .row .queue) → i ≢ w .job → isFree (s .row .held i) ≡ false → w .job < i
   pub down : Falling (s .row .queue)
   pub blocked : FirstBlocked (s .row .held) (s .row .queue)
+
+-- the step carries rule 4 out for the request's job: every cell is released, and those granted there, cell by cell from 0 to 63, are the step's wakes (01, rule 4)
+pub record AllReleased (d : Desk) (r : Request) : Type 0 where
+  pub settled : ℕ → Settled
+  pub rows : (c : ℕ) → step d r .desk .row c ≡ settled c .row
+  pub wakes : step d r .wakes ≡ wakesOf settled cells
+  pub releases : (c : ℕ) → Releases (d .jobs) (r .job) (d .row c) (settled c)
