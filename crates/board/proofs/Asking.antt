@@ -19,7 +19,7 @@ use Rattle.rules.specs.Locks.{agrees, alone, olderThanHolders, olderThanWaiters
 use Rattle.rules.specs.Rules as rules
 use Rattle.rules.specs.Rules.{grant, queued, sendBack, rule1, rule2, rule3, ask}
 use Rattle.rules.specs.Step.{stepAsk}
-use Rattle.rules.proofs.Invariant.{Inv}
+use Rattle.rules.specs.Invariant.{Inv}
 use Rattle.board.specs.declared.state.Desk.{Desk}
 use Rattle.board.specs.declared.state.Decision.{Decision}
 use Rattle.board.specs.declared.state.Decision.the-variants.{Keep, Take, Stay, Away}

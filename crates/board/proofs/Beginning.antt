@@ -18,7 +18,7 @@ use Rattle.rules.specs.declared.Answer.the-variants.{Go}
 use Rattle.rules.specs.Desk.{closed, running, Waiter, at}
 use Rattle.rules.specs.Rules.{begin}
 use Rattle.rules.specs.Step.{stepBegin}
-use Rattle.rules.proofs.Invariant.{Inv}
+use Rattle.rules.specs.Invariant.{Inv}
 use Rattle.rules.proofs.Tests.{at-same, at-other, at-each}
 use Rattle.board.specs.declared.state.Desk.{Desk}
 use Rattle.board.specs.Codes.{runningCode}

@@ -9,7 +9,7 @@ use lib.ListN.{length, getD}
 use Rattle.laws.specs.Choice.{by-test}
 use Rattle.laws.specs.Lists.{pos}
 use Rattle.rules.specs.Desk.{at}
-use Rattle.rules.proofs.Invariant.{Once}
+use Rattle.rules.specs.Invariant.{Once}
 use Rattle.rules.proofs.Tests.{at-same, at-other, at-all}
 use Rattle.board.specs.Stands.{isSeated, byNumber}
 use Rattle.board.proofs.Cases.{by-same}

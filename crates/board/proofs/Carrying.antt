@@ -10,7 +10,7 @@ use Rattle.rules.specs.Rules as rules
 use Rattle.rules.specs.Step as paper-step
 use Rattle.rules.specs.Step.{step, events}
 use Rattle.rules.specs.Runs as paper-runs
-use Rattle.rules.proofs.Invariant.{Inv}
+use Rattle.rules.specs.Invariant.{Inv}
 use Rattle.rules.proofs.Kept.{step-inv, started-inv}
 use Rattle.board.specs.declared.state.Desk.{Desk}
 use Rattle.board.specs.declared.state.Outcome.{Outcome}

@@ -8,13 +8,11 @@ use Rattle.terms.specs.declared.letters.Ask.{Ask}
 use Rattle.conflict.specs.Modes.{needed, grants}
 use Rattle.conflict.specs.History.{History}
 use Rattle.rules.specs.declared.Answer.the-variants.{Go, Wait, Back}
-use Rattle.rules.specs.Desk.{waiting, Waiter}
+use Rattle.rules.specs.Desk.{waiting, Waiter, In, first}
 use Rattle.rules.specs.Step as paper-step
 use Rattle.rules.specs.Step.{step}
-use Rattle.rules.specs.Waiting.{In, first}
-use Rattle.rules.proofs.Moved as moved
+use Rattle.rules.specs.Asked as paper-asked
 use Rattle.rules.proofs.Kept.{started-inv}
-use Rattle.rules.proofs.Deciding as deciding
 use Rattle.rules.proofs.Deciding.{promotion-goes, promotion-waits, promotion-back, entry-goes, entry-waits, entry-back, entry-back-waiter}
 use Rattle.board.specs.declared.state.Desk.{Desk}
 use Rattle.board.specs.Steps.{stepOf}
@@ -28,23 +26,23 @@ use Rattle.board.proofs.Carrying.{Queues}
 
 module _ {d : Desk} (q : Queues) (kind job c : ℕ) (a : Ask) where
   -- a running job asks, by the arrays, so it does at the paper's desk that they are but for the queues
-  asking-to : Asking d kind job c a → moved.Asking (paperOf d q) (request kind job c) a
+  asking-to : Asking d kind job c a → paper-asked.Asking (paperOf d q) (request kind job c) a
   asking-to k = record { letter = k .letter; runs = k .runs; within = k .within }
 
   -- it asks for a promotion there
-  promotes-to : Promotes d kind job c a → deciding.Promotes (paperOf d q) (request kind job c) a
+  promotes-to : Promotes d kind job c a → paper-asked.Promotes (paperOf d q) (request kind job c) a
   promotes-to k = record { asking = asking-to (k .asking); holds = k .holds; not-covered = k .not-covered }
 
   -- it is new to the cell there
-  enters-to : Enters d kind job c a → deciding.Enters (paperOf d q) (request kind job c) a
+  enters-to : Enters d kind job c a → paper-asked.Enters (paperOf d q) (request kind job c) a
   enters-to k = record { asking = asking-to (k .asking); holds-nothing = k .holds-nothing }
 
   -- another holder by the arrays is one there
-  holder-to : {i : ℕ} → OtherHolder d c job i → deciding.OtherHolder (paperOf d q) (request kind job c) i
+  holder-to : {i : ℕ} → OtherHolder d c job i → paper-asked.OtherHolder (paperOf d q) (request kind job c) i
   holder-to k = record { other = k .other; holds = k .holds }
 
   -- and the other way round
-  holder-from : {i : ℕ} → deciding.OtherHolder (paperOf d q) (request kind job c) i → OtherHolder d c job i
+  holder-from : {i : ℕ} → paper-asked.OtherHolder (paperOf d q) (request kind job c) i → OtherHolder d c job i
   holder-from k = record { other = k .other; holds = k .holds }
 
 -- started arrays are a started paper's desk, and its answer is theirs
@@ -76,9 +74,9 @@ module _ {d : Desk} {h : History} (s : Started d h) (kind job c : ℕ) where
 
   module _ (a : Ask) where
     -- who is hindered by the arrays is hindered there
-    hindered-to : Hindered d job c a → deciding.Hindered (paperOf d (asked .queues)) (request kind job c) a
-    hindered-to (waits-already i b w) = deciding.waits-already (record { job = i; ask = b }) (stands w)
-    hindered-to (disagrees i o f) = deciding.disagrees i (holder-to (asked .queues) kind job c a o) f
+    hindered-to : Hindered d job c a → paper-asked.Hindered (paperOf d (asked .queues)) (request kind job c) a
+    hindered-to (waits-already i b w) = paper-asked.waits-already (record { job = i; ask = b }) (stands w)
+    hindered-to (disagrees i o f) = paper-asked.disagrees i (holder-to (asked .queues) kind job c a o) f
 
     -- a promotion with no other holder: go
     pub desk-promotion-goes : Promotes d kind job c a → ((i : ℕ) → OtherHolder d c job i → ⊥) → stepOf d kind job c .said .answer ≡ Go job

@@ -13,19 +13,18 @@ use Rattle.conflict.specs.History.{History}
 use Rattle.rules.specs.declared.Answer.{Answer}
 use Rattle.rules.specs.declared.Answer.the-variants.{Go, Wait, Back}
 use Rattle.rules.specs.Desk as paper
-use Rattle.rules.specs.Desk.{waiting}
+use Rattle.rules.specs.Desk.{waiting, In}
 use Rattle.rules.specs.Rules.{wake}
-use Rattle.rules.specs.Table.{letterIs, Answers, goes, waits, goes-back}
-use Rattle.rules.specs.Waiting.{In}
+use Rattle.rules.specs.Table.{letterIs, Answers, goes, waits, goes-back, asksNoCell}
 use Rattle.rules.specs.WakeOrder as paper-order
 use Rattle.rules.specs.WakeOrder.{Before}
-use Rattle.rules.proofs.Invariant.{Inv}
+use Rattle.rules.specs.Effects.{Exactly, WokenWith}
+use Rattle.rules.specs.Invariant.{Inv}
 use Rattle.rules.proofs.Kept.{started-inv}
 use Rattle.rules.proofs.AheadLaws.{ahead-in, ahead-of, ahead-younger}
 use Rattle.rules.proofs.Courses.{ask-waited, ask-back}
-use Rattle.rules.proofs.ExactModes.{Exactly, grants-exactly}
-use Rattle.rules.proofs.WakesTold.{WokenWith, wakes-in-order, wakes-exactly}
-use Rattle.rules.proofs.FourKinds.{asksNoCell}
+use Rattle.rules.proofs.ExactModes.{grants-exactly}
+use Rattle.rules.proofs.WakesTold.{wakes-in-order, wakes-exactly}
 use Rattle.board.specs.declared.state.Desk.{Desk}
 use Rattle.board.specs.Steps.{stepOf}
 use Rattle.board.specs.Stands.{statusBy, modeBy, Stands, wakesTold, Started}

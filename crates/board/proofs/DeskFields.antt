@@ -7,7 +7,8 @@ use Rattle.terms.specs.declared.letters.Lettered.the-variants.{Known, Unknown}
 use Rattle.terms.specs.Letters.{letterOf}
 use Rattle.conflict.specs.History.{History}
 use Rattle.rules.specs.Desk.{Request}
-use Rattle.rules.proofs.Fields.{Alike, unread-records}
+use Rattle.rules.specs.Asked.{Alike}
+use Rattle.rules.proofs.Fields.{unread-records}
 use Rattle.rules.proofs.Kept.{started-inv}
 use Rattle.board.specs.declared.state.Desk.{Desk}
 use Rattle.board.specs.Steps.{stepFor, stepOf}

@@ -9,11 +9,11 @@ use Rattle.terms.specs.declared.letters.Ask.{Ask}
 use Rattle.conflict.specs.Modes.{isFree}
 use Rattle.conflict.specs.History.{History}
 use Rattle.rules.specs.Desk as paper
-use Rattle.rules.specs.Desk.{running, waiting, isLive, Waiter}
+use Rattle.rules.specs.Desk.{running, waiting, isLive}
 use Rattle.rules.specs.Step as paper-step
 use Rattle.rules.specs.Waiting as paper-waiting
 use Rattle.rules.specs.Waiting.{ahead}
-use Rattle.rules.proofs.Invariant.{Inv}
+use Rattle.rules.specs.Invariant.{Inv}
 use Rattle.rules.proofs.Kept.{started-inv}
 use Rattle.rules.proofs.AheadLaws.{ahead-in, ahead-younger, younger-ahead}
 use Rattle.rules.proofs.InTheWay.{way-some, way-younger, way-live}
@@ -21,13 +21,9 @@ use Rattle.rules.proofs.AtMost31.{at-most-31}
 use Rattle.rules.proofs.SomebodyRuns.{somebody-runs}
 use Rattle.board.specs.declared.state.Desk.{Desk}
 use Rattle.board.specs.Stands.{statusBy, Stands, Started}
-use Rattle.board.specs.Waiting.{IsWaiting, InWay, holds-it, waits-younger, AtMostInWay, Chain, link, links}
+use Rattle.board.specs.Waiting.{IsWaiting, InWay, holds-it, waits-younger, AtMostInWay, Chain, link, links, waiterOf}
 use Rattle.board.proofs.StartedStands.{stands-for-paper}
 use Rattle.board.proofs.Carrying.{by-desk}
-
--- the job as the paper's waiter
-abbrev pub waiterOf : ℕ → Ask → Waiter
-waiterOf j a = record { job = j; ask = a }
 
 module _ {d : Desk} {D : paper.Desk} (s : Stands d D) (v : Inv D) (c j : ℕ) (a : Ask) (k : IsWaiting d c j a) (i : ℕ) where
   -- who is in the way by the arrays is so on the paper's desk

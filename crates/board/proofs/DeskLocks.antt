@@ -11,10 +11,9 @@ use Rattle.conflict.specs.declared.action.Event.the-variants.{Does}
 use Rattle.conflict.specs.Modes.{covers, beside, lets, isFree}
 use Rattle.conflict.specs.History.{History}
 use Rattle.conflict.specs.Runs.{ended}
-use Rattle.rules.specs.Desk.{isLive}
+use Rattle.rules.specs.Desk.{isLive, In}
 use Rattle.rules.specs.Step.{events, recordsOf}
 use Rattle.rules.specs.Histories as histories
-use Rattle.rules.specs.Histories.{Has}
 use Rattle.rules.proofs.Kept.{started-inv}
 use Rattle.rules.proofs.UnderLock.{under-lock, still-under-lock}
 use Rattle.rules.proofs.Holding.{held-till-end}
@@ -43,10 +42,10 @@ module _ {d : Desk} {h : History} (s : Started d h) where
       (λ D g. unfold events in held-till-end g (request kind job c) i b) (λ _ _ k. k)
 
   -- every action that a step writes, its own or a wake's, is under a lock after that step (01, rules 1 to 4)
-  pub desk-under-lock : (kind job c : ℕ) (x : Action) → Has (Does x) (recordsTold d kind job c) → (a : Ask) × AskedBy d kind job c x a × UnderLock (stepOf d kind job c .desk) x a
+  pub desk-under-lock : (kind job c : ℕ) (x : Action) → In (Does x) (recordsTold d kind job c) → (a : Ask) × AskedBy d kind job c x a × UnderLock (stepOf d kind job c .desk) x a
   unfolding recordsTold
   desk-under-lock kind job c x m =
-      by-step s kind job c (λ D O. Has (Does x) (recordsOf (request kind job c) (O .said) (O .wakes)) → (a : Ask) × histories.AskedBy D (request kind job c) x a × histories.UnderLock (O .desk) x a)
+      by-step s kind job c (λ D O. In (Does x) (recordsOf (request kind job c) (O .said) (O .wakes)) → (a : Ask) × histories.AskedBy D (request kind job c) x a × histories.UnderLock (O .desk) x a)
       (λ D g. unfold events in under-lock g (request kind job c) x)
       (λ q q′ k. let (a, b, u) = k m in (a, asked q b, record { kind = u .kind; covered = u .covered; lawful = u .lawful; besides = u .besides }))
     where

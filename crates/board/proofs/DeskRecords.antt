@@ -13,7 +13,8 @@ use Rattle.conflict.specs.Modes.{recorded}
 use Rattle.conflict.specs.History.{History}
 use Rattle.rules.specs.declared.Answer.the-variants.{Go, Wait, Back as sent-back}
 use Rattle.rules.specs.Step.{events, recordsOf, wakeRecords}
-use Rattle.rules.proofs.Records.{MarkFirst, mark-first, commit-records, give-up-records, back-records, begin-records, retry-records, ask-records, wait-records}
+use Rattle.rules.specs.Histories.{MarkFirst}
+use Rattle.rules.proofs.Records.{mark-first, commit-records, give-up-records, back-records, begin-records, retry-records, ask-records, wait-records}
 use Rattle.board.specs.declared.state.Desk.{Desk}
 use Rattle.board.specs.Steps.{stepOf}
 use Rattle.board.specs.Stands.{wakesTold, recordsTold, Started}

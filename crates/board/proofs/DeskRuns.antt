@@ -10,12 +10,12 @@ use Rattle.rules.specs.Desk.{Request, freshDesk}
 use Rattle.rules.specs.Step as paper-step
 use Rattle.rules.specs.Runs as paper-runs
 use Rattle.rules.specs.Runs.{givenBy}
-use Rattle.rules.proofs.Invariant.{Inv}
+use Rattle.rules.specs.Invariant.{Inv}
 use Rattle.rules.proofs.Kept.{step-inv, started-inv}
 use Rattle.board.specs.declared.state.Desk.{Desk}
 use Rattle.board.specs.Steps.{emptyDesk}
 use Rattle.board.specs.Stands.{Stands, recordsTold, Started, fresh, after}
-use Rattle.board.specs.Runs.{request, stepTo, deskAfter, historyOf, given, Told, toldOf, paperTells}
+use Rattle.board.specs.Runs.{request, stepTo, deskAfter, historyOf, given, Told, toldOf, paperTells, Reached}
 use Rattle.board.proofs.FreshStands.{fresh-stands}
 use Rattle.board.proofs.StepTied.{tie}
 use Rattle.board.proofs.Carrying.{run-history, run-started}
@@ -52,15 +52,6 @@ module _ (n : ℕ) (some : 0 < n) (last : n ≤ lastNumber) (rs : List Request) 
   -- what any requests to an empty desk leave and write is a started desk and its history
   pub desk-started-from-empty : Started (deskAfter (emptyDesk n) rs) (historyOf (emptyDesk n) rs)
   desk-started-from-empty = run-started (fresh n some last) rs
-
--- arrays and a history that requests from an empty desk lead to
-pub record Reached (d : Desk) (h : History) : Type 0 where
-  pub first : ℕ
-  pub least : 0 < first
-  pub most : first ≤ lastNumber
-  pub requests : List Request
-  pub desk : d ≡ deskAfter (emptyDesk first) requests
-  pub history : h ≡ historyOf (emptyDesk first) requests
 
 -- the desk after one more request at the end
 after-last : (d : Desk) (rs : List Request) (r : Request) → deskAfter d (rs ++ r ∷ []) ≡ stepTo (deskAfter d rs) r .desk

@@ -17,7 +17,7 @@ use Rattle.conflict.specs.History.{History}
 use Rattle.conflict.specs.Runs.{ended}
 use Rattle.rules.specs.declared.Answer.the-variants.{Wait}
 use Rattle.rules.specs.Desk as paper
-use Rattle.rules.specs.Desk.{waiting, Request}
+use Rattle.rules.specs.Desk.{waiting, Request, In}
 use Rattle.rules.specs.Locks.{wants}
 use Rattle.rules.specs.Rules as rules
 use Rattle.rules.specs.Rules.{wake}
@@ -25,8 +25,8 @@ use Rattle.rules.specs.Step as paper-step
 use Rattle.rules.specs.Step.{step}
 use Rattle.rules.specs.Runs as paper-runs
 use Rattle.rules.specs.Waiting as paper-waiting
-use Rattle.rules.specs.Waiting.{In, GivesUp}
-use Rattle.rules.proofs.Invariant.{Inv}
+use Rattle.rules.specs.Waiting.{GivesUp}
+use Rattle.rules.specs.Invariant.{Inv}
 use Rattle.rules.proofs.Kept.{step-inv, started-inv}
 use Rattle.rules.proofs.JustAsked.{asker-waits, in-way-when-asked}
 use Rattle.rules.proofs.NotForgotten.{still-in-way, granted-at-last}
@@ -36,12 +36,12 @@ use Rattle.board.specs.declared.state.Outcome.{Outcome}
 use Rattle.board.specs.Steps.{emptyDesk, stepOf}
 use Rattle.board.specs.Stands.{Stands, Tied, Started, after}
 use Rattle.board.specs.Runs.{request, stepTo, deskAfter, historyOf}
-use Rattle.board.specs.Waiting.{IsWaiting, InWay, WasInWay, held-it, stood-ahead, Waits, Patient, AllEnd, wakeOf, Granted, wantedMode, Served, ServedInTime}
+use Rattle.board.specs.Waiting.{IsWaiting, InWay, WasInWay, held-it, stood-ahead, Waits, Patient, AllEnd, wakeOf, Granted, wantedMode, Served, ServedInTime, waiterOf}
 use Rattle.board.proofs.StepTied.{tie}
 use Rattle.board.proofs.StartedStands.{stands-for-paper}
 use Rattle.board.proofs.Carrying.{run-stands, run-history, run-inv}
 use Rattle.board.proofs.DeskRuns.{desk-started-from-empty}
-use Rattle.board.proofs.DeskInWay.{waiterOf, way-to, way-from, desk-in-way-live, desk-waiter-is-older, desk-at-most-31}
+use Rattle.board.proofs.DeskInWay.{way-to, way-from, desk-in-way-live, desk-waiter-is-older, desk-at-most-31}
 
 module _ (c j : ℕ) (a : Ask) where
   -- to wait on by the arrays is to wait on at the paper's desk

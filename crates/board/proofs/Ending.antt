@@ -14,7 +14,7 @@ use Rattle.rules.specs.declared.Answer.the-variants.{Go, Back}
 use Rattle.rules.specs.Desk as paper
 use Rattle.rules.specs.Desk.{Status, closed, sentback, Waiter}
 use Rattle.rules.specs.Rules.{wakesOf, rowsAfter, rule4, close, sendBack}
-use Rattle.rules.proofs.Invariant.{Inv}
+use Rattle.rules.specs.Invariant.{Inv}
 use Rattle.rules.proofs.Statuses.{sentback-not-waiting, closed-not-open, not-open-not-waiting}
 use Rattle.rules.proofs.RunEnd.{self-after, row-releases}
 use Rattle.board.specs.declared.state.Desk.{Desk}

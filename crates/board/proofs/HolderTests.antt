@@ -8,7 +8,7 @@ use Rattle.terms.specs.Limits.{places}
 use Rattle.conflict.specs.declared.modes.Mode.{Mode}
 use Rattle.conflict.specs.declared.modes.Mode.the-variants.{Free}
 use Rattle.rules.specs.Locks.{agrees, alone, olderThanHolders}
-use Rattle.rules.proofs.Invariant.{Once}
+use Rattle.rules.specs.Invariant.{Once}
 use Rattle.board.specs.Places.{modeAt, agreesAt, aloneAt, olderAt}
 use Rattle.board.specs.Stands.{byNumber}
 use Rattle.board.proofs.Seats.{Seat, seat-same}

@@ -13,9 +13,9 @@ use Rattle.laws.specs.Choice.{by-test, not-both}
 use Rattle.laws.specs.Lists.{pos}
 use Rattle.terms.specs.declared.letters.Ask.{Ask}
 use Rattle.terms.specs.Limits.{places}
-use Rattle.rules.specs.Desk.{Status, closed, running, waiting, Waiter, at}
+use Rattle.rules.specs.Desk.{Status, closed, running, waiting, Waiter, at, In, first, later}
 use Rattle.rules.specs.Locks.{isEmpty, olderThanWaiters}
-use Rattle.rules.proofs.Invariant.{In, first, later, Falling, Once}
+use Rattle.rules.specs.Invariant.{Falling, Once}
 use Rattle.rules.proofs.Queue.{in-none, in-split}
 use Rattle.rules.proofs.Statuses.{running-not-waiting, closed-not-open, not-open-not-waiting}
 use Rattle.rules.proofs.Tests.{at-other, at-each, empty-queue, some-waiter, older-waiters, each-older-waiters}

@@ -11,10 +11,10 @@ use Rattle.terms.specs.declared.letters.Ask.{Ask}
 use Rattle.terms.specs.Limits.{places, cells}
 use Rattle.conflict.specs.declared.modes.Mode.{Mode}
 use Rattle.conflict.specs.declared.modes.Mode.the-variants.{Free}
-use Rattle.rules.specs.Desk.{Status, closed, waiting, Waiter, at}
+use Rattle.rules.specs.Desk.{Status, closed, waiting, Waiter, at, In, first}
 use Rattle.rules.specs.Locks.{without, settle, released}
 use Rattle.rules.specs.Rules.{rowsAfter, wakesOf, wakened, isWoken}
-use Rattle.rules.proofs.Invariant.{In, first, Inv}
+use Rattle.rules.specs.Invariant.{Inv}
 use Rattle.rules.proofs.Tests.{at-other}
 use Rattle.board.specs.declared.state.Desk.{Desk}
 use Rattle.board.specs.Codes.{waitingCode, askOf}

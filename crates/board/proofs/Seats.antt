@@ -13,7 +13,7 @@ use Rattle.laws.specs.Choice.{by-test, not-both}
 use Rattle.laws.specs.Lists.{same, member, pos}
 use Rattle.laws.proofs.Lists.{pos-first, pos-later, member-first, member-later, member-more}
 use Rattle.laws.proofs.Parts.{and-first, and-second}
-use Rattle.rules.proofs.Invariant.{Once}
+use Rattle.rules.specs.Invariant.{Once}
 use Rattle.board.specs.Stands.{isSeated}
 
 -- a job that is in the list stands within it

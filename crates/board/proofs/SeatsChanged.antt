@@ -12,7 +12,7 @@ use Rattle.laws.specs.Choice.{by-test, not-both}
 use Rattle.laws.specs.Lists.{same, member, pos}
 use Rattle.laws.proofs.Lists.{pos-first, pos-later, member-first, member-later}
 use Rattle.rules.specs.Desk.{at, seated, vacated}
-use Rattle.rules.proofs.Invariant.{Once}
+use Rattle.rules.specs.Invariant.{Once}
 use Rattle.rules.proofs.Tests.{at-each, at-all}
 use Rattle.rules.proofs.Places.{seated-once, vacated-once, vacated-gone}
 use Rattle.board.specs.Stands.{isSeated, byNumber}

@@ -10,10 +10,10 @@ use Rattle.laws.specs.Choice.{by-test}
 use Rattle.terms.specs.declared.letters.Ask.{Ask}
 use Rattle.terms.specs.Limits.{places, cells}
 use Rattle.conflict.specs.declared.modes.Mode.the-variants.{Free}
-use Rattle.rules.specs.Desk.{Status, waiting, Desk, at}
+use Rattle.rules.specs.Desk.{Status, waiting, Desk, at, In}
 use Rattle.rules.specs.Locks.{without, settle, released}
 use Rattle.rules.specs.Rules.{isWoken, wakesAt, wakesOf, wakened, rowsAfter}
-use Rattle.rules.proofs.Invariant.{In, Inv}
+use Rattle.rules.specs.Invariant.{Inv}
 use Rattle.rules.proofs.Queue.{without-in, without-other, in-without, without-falling}
 use Rattle.rules.proofs.Statuses.{running-not-waiting, one-cell}
 use Rattle.rules.proofs.Tests.{at-other, at-each}

@@ -15,10 +15,10 @@ use Rattle.laws.proofs.Parts.{and-first}
 use Rattle.terms.specs.Limits.{places, cells}
 use Rattle.conflict.specs.declared.modes.Mode.the-variants.{Free}
 use Rattle.conflict.specs.Modes.{needed, asked}
-use Rattle.rules.specs.Desk.{Waiter, at}
+use Rattle.rules.specs.Desk.{Waiter, at, first}
 use Rattle.rules.specs.Locks.{agrees, wants, woke, Settled, settle}
 use Rattle.rules.specs.Rules.{wake, wakesAt, isWoken, wakened}
-use Rattle.rules.proofs.Invariant.{first, Once}
+use Rattle.rules.specs.Invariant.{Once}
 use Rattle.board.specs.Codes.{runningCode, waitingCode, askOf}
 use Rattle.board.specs.Places.{modeAt, waitsAt, waiters, wantsAt}
 use Rattle.board.specs.Settling.{Settling, woken, granted, grantFront, settleCell}

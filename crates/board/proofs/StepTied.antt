@@ -21,7 +21,7 @@ use Rattle.rules.specs.Desk as paper
 use Rattle.rules.specs.Desk.{closed, Waiter}
 use Rattle.rules.specs.Rules.{close, retry}
 use Rattle.rules.specs.Step.{stepCommit, stepGiveUp, stepRetry, stepAsk, stepBy, step}
-use Rattle.rules.proofs.Invariant.{Inv}
+use Rattle.rules.specs.Invariant.{Inv}
 use Rattle.board.specs.declared.state.Desk.{Desk}
 use Rattle.board.specs.Codes.{freeCode, waitingCode, sentBackCode, askOf}
 use Rattle.board.specs.Steps.{quiet, statusOf, placeOf, ending, asking, retried, ifRunning, givingUp, retrying, stepFor, stepOf}

@@ -1,6 +1,8 @@
 -- Several requests to the arrays one after another: the desk they leave, the history they write, the numbers they give, and what is told of each; and the same told by the paper's desk (01, Jobs and their numbers).
-use Prim.Native.Nat.{ℕ}
+use Prim.Native.Nat.{ℕ, _<_, _≤_}
+use mathlib.Core.Path.{_≡_}
 use mathlib.Core.List.{List, [], _∷_, _++_}
+use Rattle.terms.specs.Limits.{lastNumber}
 use Rattle.conflict.specs.declared.action.Action.{Action}
 use Rattle.conflict.specs.History.{History}
 use Rattle.rules.specs.declared.Answer.{Answer}
@@ -10,7 +12,7 @@ use Rattle.rules.specs.Step.{step}
 use Rattle.rules.specs.Runs.{givenBy}
 use Rattle.board.specs.declared.state.Desk.{Desk}
 use Rattle.board.specs.declared.state.Outcome.{Outcome}
-use Rattle.board.specs.Steps.{stepOf}
+use Rattle.board.specs.Steps.{emptyDesk, stepOf}
 use Rattle.board.specs.Stands.{wakesTold, recordsTold}
 
 -- a request by its three numbers
@@ -50,3 +52,12 @@ toldOf d (r ∷ rs) = record { answer = stepTo d r .said .answer; wakes = wakesT
 unfoldable pub paperTells : paper.Desk → List Request → List Told
 paperTells D [] = []
 paperTells D (r ∷ rs) = record { answer = step D r .said; wakes = step D r .wakes } ∷ paperTells (step D r .desk) rs
+
+-- arrays and a history that requests from an empty desk lead to
+pub record Reached (d : Desk) (h : History) : Type 0 where
+  pub first : ℕ
+  pub least : 0 < first
+  pub most : first ≤ lastNumber
+  pub requests : List Request
+  pub desk : d ≡ deskAfter (emptyDesk first) requests
+  pub history : h ≡ historyOf (emptyDesk first) requests

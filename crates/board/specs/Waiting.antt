@@ -11,12 +11,16 @@ use Rattle.conflict.specs.declared.modes.Mode.{Mode}
 use Rattle.conflict.specs.declared.action.Action.{Action}
 use Rattle.conflict.specs.Modes.{needed, recorded, covers, asked, isFree}
 use Rattle.conflict.specs.Runs.{ended}
-use Rattle.rules.specs.Desk.{running, waiting, Request, isOpen, isLive}
-use Rattle.rules.specs.Waiting.{In, GivesUp}
+use Rattle.rules.specs.Desk.{running, waiting, Request, isOpen, isLive, In, Waiter}
+use Rattle.rules.specs.Waiting.{GivesUp}
 use Rattle.board.specs.declared.state.Desk.{Desk}
 use Rattle.board.specs.declared.state.Outcome.{Outcome}
 use Rattle.board.specs.Stands.{statusBy, modeBy, wakesTold}
 use Rattle.board.specs.Runs.{stepTo, deskAfter, historyOf}
+
+-- the job as the paper's waiter
+abbrev pub waiterOf : ℕ → Ask → Waiter
+waiterOf j a = record { job = j; ask = a }
 
 -- the job waits for the cell with what it asked
 abbrev pub IsWaiting : Desk → ℕ → ℕ → Ask → Type 0

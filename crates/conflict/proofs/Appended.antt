@@ -15,8 +15,9 @@ use Rattle.conflict.specs.declared.action.Mark.the-variants.{Commit, Giv
 use Rattle.conflict.specs.declared.action.Event.the-variants.{Does, Ends}
 use Rattle.conflict.specs.Schedule.{Schedule, keep}
 use Rattle.conflict.specs.History.{History, isCommit, isBack, marked, commits, committed, commitOrder, lineOf, endsForGood}
-use Rattle.conflict.specs.Runs.{isLast, isEnd, ended, kept}
+use Rattle.conflict.specs.Runs.{isEnd, ended}
 use Rattle.conflict.proofs.Marks.{ended-alone, ends-rest}
+use Rattle.conflict.proofs.OneEvent.{isLast}
 
 -- a line of a job stands in the first part or in the second
 pub line-append : (j : ℕ) (h g : History) → lineOf j (h ++ g) ≡ (lineOf j h || lineOf j g)
@@ -69,6 +70,12 @@ keep-append : (b : Bool) (a : Action) (s u : Schedule) → keep b a (s ++ u) ≡
 unfolding keep
 keep-append true a s u = refl
 keep-append false a s u = refl
+
+-- the actions of the first part whose run ends with a commit, there or in the second part
+unfoldable pub kept : History → History → Schedule
+kept [] g = []
+kept (Does a ∷ h) g = keep (cond (ended (a .job) h) (commits (a .job) h) (commits (a .job) g)) a (kept h g)
+kept (Ends m i ∷ h) g = kept h g
 
 -- the committed part: what is kept of the first part, then that of the second
 pub committed-append : (h g : History) → committed (h ++ g) ≡ kept h g ++ committed g

@@ -12,7 +12,13 @@ use Rattle.conflict.specs.declared.action.Mark.{Mark}
 use Rattle.conflict.specs.declared.action.Event.the-variants.{Does, Ends}
 use Rattle.conflict.specs.Schedule.{conflicts}
 use Rattle.conflict.specs.History.{History, marked, undisturbed, strict}
-use Rattle.conflict.specs.Runs.{isEnd, ended, calm}
+use Rattle.conflict.specs.Runs.{isEnd, ended}
+
+-- nothing of the second part disturbs an action of the first whose run has not ended there
+unfoldable pub calm : History → History → Bool
+calm [] g = true
+calm (Does a ∷ h) g = (ended (a .job) h || undisturbed a g) && calm h g
+calm (Ends m i ∷ h) g = calm h g
 
 -- until its run ends nothing of the first part disturbs an action, nor, if its run has not ended there, of the second
 pub undisturbed-append : (a : Action) (h g : History) → undisturbed a (h ++ g) ≡ (undisturbed a h && (ended (a .job) h || undisturbed a g))

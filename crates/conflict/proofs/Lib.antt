@@ -13,6 +13,7 @@ pub mod Committed
 pub mod Appended
 pub mod Calm
 pub mod Strict
+pub mod LockTable
 pub mod LockMachine
 pub mod MoreModeLaws
 pub mod Clauses

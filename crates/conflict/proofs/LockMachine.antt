@@ -15,12 +15,12 @@ use Rattle.conflict.specs.declared.action.Mark.{Mark}
 use Rattle.conflict.specs.declared.action.Event.the-variants.{Does, Ends}
 use Rattle.conflict.specs.Schedule.{conflicts, Equivalent, serial}
 use Rattle.conflict.specs.History.{History, marked, committedPart, commitOrder, endsForGood, undisturbed, strict}
-use Rattle.conflict.specs.Runs.{isEnd, ended, calm}
-use Rattle.conflict.specs.LockMachine.{Table, AtLeast, Together, allows, Ran}
-use Rattle.conflict.specs.LockMachine.Ran.{start, grows, acts, stops}
+use Rattle.conflict.specs.Runs.{isEnd, ended}
+use Rattle.conflict.proofs.LockTable.{Table, AtLeast, Together, allows, Ran}
+use Rattle.conflict.proofs.LockTable.Ran.{start, grows, acts, stops}
 use Rattle.conflict.proofs.ModeLaws.{free-beside, keeps-out, lets-grows}
 use Rattle.conflict.proofs.Appended.{ended-append}
-use Rattle.conflict.proofs.Calm.{strict-mark, strict-action}
+use Rattle.conflict.proofs.Calm.{calm, strict-mark, strict-action}
 use Rattle.conflict.proofs.Strict.{strict-serial-paper}
 
 -- every action whose run has not ended is one that its job's present mode lets it do

@@ -12,7 +12,13 @@ use Rattle.conflict.specs.declared.action.Mark.the-variants.{Commit, Giv
 use Rattle.conflict.specs.declared.action.Event.the-variants.{Does, Ends}
 use Rattle.conflict.specs.Schedule.{keep}
 use Rattle.conflict.specs.History.{History, isCommit, isBack, marked, partOf, committedPart, commitOrder, lineOf, endsForGood}
-use Rattle.conflict.specs.Runs.{isLast, isEnd, ended}
+use Rattle.conflict.specs.Runs.{isEnd, ended}
+
+-- whether a mark ends its job for good, as a c and an a do
+unfoldable pub isLast : Mark → Bool
+isLast Commit = true
+isLast GiveUp = true
+isLast Back = false
 
 -- no line stands in an empty history
 pub line-none : (j : ℕ) → lineOf j [] ≡ false

@@ -9,7 +9,7 @@ use Rattle.conflict.specs.declared.action.Action.{Action}
 use Rattle.conflict.specs.declared.action.Event.the-variants.{Does, Ends}
 use Rattle.conflict.specs.History.{History}
 use Rattle.conflict.specs.Runs.{ended}
-use Rattle.conflict.specs.LockMachine.{Table, allows, Ran}
+use Rattle.conflict.proofs.LockTable.{Table, allows, Ran}
 use Rattle.conflict.proofs.LockMachine.{held, machine-keeps}
 
 -- what holds of every action holds of one of them

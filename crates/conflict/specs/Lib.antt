@@ -2,4 +2,3 @@ pub mod Modes
 pub mod Schedule
 pub mod History
 pub mod Runs
-pub mod LockMachine

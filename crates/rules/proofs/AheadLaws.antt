@@ -5,9 +5,9 @@ use mathlib.Core.Path.{_≡_, refl, subst}
 use mathlib.Core.Logic.{_≢_}
 use mathlib.Core.List.{List, [], _∷_, _++_}
 use native.Mathlib.Omega.{arith}
-use Rattle.rules.specs.Desk.{Waiter}
-use Rattle.rules.specs.Waiting.{In, first, later, Ahead, in-front, further}
-use Rattle.rules.proofs.Invariant.{Falling}
+use Rattle.rules.specs.Desk.{Waiter, In, first, later}
+use Rattle.rules.specs.Waiting.{Ahead, in-front, further}
+use Rattle.rules.specs.Invariant.{Falling}
 use Rattle.rules.proofs.Queue.{in-none, in-split, is-first, in-right, in-either}
 
 -- nobody stands ahead in an empty queue

@@ -14,7 +14,7 @@ use Rattle.laws.proofs.Lists.{member-later}
 use Rattle.rules.specs.Desk.{Waiter, Desk}
 use Rattle.rules.specs.Step.{Started}
 use Rattle.rules.specs.Waiting.{InWay, IsWaiting, AtMostInWay}
-use Rattle.rules.proofs.Invariant.{Inv}
+use Rattle.rules.specs.Invariant.{Inv}
 use Rattle.rules.proofs.Kept.{started-inv}
 use Rattle.rules.proofs.Statuses.{live-open, waiting-open}
 use Rattle.rules.proofs.InTheWay.{way-younger, way-live}

@@ -2,24 +2,18 @@
 -- Assumes nothing.
 use Prim.Native.Nat.{ℕ}
 use mathlib.Core.Path.{_≡_, sym, ap, _∙_}
-use mathlib.Core.Logic.{_≢_}
 use mathlib.Core.Bool.{false}
 use mathlib.Core.List.{List}
 use Rattle.laws.specs.Choice.{by-test, not-both}
-use Rattle.conflict.specs.declared.modes.Mode.the-variants.{Free}
 use Rattle.conflict.specs.Modes.{isFree}
 use Rattle.conflict.proofs.ModeLaws.{is-free}
 use Rattle.rules.specs.declared.Answer.{Answer}
-use Rattle.rules.specs.Desk.{Status, Waiter, Desk, isLive}
+use Rattle.rules.specs.Desk.{Status, Desk, isLive}
 use Rattle.rules.specs.Rules.{rule4}
-use Rattle.rules.proofs.Invariant.{In, Inv}
+use Rattle.rules.specs.Invariant.{Inv}
+use Rattle.rules.specs.Effects.{Away}
 use Rattle.rules.proofs.Statuses.{waiting-live}
 use Rattle.rules.proofs.RunEnd.{row-releases, self-after}
-
--- the job holds nothing in any cell and stands in no queue
-pub record Away (d : Desk) (j : ℕ) : Type 0 where
-  pub holds-nothing : (c : ℕ) → d .row c .held j ≡ Free
-  pub waits-nowhere : (c : ℕ) (w : Waiter) → In w (d .row c .queue) → w .job ≢ j
 
 -- a job that is not live holds nothing and stands in no queue
 pub not-live-away : {d : Desk} → Inv d → (j : ℕ) → isLive (d .stat j) ≡ false → Away d j

@@ -16,7 +16,8 @@ use Rattle.rules.specs.Desk.{Status, closed, running, sentback, waiting,
 use Rattle.rules.specs.Rules.{Outcome, refused, withRow, withStatus, isWoken, rule4}
 use Rattle.rules.specs.Step.{step}
 use Rattle.rules.specs.Table.{isBegin, named}
-use Rattle.rules.proofs.Moved.{Moved, refuses, begins, commits, gives-up, retries, has-it, promotes, waits-in-front, enters, waits-last, goes-back, step-moved}
+use Rattle.rules.specs.Moves.{Moved, refuses, begins, commits, gives-up, retries, has-it, promotes, waits-in-front, enters, waits-last, goes-back}
+use Rattle.rules.proofs.Moved.{step-moved}
 use Rattle.rules.proofs.Tests.{at-other}
 use Rattle.rules.proofs.Places.{seated-others, vacated-others}
 use Rattle.rules.proofs.Wakes.{others-stay}
@@ -29,7 +30,7 @@ ended-others d j s js said i n f = others-stay (at (d .stat) j s) (wakesAfter d 
 
 module _ (d : Desk) (r : Request) (i : ℕ) (n : i ≢ named d r) where
   -- a job that the answer does not name is not the request's, unless that is a begin
-  not-job : {l : Letter} → letterOf (r .kind) ≡ Known l → isBegin l ≡ false → i ≢ r .job
+  pub not-job : {l : Letter} → letterOf (r .kind) ≡ Known l → isBegin l ≡ false → i ≢ r .job
   unfolding named
   not-job e f q = n (q ∙ rw (e, f))
 

@@ -11,13 +11,16 @@ use Rattle.rules.specs.declared.Answer.{Answer}
 use Rattle.rules.specs.declared.Answer.the-variants.{Go, Back}
 use Rattle.rules.specs.Desk.{Status, closed, running, waiting, sentback, isOpen, Desk, Request, at, vacated}
 use Rattle.rules.specs.Rules.{Outcome, refused, withRow, withStatus, rule4}
-use Rattle.rules.specs.Step.{step}
-use Rattle.rules.proofs.Moved.{Moved, step-moved}
-use Rattle.rules.proofs.Moved.Moved.{refuses, begins, commits, gives-up, retries, has-it, promotes, waits-in-front, enters, waits-last, goes-back}
-use Rattle.rules.proofs.Invariant.{Inv}
+use Rattle.rules.specs.Step.{step, Started}
+use Rattle.rules.specs.Moves.{Moved}
+use Rattle.rules.specs.Moves.Moved.{refuses, begins, commits, gives-up, retries, has-it, promotes, waits-in-front, enters, waits-last, goes-back}
+use Rattle.rules.proofs.Moved.{step-moved}
+use Rattle.rules.specs.Invariant.{Inv}
 use Rattle.rules.proofs.Statuses.{running-open, sentback-open, closed-not-open, not-open-not-waiting}
 use Rattle.rules.proofs.Tests.{at-other}
 use Rattle.rules.proofs.RunEnd.{others-not-woken, others-after}
+use Rattle.rules.proofs.Kept.{started-inv}
+use Rattle.conflict.specs.History.{History}
 
 module _ {d : Desk} (v : Inv d) (j : ℕ) (e : d .stat j ≡ closed) where
   -- a closed job is not one that is open
@@ -55,3 +58,7 @@ module _ {d : Desk} (v : Inv d) (j : ℕ) (e : d .stat j ≡ closed) where
 -- a closed job whose number was given stays closed
 pub closed-stays : {d : Desk} → Inv d → (r : Request) (j : ℕ) → j < d .next → d .stat j ≡ closed → step d r .desk .stat j ≡ closed
 closed-stays {d} v r j l e = moved-closed v j e l (step-moved d r)
+
+-- so of every started desk: a job that was closed stays closed, and its number is never open again (01, Jobs and their numbers)
+pub closed-for-good : {d : Desk} {h : History} → Started d h → (r : Request) (j : ℕ) → j < d .next → d .stat j ≡ closed → step d r .desk .stat j ≡ closed
+closed-for-good s = closed-stays (started-inv s)

@@ -3,7 +3,7 @@
 use Prim.Native.Nat.{ℕ, _≤_}
 use mathlib.Core.Path.{_≡_, refl, sym, ap, _∙_, subst}
 use mathlib.Core.Bool.{Bool, true, false}
-use mathlib.Core.List.{List, [], _∷_, _++_}
+use mathlib.Core.List.{List}
 use lib.Dec.{ltb}
 use borrow.Author.Tests.{ltb-false}
 use Rattle.laws.specs.Choice.{by-test, not-both}
@@ -26,8 +26,11 @@ use Rattle.rules.specs.Rules.{Outcome, refused, rule4, close, sendBack, 
 use Rattle.rules.specs.Step.{stepCommit, stepGiveUp, stepRetry, stepBegin, stepBy, step}
 use Rattle.rules.specs.Table.{letterIs}
 use Rattle.rules.specs.Waiting.{asker}
+use Rattle.rules.specs.Asked.{Asking, Elder}
+use Rattle.rules.specs.Moves.{standing, Moved, refuses, begins, commits, gives-up, retries, has-it, promotes, waits-in-front, enters, waits-last, goes-back}
+use Rattle.rules.specs.Effects.{Joined, promotion, newcomer}
 use Rattle.rules.proofs.Answers.{other-answer}
-use Rattle.rules.proofs.Moved.{Asking, Elder, standing, Moved, refuses, begins, commits, gives-up, retries, has-it, promotes, waits-in-front, enters, waits-last, goes-back, step-moved}
+use Rattle.rules.proofs.Moved.{step-moved}
 
 -- what an answer tells: of which job it is, the rule's outcome, and what held before
 pub record Course (d : Desk) (r : Request) (i j : ℕ) (o : Outcome) (P : Type 0) : Type 0 where
@@ -116,11 +119,6 @@ ask-went d r a j e g = by-move (step-moved d r) refl g
     by-move (enters b k f z w) h q = unfold grant in (same-go q, subst (AskWent d r) (same-ask (k .letter) e) (got (needed b) (covers-refl (needed b)) (covers-none (needed b) _ f) h))
     by-move (waits-last b k f z w v) h q = other-answer q refl
     by-move (goes-back b k x) h q = unfold rule4 in other-answer q refl
-
--- the queue q is the queue p with waiter w put in front, for a job that holds the cell, or at the end, for a job that does not
-pub data Joined (holdsNothing : Bool) (w : Waiter) (p : List Waiter) : List Waiter → Type 0 where
-  promotion : holdsNothing ≡ false → Joined holdsNothing w p (w ∷ p)
-  newcomer : holdsNothing ≡ true → Joined holdsNothing w p (p ++ w ∷ [])
 
 -- the request's job joins the queue of the cell, which is then q
 abbrev pub Joins : Desk → Request → Ask → List Waiter → Type 0

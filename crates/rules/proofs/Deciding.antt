@@ -2,58 +2,27 @@
 -- Assumes nothing.
 use Prim.Native.Nat.{ℕ, _<_}
 use mathlib.Core.Path.{_≡_, refl, ap, _∙_}
-use mathlib.Core.Logic.{_≢_}
 use mathlib.Core.Bool.{Bool, true, false, _&&_}
 use mathlib.Core.List.{List, [], _∷_, _++_}
 use native.Mathlib.Omega.{arith}
 use Rattle.laws.specs.Choice.{pick, by-test, not-both}
 use Rattle.terms.specs.declared.letters.Ask.{Ask}
-use Rattle.conflict.specs.declared.modes.Mode.{Mode}
 use Rattle.conflict.specs.Modes.{needed, covers, grants, isFree}
 use Rattle.conflict.proofs.ModeLaws.{covers-free, is-free, grants-free}
 use Rattle.laws.proofs.Parts.{and-both}
 use Rattle.conflict.specs.History.{History}
 use Rattle.rules.specs.declared.Answer.the-variants.{Go, Wait, Back}
-use Rattle.rules.specs.Desk.{Waiter, Desk, Request}
+use Rattle.rules.specs.Desk.{Waiter, Desk, Request, In, first, later}
 use Rattle.rules.specs.Locks.{agrees, alone, olderThanHolders, olderThanWaiters, isEmpty}
 use Rattle.rules.specs.Rules.{withRow, withStatus, rule2, rule3, rule4, grant, queued, sendBack, ask}
 use Rattle.rules.specs.Step.{step, Started}
 use Rattle.rules.specs.Waiting.{asker}
+use Rattle.rules.specs.Asked.{heldThere, queueThere, OtherHolder, Promotes, Enters, Hindered, waits-already, disagrees}
+use Rattle.rules.specs.Releasing.{Seated}
 use Rattle.rules.proofs.Kept.{started-inv}
-use Rattle.rules.proofs.Invariant.{In, first, later}
-use Rattle.rules.proofs.Moved.{Asking}
-use Rattle.rules.proofs.Tests.{at-same, Seated, each-agrees, not-agrees, each-alone, alone-each, each-older, older-holders, each-older-waiters, older-waiters}
+use Rattle.rules.proofs.Tests.{at-same, each-agrees, not-agrees, each-alone, alone-each, each-older, older-holders, each-older-waiters, older-waiters}
 use Rattle.rules.proofs.RunEnd.{row-ready}
 use Rattle.rules.proofs.Granting.{asking-step}
-
--- what each job holds of the cell that a request names
-abbrev pub heldThere : Desk → Request → ℕ → Mode
-heldThere d r = d .row (r .cell) .held
-
--- who waits there
-abbrev pub queueThere : Desk → Request → List Waiter
-queueThere d r = d .row (r .cell) .queue
-
--- a holder of the cell other than the request's job
-pub record OtherHolder (d : Desk) (r : Request) (i : ℕ) : Type 0 where
-  pub other : i ≢ r .job
-  pub holds : isFree (heldThere d r i) ≡ false
-
--- the job asks for a promotion: it holds the cell, and not in a mode that covers its need
-pub record Promotes (d : Desk) (r : Request) (a : Ask) : Type 0 where
-  pub asking : Asking d r a
-  pub holds : isFree (heldThere d r (r .job)) ≡ false
-  pub not-covered : covers (heldThere d r (r .job)) (needed a) ≡ false
-
--- the job does not hold the cell
-pub record Enters (d : Desk) (r : Request) (a : Ask) : Type 0 where
-  pub asking : Asking d r a
-  pub holds-nothing : isFree (heldThere d r (r .job)) ≡ true
-
--- a job new to the cell cannot have it at once: somebody waits for it, or somebody holds it in a mode that does not agree
-pub data Hindered (d : Desk) (r : Request) (a : Ask) : Type 0 where
-  waits-already : (w : Waiter) → In w (queueThere d r) → Hindered d r a
-  disagrees : (i : ℕ) → OtherHolder d r i → grants (heldThere d r i) (needed a) ≡ false → Hindered d r a
 
 -- rule 2 decides a promotion
 by-rule2 : {d : Desk} {r : Request} {a : Ask} → Promotes d r a → step d r ≡ rule2 d (r .job) (r .cell) a

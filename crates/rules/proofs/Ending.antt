@@ -2,8 +2,8 @@
 -- Assumes nothing.
 use Prim.Native.Nat.{ℕ}
 use mathlib.Core.Path.{_≡_, refl, sym, _∙_}
-use mathlib.Core.Logic.{_≢_, _⊎_, inl, inr}
-use mathlib.Core.Bool.{true, false}
+use mathlib.Core.Logic.{_⊎_, inl, inr}
+use mathlib.Core.Bool.{true}
 use mathlib.Core.List.{List, [], _∷_}
 use Rattle.laws.specs.Choice.{by-test}
 use Rattle.terms.specs.declared.letters.Letter.the-variants.{Commit, GiveUp}
@@ -13,33 +13,17 @@ use Rattle.laws.specs.Lists.{same, member}
 use Rattle.laws.proofs.Lists.{member-first, member-later, member-more}
 use Rattle.conflict.specs.History.{History}
 use Rattle.rules.specs.declared.Answer.the-variants.{Go, Back}
-use Rattle.rules.specs.Desk.{closed, sentback, Desk, Request, isOpen, vacated}
+use Rattle.rules.specs.Desk.{closed, sentback, Desk, Request, isOpen, vacated, isLive}
 use Rattle.rules.specs.Rules.{rule4, close, sendBack}
 use Rattle.rules.specs.Step.{step, Started}
+use Rattle.rules.specs.Effects.{Closes, SendsBack, Away}
 use Rattle.rules.proofs.Kept.{started-inv}
-use Rattle.rules.proofs.Invariant.{Inv}
+use Rattle.rules.specs.Invariant.{Inv}
 use Rattle.rules.proofs.Statuses.{running-open}
 use Rattle.rules.proofs.Places.{vacated-others, vacated-gone}
 use Rattle.rules.proofs.OpenJobs.{open-not-zero}
-use Rattle.rules.proofs.Away.{Away, ended-away, ended-status}
+use Rattle.rules.proofs.Away.{ended-away, ended-status, not-live-away}
 use Rattle.rules.proofs.Courses.{commit-went, give-up-went, ask-back}
-
--- from desk d to desk e job j was closed: it is closed and has no part in any cell, its place is free, and every other job keeps its place
-pub record Closes (d e : Desk) (j : ℕ) : Type 0 where
-  pub status : e .stat j ≡ closed
-  pub away : Away e j
-  pub gone : member j (e .jobs) ≡ false
-  pub free : member 0 (e .jobs) ≡ true
-  pub others : (i : ℕ) → i ≢ j → i ≢ 0 → member i (e .jobs) ≡ member i (d .jobs)
-  pub next : e .next ≡ d .next
-
--- from desk d to desk e job j was sent back: it has that status and no part in any cell, and keeps its number and its place among the 32
-pub record SendsBack (d e : Desk) (j : ℕ) : Type 0 where
-  pub status : e .stat j ≡ sentback
-  pub away : Away e j
-  pub place : member j (e .jobs) ≡ true
-  pub places : e .jobs ≡ d .jobs
-  pub next : e .next ≡ d .next
 
 -- a place that is freed is free
 vacated-free : (j : ℕ) (ks : List ℕ) → member j ks ≡ true → member 0 (vacated j ks) ≡ true
@@ -86,3 +70,7 @@ pub sends-back : {d : Desk} {h : History} → Started d h → (r : Request) (j :
 sends-back {d} s r j g =
     let c = ask-back d r j g in
     rw (c .job, c .outcome) (back-sends (started-inv s) (r .job) (running-open (c .was .1 .runs)))
+
+-- and as long as it is sent back it holds nothing and stands in no queue (01, Jobs and their numbers)
+pub sent-back-away : {d : Desk} {h : History} → Started d h → (j : ℕ) → d .stat j ≡ sentback → Away d j
+sent-back-away s j e = not-live-away (started-inv s) j (unfold isLive in rw e)

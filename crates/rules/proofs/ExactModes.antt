@@ -2,7 +2,7 @@
 -- Assumes nothing.
 use Prim.Native.Nat.{ℕ}
 use mathlib.Core.Path.{_≡_, refl, sym, ap, _∙_}
-use mathlib.Core.Bool.{true, false, _&&_}
+use mathlib.Core.Bool.{false, _&&_}
 use lib.Dec.{ltb}
 use Rattle.laws.specs.Choice.{by-test, not-both}
 use Rattle.terms.specs.declared.letters.Ask.{Ask}
@@ -20,14 +20,9 @@ use Rattle.rules.specs.Desk.{Status, closed, running, waiting, sentback,
 use Rattle.rules.specs.Locks.{agrees, alone, olderThanHolders, olderThanWaiters, isEmpty}
 use Rattle.rules.specs.Rules.{refused, withRow, grant, queued, sendBack, rule1, rule2, rule3, rule4, ask}
 use Rattle.rules.specs.Step.{stepAsk, stepBy, step}
+use Rattle.rules.specs.Effects.{Exactly}
 use Rattle.rules.proofs.Tests.{at-same}
 use Rattle.rules.proofs.Answers.{other-answer}
-
--- what a go leaves a job with that held one mode before and holds another after, asking with a: by rule 1 what it held, by rule 2 X, by rule 3 what it needs, read S, write X, increment I (01, rules 1 to 3)
-pub record Exactly (before after : Mode) (a : Ask) : Type 0 where
-  pub kept : covers before (needed a) ≡ true → after ≡ before
-  pub promoted : covers before (needed a) ≡ false → isFree before ≡ false → after ≡ X
-  pub entered : isFree before ≡ true → after ≡ needed a
 
 module _ (d : Desk) (j c : ℕ) where
   -- a mode that is granted is the one the job then holds

@@ -2,21 +2,15 @@
 -- Assumes nothing.
 use Prim.Native.Nat.{ℕ}
 use mathlib.Core.Path.{_≡_, refl, ap, ap₂, _∙_}
-use mathlib.Core.Bool.{true}
 use Rattle.terms.specs.declared.letters.Letter.the-variants.{Begin, Commit, GiveUp, Retry, Back, Asks}
 use Rattle.terms.specs.declared.letters.Lettered.{Lettered}
 use Rattle.terms.specs.declared.letters.Lettered.the-variants.{Known, Unknown}
-use Rattle.terms.specs.Letters.{letterOf, hasJob, hasCell}
+use Rattle.terms.specs.Letters.{letterOf}
 use Rattle.rules.specs.declared.Answer.{Answer}
 use Rattle.rules.specs.declared.Answer.the-variants.{Go, Wait, Back as sent-back, No}
 use Rattle.rules.specs.Desk.{Desk, Request}
 use Rattle.rules.specs.Step.{stepCommit, stepGiveUp, stepRetry, stepAsk, stepBy, step, wentBy, ownRecords, recordsOf, events}
-use Rattle.rules.specs.Table.{letterIs}
-
--- two requests are alike to their letter: the same job where it has a job, and the same cell where it has a cell
-pub record Alike (l : Lettered) (r s : Request) : Type 0 where
-  pub job : letterIs hasJob l ≡ true → r .job ≡ s .job
-  pub cell : letterIs hasCell l ≡ true → r .cell ≡ s .cell
+use Rattle.rules.specs.Asked.{Alike}
 
 -- requests that are alike to a letter have the same outcome under it
 step-alike : (d : Desk) (r s : Request) (l : Lettered) → Alike l r s → stepBy d r l ≡ stepBy d s l

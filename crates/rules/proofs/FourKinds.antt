@@ -2,27 +2,16 @@
 -- Assumes nothing.
 use Prim.Native.Nat.{ℕ}
 use mathlib.Core.Path.{_≡_, refl, ap}
-use mathlib.Core.Bool.{Bool, true, false}
+use mathlib.Core.Bool.{true}
 use Rattle.laws.specs.Choice.{not-both}
-use Rattle.terms.specs.declared.letters.Letter.{Letter}
-use Rattle.terms.specs.declared.letters.Letter.the-variants.{Begin, Commit, GiveUp, Retry, Back, Asks}
 use Rattle.terms.specs.Letters.{letterOf}
 use Rattle.rules.specs.declared.Answer.{Answer}
 use Rattle.rules.specs.declared.Answer.the-variants.{Go}
 use Rattle.rules.specs.Desk.{Desk, Request}
 use Rattle.rules.specs.Step.{step}
-use Rattle.rules.specs.Table.{NothingDue, Answers, goes, waits, goes-back, named, letterIs}
+use Rattle.rules.specs.Table.{NothingDue, Answers, goes, waits, goes-back, named, letterIs, asksNoCell}
 use Rattle.rules.proofs.Refusing.{not-due}
 use Rattle.rules.proofs.Courses.{ask-waited, ask-back}
-
--- the four kinds that ask for no cell: begin, commit, give-up and retry; k is no request
-abbrev pub asksNoCell : Letter → Bool
-asksNoCell Begin = true
-asksNoCell Commit = true
-asksNoCell GiveUp = true
-asksNoCell Retry = true
-asksNoCell Back = false
-asksNoCell (Asks a) = false
 
 -- where no refusal is due, a begin, a commit, a give-up and a retry answer go, with the request's job, or for begin the new one
 pub answers-go : (d : Desk) (r : Request) → letterIs asksNoCell (letterOf (r .kind)) ≡ true → NothingDue d r → step d r .said ≡ Go (named d r)

@@ -2,7 +2,6 @@
 -- Assumes nothing.
 use Prim.Native.Nat.{ℕ}
 use mathlib.Core.Path.{_≡_, refl, sym, ap, _∙_}
-use mathlib.Core.Logic.{_≢_}
 use mathlib.Core.Bool.{true}
 use mathlib.Core.List.{[]}
 use borrow.Author.Tests.{lt-ltb}
@@ -17,20 +16,10 @@ use Rattle.rules.specs.declared.Answer.the-variants.{Go}
 use Rattle.rules.specs.Desk.{Desk, Row, Request, at}
 use Rattle.rules.specs.Rules.{withRow, grant, rule1, ask}
 use Rattle.rules.specs.Step.{stepAsk, stepBy, step}
-use Rattle.rules.proofs.Moved.{Asking}
+use Rattle.rules.specs.Asked.{Asking}
+use Rattle.rules.specs.Effects.{Grants}
 use Rattle.rules.proofs.Tests.{at-same, at-other, at-each}
 use Rattle.rules.proofs.Courses.{AskWent, had, got, ask-went}
-
--- from desk d to desk e request r of job j went with ask a: the job holds a mode that covers its need, every other job holds what it held, every other cell, every queue, and all else is as before
-pub record Grants (d e : Desk) (r : Request) (a : Ask) (j : ℕ) : Type 0 where
-  pub job : j ≡ r .job
-  pub holds : covers (e .row (r .cell) .held j) (needed a) ≡ true
-  pub others : (c i : ℕ) → i ≢ j → e .row c .held i ≡ d .row c .held i
-  pub elsewhere : (c : ℕ) → c ≢ r .cell → e .row c ≡ d .row c
-  pub queues : (c : ℕ) → e .row c .queue ≡ d .row c .queue
-  pub statuses : e .stat ≡ d .stat
-  pub places : e .jobs ≡ d .jobs
-  pub next : e .next ≡ d .next
 
 -- a running job that asks for a cell below 64 is decided by rules 1 to 3
 pub asking-step : (d : Desk) (r : Request) (a : Ask) → Asking d r a → step d r ≡ ask d (r .job) (r .cell) a

@@ -22,18 +22,16 @@ use Rattle.rules.specs.declared.Answer.{Answer}
 use Rattle.rules.specs.Desk.{Status, Waiter, Desk, Request, at}
 use Rattle.rules.specs.Rules.{Outcome, refused, withRow, withStatus, rule4, grant, queued}
 use Rattle.rules.specs.Step.{step, events, Started}
+use Rattle.rules.specs.Moves.{Moved, refuses, begins, commits, gives-up, retries, has-it, promotes, waits-in-front, enters, waits-last, goes-back}
 use Rattle.conflict.specs.Runs.{isEnd, ended}
 use Rattle.rules.proofs.Kept.{started-inv}
-use Rattle.rules.proofs.Invariant.{Inv}
-use Rattle.rules.proofs.Moved.{Moved, refuses, begins, commits, gives-up, retries, has-it, promotes, waits-in-front, enters, waits-last, goes-back, step-moved}
+use Rattle.rules.specs.Invariant.{Inv}
+use Rattle.rules.specs.Effects.{Keeps}
+use Rattle.rules.proofs.Moved.{step-moved}
 use Rattle.rules.proofs.Tests.{at-each}
 use Rattle.rules.proofs.RunEnd.{row-releases}
 use Rattle.rules.proofs.Records.{commit-records, give-up-records, back-records}
 use Rattle.rules.proofs.Courses.{covers-none}
-
--- what job i holds at cell c in desk e covers what it held there in desk d
-abbrev pub Keeps : Desk → Desk → ℕ → ℕ → Type 0
-Keeps d e i c = covers (e .row c .held i) (d .row c .held i) ≡ true
 
 -- a history that begins with a mark of a job ends a run of it
 first-ends : (m : Mark) (j i : ℕ) (h : History) → same i j ≡ true → ended i (Ends m j ∷ h) ≡ true

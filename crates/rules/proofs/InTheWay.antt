@@ -11,10 +11,10 @@ use Rattle.conflict.specs.declared.modes.Mode.{Mode}
 use Rattle.conflict.specs.Modes.{grants, isFree}
 use Rattle.conflict.specs.History.{History}
 use Rattle.conflict.proofs.ModeLaws.{is-free, grants-free}
-use Rattle.rules.specs.Desk.{Waiter, Desk, isLive}
+use Rattle.rules.specs.Desk.{Waiter, Desk, isLive, In}
 use Rattle.rules.specs.Step.{Started}
-use Rattle.rules.specs.Waiting.{In, InWay, holds-it, ahead, in-front, IsWaiting, Chain, link, links}
-use Rattle.rules.proofs.Invariant.{FirstBlocked, Inv}
+use Rattle.rules.specs.Waiting.{InWay, holds-it, ahead, in-front, IsWaiting, Chain, link, links}
+use Rattle.rules.specs.Invariant.{FirstBlocked, Inv}
 use Rattle.rules.proofs.Kept.{started-inv}
 use Rattle.rules.proofs.Queue.{in-none, in-split}
 use Rattle.rules.proofs.Statuses.{waiting-live}

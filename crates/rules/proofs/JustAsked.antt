@@ -13,20 +13,21 @@ use Rattle.terms.specs.Letters.{letterOf}
 use Rattle.conflict.specs.Modes.{isFree}
 use Rattle.conflict.specs.History.{History}
 use Rattle.rules.specs.declared.Answer.the-variants.{Wait}
-use Rattle.rules.specs.Desk.{Waiter, Desk, Request}
+use Rattle.rules.specs.Desk.{Waiter, Desk, Request, In}
 use Rattle.rules.specs.Step.{step, Started}
-use Rattle.rules.specs.Waiting.{In, Ahead, InWay, holds-it, ahead, asker, WasInWay, held-it, stood-ahead, IsWaiting}
+use Rattle.rules.specs.Waiting.{Ahead, InWay, holds-it, ahead, asker, WasInWay, held-it, stood-ahead, IsWaiting}
+use Rattle.rules.specs.Effects.{promotion, newcomer, StartsToWait}
 use Rattle.rules.proofs.Kept.{started-inv}
 use Rattle.rules.proofs.Statuses.{running-not-waiting}
-use Rattle.rules.proofs.Courses.{same-ask, Joins, promotion, newcomer}
-use Rattle.rules.proofs.Queueing.{Waits, waits}
+use Rattle.rules.proofs.Courses.{same-ask, Joins}
+use Rattle.rules.proofs.Queueing.{waits}
 use Rattle.rules.proofs.KeptStatus.{no-place}
 use Rattle.rules.proofs.AheadLaws.{ahead-split, ahead-of, before-last, ahead-before-last}
 
 module _ {d : Desk} {h : History} (s : Started d h) (r : Request) (a : Ask) (l : letterOf (r .kind) ≡ Known (Asks a)) (e : step d r .said ≡ Wait (r .job)) where
   -- a job that asks and is answered wait
-  just-asked : Waits d (step d r .desk) r a (r .job)
-  just-asked = let w = waits d r (r .job) e in subst (λ b. Waits d (step d r .desk) r b (r .job)) (same-ask (w .1 .asking .letter) l) (w .1)
+  just-asked : StartsToWait d (step d r .desk) r a (r .job)
+  just-asked = let w = waits d r (r .job) e in subst (λ b. StartsToWait d (step d r .desk) r b (r .job)) (same-ask (w .1 .asking .letter) l) (w .1)
 
   -- it waits for that cell with what it asked
   pub asker-waits : IsWaiting (step d r .desk) (r .cell) (asker r a)

@@ -4,8 +4,9 @@ use Rattle.conflict.specs.History.{History}
 use Rattle.rules.specs.Desk.{Desk, Request}
 use Rattle.rules.specs.Rules.{Outcome, refused, close, sendBack, grant, queued, retry, begin}
 use Rattle.rules.specs.Step.{step, Started, fresh, after}
-use Rattle.rules.proofs.Moved.{Moved, refuses, begins, commits, gives-up, retries, has-it, promotes, waits-in-front, enters, waits-last, goes-back, step-moved}
-use Rattle.rules.proofs.Invariant.{Inv}
+use Rattle.rules.specs.Moves.{Moved, refuses, begins, commits, gives-up, retries, has-it, promotes, waits-in-front, enters, waits-last, goes-back}
+use Rattle.rules.proofs.Moved.{step-moved}
+use Rattle.rules.specs.Invariant.{Inv}
 use Rattle.rules.proofs.Statuses.{running-open}
 use Rattle.rules.proofs.KeptStatus.{retry-inv}
 use Rattle.rules.proofs.KeptBegin.{begin-inv, fresh-inv}

@@ -10,13 +10,14 @@ use Rattle.terms.specs.Limits.{cells}
 use Rattle.conflict.specs.declared.modes.Mode.{Mode}
 use Rattle.conflict.specs.Modes.{needed, covers, grants, asked, isFree}
 use Rattle.conflict.proofs.ModeLaws.{grants-free, is-free, asked-free, asked-grows, promotion-alone}
-use Rattle.rules.specs.Desk.{running, Waiter, Desk}
+use Rattle.rules.specs.Desk.{running, Waiter, Desk, In}
 use Rattle.rules.specs.Locks.{isEmpty, agrees, alone, olderThanHolders, olderThanWaiters, wants}
 use Rattle.rules.specs.Rules.{grant, queued}
-use Rattle.rules.proofs.Invariant.{In, FirstBlocked, Inv}
+use Rattle.rules.specs.Releasing.{Seated}
+use Rattle.rules.specs.Invariant.{FirstBlocked, Inv}
 use Rattle.rules.proofs.Statuses.{running-not-waiting}
 use Rattle.rules.proofs.Queue.{in-none, in-split, falling-join}
-use Rattle.rules.proofs.Tests.{Seated, agrees-each, agrees-not, alone-each, alone-not, older-holders, older-waiters, empty-queue}
+use Rattle.rules.proofs.Tests.{agrees-each, agrees-not, alone-each, alone-not, older-holders, older-waiters, empty-queue}
 use Rattle.rules.proofs.RunEnd.{row-ready}
 use Rattle.rules.proofs.KeptStatus.{no-place}
 use Rattle.rules.proofs.KeptGrant.{grant-inv}

@@ -11,9 +11,9 @@ use Rattle.conflict.specs.declared.modes.Mode.the-variants.{Free}
 use Rattle.laws.specs.Lists.{member}
 use Rattle.conflict.proofs.ModeLaws.{free-beside}
 use Rattle.conflict.proofs.MoreModeLaws.{free-is-free}
-use Rattle.rules.specs.Desk.{closed, running, waiting, Desk, isOpen, seated, idle, freshDesk}
+use Rattle.rules.specs.Desk.{closed, running, waiting, Desk, isOpen, seated, idle, freshDesk, In}
 use Rattle.rules.specs.Rules.{begin}
-use Rattle.rules.proofs.Invariant.{In, Inv, RowInv}
+use Rattle.rules.specs.Invariant.{Inv, RowInv}
 use Rattle.rules.proofs.Statuses.{running-live, running-open, closed-not-open, running-not-waiting, not-open-not-waiting}
 use Rattle.rules.proofs.Queue.{in-none}
 use Rattle.rules.proofs.Tests.{at-other, at-each, at-all}

@@ -8,10 +8,10 @@ use mathlib.Core.List.{List, [], _∷_}
 use Rattle.conflict.specs.declared.modes.Mode.{Mode}
 use Rattle.conflict.specs.Modes.{covers, grants, isFree}
 use Rattle.conflict.proofs.MoreModeLaws.{stays-in-way}
-use Rattle.rules.specs.Desk.{Status, running, waiting, Waiter, Row, Desk, isLive, at}
+use Rattle.rules.specs.Desk.{Status, running, waiting, Waiter, Row, Desk, isLive, at, In, first}
 use Rattle.rules.specs.Locks.{wants}
 use Rattle.rules.specs.Rules.{grant, withRow}
-use Rattle.rules.proofs.Invariant.{In, first, FirstBlocked, Inv, RowInv}
+use Rattle.rules.specs.Invariant.{FirstBlocked, Inv, RowInv}
 use Rattle.rules.proofs.Statuses.{running-live, running-not-waiting}
 use Rattle.rules.proofs.Tests.{at-other, at-each, at-all}
 use Rattle.rules.proofs.KeptStatus.{no-place}

@@ -8,9 +8,9 @@ use mathlib.Core.List.{List, [], _∷_, _++_}
 use Rattle.terms.specs.declared.letters.Ask.{Ask}
 use Rattle.terms.specs.Limits.{cells}
 use Rattle.conflict.specs.Modes.{isFree}
-use Rattle.rules.specs.Desk.{Status, running, waiting, Waiter, Row, Desk, isLive, at}
+use Rattle.rules.specs.Desk.{Status, running, waiting, Waiter, Row, Desk, isLive, at, In, first, later}
 use Rattle.rules.specs.Rules.{queued, withRow, withStatus}
-use Rattle.rules.proofs.Invariant.{In, first, later, Falling, FirstBlocked, Inv, RowInv}
+use Rattle.rules.specs.Invariant.{Falling, FirstBlocked, Inv, RowInv}
 use Rattle.rules.proofs.Statuses.{running-open, waiting-live, waiting-open, running-not-waiting, one-cell, one-ask}
 use Rattle.rules.proofs.Queue.{in-none, in-split, in-left, in-right, in-either}
 use Rattle.rules.proofs.Tests.{at-same, at-other, at-each, at-all}

@@ -10,9 +10,9 @@ use Rattle.laws.specs.Choice.{not-both}
 use Rattle.terms.specs.Limits.{places}
 use Rattle.laws.specs.Lists.{member}
 use Rattle.rules.specs.declared.Answer.{Answer}
-use Rattle.rules.specs.Desk.{Status, closed, waiting, sentback, Desk, isOpen, isLive, vacated}
+use Rattle.rules.specs.Desk.{Status, closed, waiting, sentback, Desk, isOpen, isLive, vacated, In}
 use Rattle.rules.specs.Rules.{rowsAfter, rule4, close, sendBack}
-use Rattle.rules.proofs.Invariant.{In, Inv, RowInv, Once}
+use Rattle.rules.specs.Invariant.{Inv, RowInv, Once}
 use Rattle.rules.proofs.Statuses.{running-live, running-open, waiting-live, waiting-open, running-not-waiting}
 use Rattle.rules.proofs.Release.{woken-or-left, holder-was}
 use Rattle.rules.proofs.RunEnd.{statusAfter, row-releases, granted-woken, left-not-woken, woken-after, others-after, after-each}

@@ -7,9 +7,9 @@ use mathlib.Core.Bool.{true}
 use Rattle.laws.specs.Choice.{not-both}
 use Rattle.terms.specs.declared.letters.Ask.{Ask}
 use Rattle.laws.specs.Lists.{member}
-use Rattle.rules.specs.Desk.{Status, running, waiting, sentback, Waiter, Row, Desk, isOpen, isLive, at}
+use Rattle.rules.specs.Desk.{Status, running, waiting, sentback, Waiter, Row, Desk, isOpen, isLive, at, In}
 use Rattle.rules.specs.Rules.{retry, withStatus}
-use Rattle.rules.proofs.Invariant.{In, Inv, RowInv}
+use Rattle.rules.specs.Invariant.{Inv, RowInv}
 use Rattle.rules.proofs.Statuses.{running-live, running-open, sentback-open, closed-not-open, running-not-waiting, sentback-not-waiting}
 use Rattle.rules.proofs.Tests.{at-other, at-each, at-all}
 

@@ -1,5 +1,4 @@
 pub mod Moved
-pub mod Invariant
 pub mod Statuses
 pub mod Queue
 pub mod WakeOrder
@@ -59,5 +58,7 @@ pub mod WaiterStep
 pub mod RecordLimits
 pub mod OneRecordEach
 pub mod ExactModes
+pub mod RunEnded
 pub mod WakesTold
 pub mod FourKinds
+pub mod OthersLocks

@@ -9,15 +9,14 @@ use Rattle.conflict.specs.declared.action.Action.{Action}
 use Rattle.conflict.specs.declared.action.Event.the-variants.{Does, Ends}
 use Rattle.conflict.specs.Modes.{lets}
 use Rattle.conflict.specs.History.{History}
-use Rattle.conflict.specs.LockMachine.{Table, allows, Ran}
-use Rattle.conflict.specs.LockMachine.Ran.{start, grows, acts, stops}
+use Rattle.conflict.proofs.LockTable.{Table, allows, Ran}
+use Rattle.conflict.proofs.LockTable.Ran.{start, grows, acts, stops}
 use Rattle.conflict.proofs.ModeLaws.{covers-lets}
-use Rattle.rules.specs.Desk.{Desk, Request, freshDesk, idle}
+use Rattle.rules.specs.Desk.{Desk, Request, freshDesk, idle, In, first, later}
 use Rattle.rules.specs.Rules.{Outcome, wake, rowsAfter, rule4}
 use Rattle.rules.specs.Step.{step, wakeRecords, events, Started}
 use Rattle.rules.specs.Step.Started.{fresh, after}
-use Rattle.rules.specs.Histories.{Has, now, then}
-use Rattle.rules.proofs.Invariant.{Inv}
+use Rattle.rules.specs.Invariant.{Inv}
 use Rattle.rules.proofs.Release.{woken-covers}
 use Rattle.rules.proofs.RunEnd.{row-releases, wakesAfter}
 use Rattle.rules.proofs.Kept.{started-inv}
@@ -29,11 +28,11 @@ abbrev pub tableOf : Desk → Table
 tableOf d = λ j c. d .row c .held j
 
 -- wakes that a table allows are done one after another
-acts-all : {t : Table} {h : History} → Ran t h → (xs : List Action) → ((a : Action) → Has (Does a) (wakeRecords xs) → allows t a ≡ true) → Ran t (h ++ wakeRecords xs)
+acts-all : {t : Table} {h : History} → Ran t h → (xs : List Action) → ((a : Action) → In (Does a) (wakeRecords xs) → allows t a ≡ true) → Ran t (h ++ wakeRecords xs)
 unfolding wakeRecords
 acts-all {h = h} k [] f = rw (append-nil h) k
 acts-all {t} {h} k (a ∷ xs) f =
-    subst (λ g. Ran t g) (append-assoc h (Does a ∷ []) (wakeRecords xs)) (acts-all (acts k a (f a now)) xs (λ b m. f b (then m)))
+    subst (λ g. Ran t g) (append-assoc h (Does a ∷ []) (wakeRecords xs)) (acts-all (acts k a (f a first)) xs (λ b m. f b (later m)))
 
 -- when a run ends, each woken job holds a mode that lets it do what it asked
 wakes-allowed : {d : Desk} → Inv d → (j : ℕ) (a : Action) → WakeOf (rowsAfter d j) a → lets (rowsAfter d j (a .cell) .row .held (a .job)) (a .kind) ≡ true

@@ -1,9 +1,8 @@
 -- The rules as a relation, one constructor to a rule with its tests as premises, and that every step is such a move: the one place that follows the tests.
 -- Assumes nothing.
-use Prim.Native.Nat.{ℕ, suc, _<_, _≤_}
+use Prim.Native.Nat.{ℕ}
 use mathlib.Core.Path.{_≡_, refl}
 use mathlib.Core.Bool.{Bool, true, false, _&&_}
-use mathlib.Core.List.{List, [], _∷_, _++_}
 use lib.Dec.{ltb, leb}
 use borrow.Author.Tests.{ltb-true, ltb-false, le-leb}
 use Rattle.laws.specs.Choice.{pick}
@@ -15,65 +14,16 @@ use Rattle.terms.specs.declared.refusals.Refusal.{Refusal}
 use Rattle.terms.specs.declared.refusals.Refusal.the-variants.{UnknownKind, CellAbove, NotOpen, Waiting, SentBack, AllOpen, NoNumberLeft, Running}
 use Rattle.terms.specs.Letters.{letterOf}
 use Rattle.terms.specs.Limits.{cells, lastNumber}
-use Rattle.conflict.specs.declared.modes.Mode.{Mode}
-use Rattle.conflict.specs.Modes.{needed, covers, asked, isFree}
+use Rattle.conflict.specs.Modes.{needed, covers, isFree}
 use Rattle.laws.specs.Lists.{member}
 use Rattle.laws.proofs.Parts.{and-first, and-second}
-use Rattle.rules.specs.declared.Answer.the-variants.{Go, Wait, Back}
-use Rattle.rules.specs.Desk.{Status, closed, running, waiting, sentback, Desk, Request, Waiter, isOpen, at, seated, vacated}
+use Rattle.rules.specs.Desk.{Status, closed, running, waiting, sentback, Desk, Request, isOpen}
 use Rattle.rules.specs.Locks.{agrees, alone, olderThanHolders, olderThanWaiters, isEmpty}
-use Rattle.rules.specs.Rules.{Outcome, refused, withRow, withStatus, rule4, close, sendBack, grant, queued, rule1, rule2, rule3, ask, retry, begin}
+use Rattle.rules.specs.Rules.{Outcome, refused, close, sendBack, grant, queued, rule1, rule2, rule3, ask, retry, begin}
 use Rattle.rules.specs.Step.{stepCommit, stepGiveUp, stepRetry, stepAsk, stepBegin, stepBy, step}
-use Rattle.rules.specs.Table.{holds, order, firstOf, refusal, verdictBy, verdict, Due}
-
--- a running job asks for a cell that there is
-pub record Asking (d : Desk) (r : Request) (a : Ask) : Type 0 where
-  pub letter : letterOf (r .kind) ≡ Known (Asks a)
-  pub runs : d .stat (r .job) ≡ running
-  pub within : r .cell < cells
-
--- who stands in the job's way is older: a holder, or for a job new to the cell a waiter
-pub data Elder (d : Desk) (j c : ℕ) : Type 0 where
-  holder : olderThanHolders (d .jobs) (d .row c .held) j ≡ false → Elder d j c
-  waiter : isFree (d .row c .held j) ≡ true → olderThanWaiters (d .row c .queue) j ≡ false → Elder d j c
-
--- go: this desk, and nobody is woken
-abbrev pub goes : Desk → ℕ → Outcome
-goes e j = record { desk = e; said = Go j; wakes = [] }
-
--- the job gets the mode, and every queue stays
-abbrev pub taking : Desk → ℕ → ℕ → Mode → Outcome
-taking d j c m = goes (withRow d c (record { held = at (d .row c .held) j m; queue = d .row c .queue })) j
-
--- the job waits in this queue, and everybody still holds what they hold
-abbrev pub standing : Desk → ℕ → ℕ → Ask → List Waiter → Outcome
-standing d j c a q =
-    record {
-      desk = withStatus (withRow d c (record { held = d .row c .held; queue = q })) j (waiting c a);
-      said = Wait j;
-      wakes = [];
-    }
-
--- the moves, each outcome written out: not by the names under which the rules are defined, so that a rule which does something else is no move
-pub data Moved (d : Desk) (r : Request) : Outcome → Type 0 where
-  -- a refusal that the table says is due
-  refuses : (why : Refusal) → Due d r why → Moved d r (refused d why)
-  begins : letterOf (r .kind) ≡ Known Begin → d .next ≤ lastNumber → member 0 (d .jobs) ≡ true → Moved d r (goes (record { next = suc (d .next); jobs = seated (d .next) (d .jobs); stat = at (d .stat) (d .next) running; row = d .row }) (d .next))
-  -- rule 4: commit and give-up close the job
-  commits : letterOf (r .kind) ≡ Known Commit → d .stat (r .job) ≡ running → Moved d r (rule4 d (r .job) closed (vacated (r .job) (d .jobs)) (Go (r .job)))
-  gives-up : letterOf (r .kind) ≡ Known GiveUp → isOpen (d .stat (r .job)) ≡ true → Moved d r (rule4 d (r .job) closed (vacated (r .job) (d .jobs)) (Go (r .job)))
-  -- rule 5
-  retries : letterOf (r .kind) ≡ Known Retry → d .stat (r .job) ≡ sentback → Moved d r (goes (withStatus d (r .job) running) (r .job))
-  -- rule 1
-  has-it : (a : Ask) → Asking d r a → covers (d .row (r .cell) .held (r .job)) (needed a) ≡ true → Moved d r (goes d (r .job))
-  -- rule 2
-  promotes : (a : Ask) → Asking d r a → covers (d .row (r .cell) .held (r .job)) (needed a) ≡ false → isFree (d .row (r .cell) .held (r .job)) ≡ false → alone (d .jobs) (d .row (r .cell) .held) (r .job) ≡ true → Moved d r (taking d (r .job) (r .cell) (asked (d .row (r .cell) .held (r .job)) (needed a)))
-  waits-in-front : (a : Ask) → Asking d r a → covers (d .row (r .cell) .held (r .job)) (needed a) ≡ false → isFree (d .row (r .cell) .held (r .job)) ≡ false → alone (d .jobs) (d .row (r .cell) .held) (r .job) ≡ false → olderThanHolders (d .jobs) (d .row (r .cell) .held) (r .job) ≡ true → Moved d r (standing d (r .job) (r .cell) a (record { job = r .job; ask = a } ∷ d .row (r .cell) .queue))
-  -- rule 3
-  enters : (a : Ask) → Asking d r a → isFree (d .row (r .cell) .held (r .job)) ≡ true → isEmpty (d .row (r .cell) .queue) ≡ true → agrees (d .jobs) (d .row (r .cell) .held) (r .job) (needed a) ≡ true → Moved d r (taking d (r .job) (r .cell) (needed a))
-  waits-last : (a : Ask) → Asking d r a → isFree (d .row (r .cell) .held (r .job)) ≡ true → (isEmpty (d .row (r .cell) .queue) && agrees (d .jobs) (d .row (r .cell) .held) (r .job) (needed a)) ≡ false → olderThanHolders (d .jobs) (d .row (r .cell) .held) (r .job) ≡ true → olderThanWaiters (d .row (r .cell) .queue) (r .job) ≡ true → Moved d r (standing d (r .job) (r .cell) a (d .row (r .cell) .queue ++ record { job = r .job; ask = a } ∷ []))
-  -- rules 2 and 3, otherwise: sent back by rule 4
-  goes-back : (a : Ask) → Asking d r a → Elder d (r .job) (r .cell) → Moved d r (rule4 d (r .job) sentback (d .jobs) (Back (r .job)))
+use Rattle.rules.specs.Table.{holds, order, firstOf, refusal, verdictBy, verdict}
+use Rattle.rules.specs.Asked.{Asking, holder, waiter}
+use Rattle.rules.specs.Moves.{Moved, refuses, begins, commits, gives-up, retries, has-it, promotes, waits-in-front, enters, waits-last, goes-back}
 
 -- one of two moves, by a test that picks it
 either : {d : Desk} {r : Request} (b : Bool) {x y : Outcome} → (b ≡ true → Moved d r x) → (b ≡ false → Moved d r y) → Moved d r (pick b x y)

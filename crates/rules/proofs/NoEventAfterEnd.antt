@@ -11,16 +11,15 @@ use Rattle.conflict.specs.declared.action.Action.{Action}
 use Rattle.conflict.specs.declared.action.Mark.{Mark}
 use Rattle.laws.specs.Lists.{same}
 use Rattle.conflict.specs.History.{History, isBack, marked, lineOf, endsForGood}
-use Rattle.conflict.specs.Runs.{isLast}
 use Rattle.laws.proofs.Parts.{and-first, and-second, and-both, or-either, or-second}
 use Rattle.conflict.proofs.Marks.{unmarked}
-use Rattle.conflict.proofs.OneEvent.{line-none, line-does, line-ends, marked-none, marked-does, marked-ends, good-none, good-does, good-ends}
+use Rattle.conflict.proofs.OneEvent.{line-none, line-does, line-ends, marked-none, marked-does, marked-ends, good-none, good-does, good-ends, isLast}
 use Rattle.conflict.proofs.Appended.{line-append, marked-append, ends-append}
 use Rattle.rules.specs.Desk.{closed, isOpen, Desk, Request, freshDesk}
 use Rattle.rules.specs.Rules.{Outcome, rule4}
 use Rattle.rules.specs.Step.{step, wakeRecords, events, Started}
 use Rattle.rules.specs.Step.Started.{fresh, after}
-use Rattle.rules.proofs.Invariant.{Inv}
+use Rattle.rules.specs.Invariant.{Inv}
 use Rattle.rules.proofs.Statuses.{running-open, waiting-open, closed-not-open}
 use Rattle.rules.proofs.RunEnd.{wakesAfter, woken-waited, self-not-woken, self-after}
 use Rattle.rules.proofs.Kept.{started-inv}

@@ -15,7 +15,7 @@ use Rattle.rules.specs.Locks.{wants}
 use Rattle.rules.specs.Step.{step, events, Started}
 use Rattle.rules.specs.Runs.{deskAfter, historyOf}
 use Rattle.rules.specs.Waiting.{InWay, IsWaiting, Waits, GivesUp, AllEnd, Granted}
-use Rattle.rules.proofs.Invariant.{Inv}
+use Rattle.rules.specs.Invariant.{Inv}
 use Rattle.rules.proofs.Kept.{step-inv, started-inv}
 use Rattle.rules.proofs.Settle.{wants-same}
 use Rattle.rules.proofs.StartedRuns.{run-started}

@@ -23,8 +23,9 @@ use Rattle.rules.specs.Rules.{Outcome, refused, withRow, withStatus, rul
 use Rattle.rules.specs.Step.{step}
 use Rattle.rules.specs.Table.{isBegin, letterIs}
 use Rattle.rules.specs.Runs.{deskAfter, numberIn, givenBy, given, Rising}
+use Rattle.rules.specs.Moves.{Moved, refuses, begins, commits, gives-up, retries, has-it, promotes, waits-in-front, enters, waits-last, goes-back}
 use Rattle.rules.proofs.Courses.{begin-went}
-use Rattle.rules.proofs.Moved.{Moved, refuses, begins, commits, gives-up, retries, has-it, promotes, waits-in-front, enters, waits-last, goes-back, step-moved}
+use Rattle.rules.proofs.Moved.{step-moved}
 
 -- numbers that rise are different
 rising-distinct : (ns : List ℕ) → Rising ns → distinct ns ≡ true

@@ -19,7 +19,7 @@ use Rattle.rules.specs.Step.{step, Started}
 use Rattle.rules.specs.Runs.{deskAfter, historyOf}
 use Rattle.rules.specs.Waiting.{OldestLive, OldestOpen}
 use Rattle.rules.proofs.Moved.{step-moved}
-use Rattle.rules.proofs.Invariant.{Inv}
+use Rattle.rules.specs.Invariant.{Inv}
 use Rattle.rules.proofs.Kept.{step-inv, started-inv}
 use Rattle.rules.proofs.Statuses.{live-open, closed-not-open}
 use Rattle.rules.proofs.SentBack.{back-older, moved-told}

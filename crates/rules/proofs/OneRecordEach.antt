@@ -25,38 +25,31 @@ use Rattle.rules.specs.Desk.{Status, Waiter, Row, Desk, Request, at, idl
 use Rattle.rules.specs.Locks.{without, agrees, wants, woke, settle, released}
 use Rattle.rules.specs.Rules.{Outcome, refused, withRow, withStatus, wakesAt, wakesOf, rowsAfter, rule4}
 use Rattle.rules.specs.Step.{step, wentBy, ownRecords, wakeRecords, recordsOf, events}
-use Rattle.rules.proofs.Moved.{Moved, refuses, begins, commits, gives-up, retries, has-it, promotes, waits-in-front, enters, waits-last, goes-back, taking, standing as standing-in, step-moved}
+use Rattle.rules.specs.Moves.{Moved, refuses, begins, commits, gives-up, retries, has-it, promotes, waits-in-front, enters, waits-last, goes-back, taking, standing}
+use Rattle.rules.specs.Waiting.{standingIn, waitersOf}
+use Rattle.rules.proofs.Moved.{step-moved}
 use Rattle.rules.proofs.Tests.{at-same, at-other}
 
--- how many stand in the queues of the first n cells
-unfoldable pub standing : (ℕ → Row) → ℕ → ℕ
-standing rows zero = 0
-standing rows (suc n) = standing rows n + length (rows n .queue)
-
--- how many stand in the queues of a desk
-abbrev pub waitersOf : Desk → ℕ
-waitersOf d = standing (d .row) cells
-
 -- on a fresh desk nobody does
-pub none-standing : (m n : ℕ) → standing (freshDesk m .row) n ≡ 0
-unfolding standing freshDesk idle
+pub none-standing : (m n : ℕ) → standingIn (freshDesk m .row) n ≡ 0
+unfolding standingIn freshDesk idle
 none-standing m zero = refl
 none-standing m (suc n) = omega (arith, none-standing m n)
 
 -- another row for a cell changes nothing of the cells before it
-before-cell : (rows : ℕ → Row) (c : ℕ) (x : Row) (n : ℕ) → n ≤ c → standing (at rows c x) n ≡ standing rows n
-unfolding standing
+before-cell : (rows : ℕ → Row) (c : ℕ) (x : Row) (n : ℕ) → n ≤ c → standingIn (at rows c x) n ≡ standingIn rows n
+unfolding standingIn
 before-cell rows c x zero h = refl
 before-cell rows c x (suc n) h = rw (before-cell rows c x n (omega arith), at-other rows c x n (λ e. omega arith))
 
 -- a row with at most k waiters more adds at most k
-at-most-more : (k : ℕ) (rows : ℕ → Row) (c : ℕ) (x : Row) → length (x .queue) ≤ k + length (rows c .queue) → (n : ℕ) → standing (at rows c x) n ≤ k + standing rows n
-unfolding standing
+at-most-more : (k : ℕ) (rows : ℕ → Row) (c : ℕ) (x : Row) → length (x .queue) ≤ k + length (rows c .queue) → (n : ℕ) → standingIn (at rows c x) n ≤ k + standingIn rows n
+unfolding standingIn
 at-most-more k rows c x h zero = omega arith
 at-most-more k rows c x h (suc n) =
     by-test (eqb n c)
     (λ t. let e : n ≡ c = eqb-true n c t in rw (e, at-same rows c x, before-cell rows c x c (omega arith)) (omega arith))
-    (λ f. let o : n ≢ c = eqb-false n c f in let m : standing (at rows c x) n ≤ k + standing rows n = at-most-more k rows c x h n in rw (at-other rows c x n o) (omega arith))
+    (λ f. let o : n ≢ c = eqb-false n c f in let m : standingIn (at rows c x) n ≤ k + standingIn rows n = at-most-more k rows c x h n in rw (at-other rows c x n o) (omega arith))
 
 -- a job that leaves a queue makes it no longer
 without-size : (j : ℕ) (q : List Waiter) → length (without j q) ≤ length q
@@ -84,8 +77,8 @@ wakes-size c [] = refl
 wakes-size c (w ∷ q) = ap suc (wakes-size c q)
 
 -- when a run ends, the wakes and those who still stand are no more than stood
-ended-size : (d : Desk) (j n : ℕ) → length (wakesOf (rowsAfter d j) n) + standing (λ c. rowsAfter d j c .row) n ≤ standing (d .row) n
-unfolding wakesOf standing rowsAfter
+ended-size : (d : Desk) (j n : ℕ) → length (wakesOf (rowsAfter d j) n) + standingIn (λ c. rowsAfter d j c .row) n ≤ standingIn (d .row) n
+unfolding wakesOf standingIn rowsAfter
 ended-size d j zero = omega arith
 ended-size d j (suc n) =
     omega (
@@ -141,7 +134,7 @@ module _ (d : Desk) (r : Request) where
   granted m = omega (arith, stays (Go (r .job)), at-most-more 0 (d .row) (r .cell) (record { held = at (d .row (r .cell) .held) (r .job) m; queue = d .row (r .cell) .queue }) (omega arith) cells)
 
   -- a wait
-  waited : (a : Ask) (q : List Waiter) → length q ≤ suc (length (d .row (r .cell) .queue)) → Few d r (standing-in d (r .job) (r .cell) a q)
+  waited : (a : Ask) (q : List Waiter) → length q ≤ suc (length (d .row (r .cell) .queue)) → Few d r (standing d (r .job) (r .cell) a q)
   unfolding withStatus withRow recordsOf ownRecords wakeRecords
   waited a q h = omega (arith, at-most-more 1 (d .row) (r .cell) (record { held = d .row (r .cell) .held; queue = q }) (omega arith) cells)
 

@@ -20,7 +20,7 @@ use Rattle.rules.specs.Desk.{Status, isOpen, Desk}
 use Rattle.rules.specs.Step.{Started}
 use Rattle.rules.specs.Table.{isBegin, letterIs, notOpen, allOpen, openAmong, openJobs}
 use Rattle.rules.proofs.Kept.{started-inv}
-use Rattle.rules.proofs.Invariant.{Once, Inv}
+use Rattle.rules.specs.Invariant.{Once, Inv}
 
 -- of the places, only open jobs are taken
 only-open : (stat : ℕ → Status) (ks : List ℕ) (j : ℕ) → member j (openAmong stat ks) ≡ true → isOpen (stat j) ≡ true

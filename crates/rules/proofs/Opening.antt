@@ -1,8 +1,7 @@
 -- Begin opens a running job that holds nothing, under the next number; retry makes a sent back job running again, holding nothing (01, The desk's rules; 01, rule 5).
 -- Assumes nothing.
-use Prim.Native.Nat.{ℕ, suc}
+use Prim.Native.Nat.{ℕ}
 use mathlib.Core.Path.{_≡_, refl}
-use mathlib.Core.Logic.{_≢_}
 use mathlib.Core.Bool.{true, false}
 use Rattle.laws.specs.Choice.{not-both}
 use Rattle.terms.specs.declared.letters.Letter.the-variants.{Begin, Retry}
@@ -14,35 +13,14 @@ use Rattle.rules.specs.declared.Answer.the-variants.{Go}
 use Rattle.rules.specs.Desk.{Status, closed, running, waiting, sentback, Desk, Request, isOpen, isLive}
 use Rattle.rules.specs.Rules.{begin, retry, withStatus}
 use Rattle.rules.specs.Step.{step, Started}
+use Rattle.rules.specs.Effects.{Away, Begins, Retries}
 use Rattle.rules.proofs.Kept.{started-inv}
-use Rattle.rules.proofs.Invariant.{Inv}
+use Rattle.rules.specs.Invariant.{Inv}
 use Rattle.rules.proofs.Tests.{at-same, at-other}
 use Rattle.rules.proofs.Places.{seated-others, seated-there}
 use Rattle.rules.proofs.KeptBegin.{next-not-open}
-use Rattle.rules.proofs.Away.{Away, not-live-away}
+use Rattle.rules.proofs.Away.{not-live-away}
 use Rattle.rules.proofs.Courses.{begin-went, retry-went}
-
--- from desk d to desk e job j was begun: it has the number that was next, was closed before, runs, has a place, and has no part in any cell; every other job and every cell is as before
-pub record Begins (d e : Desk) (j : ℕ) : Type 0 where
-  pub number : j ≡ d .next
-  pub next : e .next ≡ suc (d .next)
-  pub new : d .stat j ≡ closed
-  pub status : e .stat j ≡ running
-  pub away : Away e j
-  pub place : member j (e .jobs) ≡ true
-  pub statuses : (i : ℕ) → i ≢ j → e .stat i ≡ d .stat i
-  pub places : (i : ℕ) → i ≢ j → i ≢ 0 → member i (e .jobs) ≡ member i (d .jobs)
-  pub rows : e .row ≡ d .row
-
--- from desk d to desk e job j was retried: it was sent back and runs again with no part in any cell; its number and its place, every other job and every cell are as before
-pub record Retries (d e : Desk) (j : ℕ) : Type 0 where
-  pub was : d .stat j ≡ sentback
-  pub status : e .stat j ≡ running
-  pub away : Away e j
-  pub statuses : (i : ℕ) → i ≢ j → e .stat i ≡ d .stat i
-  pub places : e .jobs ≡ d .jobs
-  pub next : e .next ≡ d .next
-  pub rows : e .row ≡ d .row
 
 -- who is not open is closed
 not-open-closed : (s : Status) → isOpen s ≡ false → s ≡ closed

@@ -12,7 +12,7 @@ use Rattle.laws.specs.Lists.{same, member}
 use Rattle.laws.proofs.Lists.{member-first, member-later, member-more}
 use Rattle.laws.proofs.Parts.{nor-first, nor-second}
 use Rattle.rules.specs.Desk.{seated, vacated}
-use Rattle.rules.proofs.Invariant.{Once}
+use Rattle.rules.specs.Invariant.{Once}
 
 -- another job has a place where it had one: one place fewer or more in front of it makes no difference
 member-past : (k : ℕ) (ks ls : List ℕ) (i : ℕ) → member i ks ≡ member i ls → member i (k ∷ ks) ≡ member i (k ∷ ls)

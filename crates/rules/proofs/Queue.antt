@@ -9,9 +9,9 @@ use native.Mathlib.Omega.{arith}
 use borrow.Author.Tests.{eqb-true, eqb-false, ne-eqb}
 use Rattle.laws.specs.Choice.{by-test}
 use Rattle.laws.specs.Lists.{same}
-use Rattle.rules.specs.Desk.{Waiter}
+use Rattle.rules.specs.Desk.{Waiter, In, first, later}
 use Rattle.rules.specs.Locks.{without}
-use Rattle.rules.proofs.Invariant.{In, first, later, Falling}
+use Rattle.rules.specs.Invariant.{Falling}
 
 -- nobody stands in an empty queue
 pub in-none : {P A : Type 0} {w : A} → In w [] → P

@@ -2,32 +2,19 @@
 -- Assumes nothing.
 use Prim.Native.Nat.{ℕ}
 use mathlib.Core.Path.{_≡_, refl, sym, ap}
-use mathlib.Core.Logic.{_≢_}
 use mathlib.Core.List.{List}
 use Rattle.terms.specs.declared.letters.Ask.{Ask}
-use Rattle.conflict.specs.Modes.{isFree}
 use Rattle.rules.specs.declared.Answer.the-variants.{Wait}
 use Rattle.rules.specs.Desk.{waiting, Waiter, Row, Desk, Request}
 use Rattle.rules.specs.Rules.{withRow, withStatus, queued}
 use Rattle.rules.specs.Step.{step}
-use Rattle.rules.proofs.Moved.{Asking}
+use Rattle.rules.specs.Asked.{Asking}
+use Rattle.rules.specs.Effects.{StartsToWait}
 use Rattle.rules.proofs.Tests.{at-same, at-other, at-each}
-use Rattle.rules.proofs.Courses.{Joined, Joins, Waited, ask-waited}
-
--- from desk d to desk e request r made its job j wait with ask a: its status says so, it stands in the queue as the rules say, everybody holds what they held, and all else is as before
-pub record Waits (d e : Desk) (r : Request) (a : Ask) (j : ℕ) : Type 0 where
-  pub job : j ≡ r .job
-  pub asking : Asking d r a
-  pub status : e .stat j ≡ waiting (r .cell) a
-  pub queue : Joined (isFree (d .row (r .cell) .held j)) (record { job = j; ask = a }) (d .row (r .cell) .queue) (e .row (r .cell) .queue)
-  pub holds : (c i : ℕ) → e .row c .held i ≡ d .row c .held i
-  pub elsewhere : (c : ℕ) → c ≢ r .cell → e .row c ≡ d .row c
-  pub statuses : (i : ℕ) → i ≢ j → e .stat i ≡ d .stat i
-  pub places : e .jobs ≡ d .jobs
-  pub next : e .next ≡ d .next
+use Rattle.rules.proofs.Courses.{Joins, Waited, ask-waited}
 
 -- waiting in a queue that joins the job as the rules say
-queued-waits : (d : Desk) (r : Request) (a : Ask) (q : List Waiter) → Asking d r a → Joins d r a q → Waits d (queued d (r .job) (r .cell) a q .desk) r a (r .job)
+queued-waits : (d : Desk) (r : Request) (a : Ask) (q : List Waiter) → Asking d r a → Joins d r a q → StartsToWait d (queued d (r .job) (r .cell) a q .desk) r a (r .job)
 unfolding queued withStatus withRow
 queued-waits d r a q k h =
     let row : Row = record { held = d .row (r .cell) .held; queue = q } in
@@ -44,8 +31,8 @@ queued-waits d r a q k h =
     }
 
 -- a step that answers wait makes the job wait
-pub waits : (d : Desk) (r : Request) (j : ℕ) → step d r .said ≡ Wait j → (a : Ask) × Waits d (step d r .desk) r a j
+pub waits : (d : Desk) (r : Request) (j : ℕ) → step d r .said ≡ Wait j → (a : Ask) × StartsToWait d (step d r .desk) r a j
 waits d r j g = told (ask-waited d r j g)
   where
-    told : Waited d r j → (a : Ask) × Waits d (step d r .desk) r a j
+    told : Waited d r j → (a : Ask) × StartsToWait d (step d r .desk) r a j
     told w = (w .ask, rw (w .job, w .outcome) (queued-waits d r (w .ask) (w .queue) (w .asking) (w .joins)))

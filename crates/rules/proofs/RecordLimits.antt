@@ -11,18 +11,18 @@ use Rattle.conflict.specs.History.{History, lineOf}
 use Rattle.laws.proofs.Parts.{or-either}
 use Rattle.conflict.proofs.OneEvent.{line-none}
 use Rattle.conflict.proofs.Appended.{line-append}
-use Rattle.rules.specs.Desk.{Desk, Request}
+use Rattle.rules.specs.Desk.{Desk, Request, In}
 use Rattle.rules.specs.Rules.{Outcome, wake, rowsAfter}
 use Rattle.rules.specs.Step.{events, Started, fresh, after}
-use Rattle.rules.specs.Histories.{Has}
-use Rattle.rules.proofs.Invariant.{Inv}
+use Rattle.rules.specs.Invariant.{Inv}
 use Rattle.rules.proofs.Kept.{started-inv}
 use Rattle.rules.proofs.RunEnd.{row-releases}
 use Rattle.rules.proofs.Written.{asking, Wrote, nothing, action, mark, step-wrote}
-use Rattle.rules.proofs.WakeRecords.{has-none, has-split, has-either, WakeOf, record-of}
+use Rattle.rules.proofs.WakeRecords.{WakeOf, record-of}
 use Rattle.rules.proofs.NoEventAfterEnd.{line-open}
 use Rattle.rules.proofs.NumberLimits.{open-within}
 use Rattle.rules.proofs.UnderLock.{same-action, no-mark}
+use Rattle.rules.proofs.Queue.{in-none, in-split, in-either}
 
 -- in every history that the desk writes, a job's number is from 1 to 4,294,967,295
 pub recorded-jobs : {d : Desk} {h : History} → Started d h → (j : ℕ) → lineOf j h ≡ true → (1 ≤ j) × (j ≤ lastNumber)
@@ -40,14 +40,14 @@ module _ {d : Desk} (v : Inv d) (r : Request) where
       subst (λ y. y .cell < cells) (sym (k .is)) (v .rows (k .cell) .within w (row-releases v (r .job) (k .cell) .woken-was w (k .granted)))
 
   -- an action that a step writes is on the cell that was asked for, or on that of a wake
-  wrote-cell : {o : Outcome} {g : History} → Wrote d r o g → (x : Action) → Has (Does x) g → x .cell < cells
+  wrote-cell : {o : Outcome} {g : History} → Wrote d r o g → (x : Action) → In (Does x) g → x .cell < cells
   unfolding asking
-  wrote-cell (nothing w) x h = has-none h
-  wrote-cell (action a k w c) x h = has-split h (λ e. subst (λ y. y .cell < cells) (sym (same-action e)) (k .within)) has-none
-  wrote-cell (mark m s js said o l) x h = has-split h no-mark (λ k. woken-cell x (record-of (rowsAfter d (r .job)) x cells k))
+  wrote-cell (nothing w) x h = in-none h
+  wrote-cell (action a k w c) x h = in-split h (λ e. subst (λ y. y .cell < cells) (sym (same-action e)) (k .within)) in-none
+  wrote-cell (mark m s js said o l) x h = in-split h no-mark (λ k. woken-cell x (record-of (rowsAfter d (r .job)) x cells k))
 
 -- in every history that the desk writes, an action's cell is below 64
-pub recorded-cells : {d : Desk} {h : History} → Started d h → (x : Action) → Has (Does x) h → x .cell < cells
-recorded-cells (fresh n _ _) x k = has-none k
+pub recorded-cells : {d : Desk} {h : History} → Started d h → (x : Action) → In (Does x) h → x .cell < cells
+recorded-cells (fresh n _ _) x k = in-none k
 recorded-cells (after {d = d} {h = h} s r) x k =
-    has-either h (events d r) k (λ t. recorded-cells s x t) (wrote-cell (started-inv s) r (step-wrote d r (started-inv s)) x)
+    in-either h (events d r) k (λ t. recorded-cells s x t) (wrote-cell (started-inv s) r (step-wrote d r (started-inv s)) x)

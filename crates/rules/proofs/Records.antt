@@ -10,7 +10,6 @@ use Rattle.terms.specs.declared.letters.Lettered.{Lettered}
 use Rattle.terms.specs.declared.letters.Lettered.the-variants.{Known, Unknown}
 use Rattle.terms.specs.Letters.{letterOf}
 use Rattle.conflict.specs.declared.action.Action.{Action}
-use Rattle.conflict.specs.declared.action.Mark.{Mark}
 use Rattle.conflict.specs.declared.action.Mark.the-variants.{Commit, GiveUp, Back}
 use Rattle.conflict.specs.declared.action.Event.the-variants.{Does, Ends}
 use Rattle.conflict.specs.Modes.{recorded}
@@ -20,7 +19,7 @@ use Rattle.rules.specs.declared.Answer.the-variants.{Go, Wait, Back as s
 use Rattle.rules.specs.Desk.{Desk, Request}
 use Rattle.rules.specs.Rules.{grant, queued, rule1, retry, begin}
 use Rattle.rules.specs.Step.{step, wentBy, ownRecords, wakeRecords, recordsOf, events}
-use Rattle.rules.specs.Runs.{onlyActions}
+use Rattle.rules.specs.Histories.{onlyActions, MarkFirst, no-mark, mark}
 use Rattle.rules.proofs.Courses.{AskWent, had, got, begin-went, retry-went, ask-went, ask-waited}
 
 -- the records of a step are its own and then those of its wakes
@@ -74,11 +73,6 @@ module _ (d : Desk) (r : Request) where
   unfolding events wakeRecords queued
   wait-records j g =
       records r (step d r .said) (step d r .wakes) [] (unfold ownRecords in ap (ownRecords r) g) ∙ ap (λ o. wakeRecords (o .wakes)) (ask-waited d r j g .outcome)
-
--- a history without a mark, or with one mark and that first
-pub data MarkFirst : History → Type 0 where
-  no-mark : {h : History} → onlyActions h ≡ true → MarkFirst h
-  mark : (m : Mark) (j : ℕ) {h : History} → onlyActions h ≡ true → MarkFirst (Ends m j ∷ h)
 
 -- the records of wakes are actions alone
 wakes-actions : (wakes : List Action) → onlyActions (wakeRecords wakes) ≡ true

@@ -4,7 +4,7 @@ use Prim.Native.Nat.{ℕ, _<_}
 use mathlib.Core.Path.{_≡_, refl, sym, ap, subst, _∙_, fun-ext}
 use mathlib.Core.Logic.{_≢_}
 use mathlib.Core.Bool.{true, false}
-use mathlib.Core.List.{List, [], _++_}
+use mathlib.Core.List.{List, []}
 use native.Mathlib.Omega.{arith}
 use Rattle.laws.specs.Choice.{not-both}
 use Rattle.conflict.specs.declared.modes.Mode.{Mode}
@@ -13,39 +13,13 @@ use Rattle.conflict.specs.Modes.{needed, covers, beside, isFree}
 use Rattle.laws.specs.Lists.{member}
 use Rattle.conflict.proofs.ModeLaws.{free-beside, beside-free, is-free}
 use Rattle.conflict.proofs.MoreModeLaws.{free-is-free}
-use Rattle.rules.specs.Desk.{Waiter, Row, at}
-use Rattle.rules.specs.Locks.{wants, without, Settled, settle, released}
-use Rattle.rules.proofs.Invariant.{In, Falling, FirstBlocked}
+use Rattle.rules.specs.Desk.{Waiter, Row, at, In}
+use Rattle.rules.specs.Locks.{without, Settled, settle, released}
+use Rattle.rules.specs.Releasing.{Seated, Releases}
+use Rattle.rules.specs.Invariant.{Falling, FirstBlocked}
 use Rattle.rules.proofs.Queue.{in-left, in-right, in-either, falling-across, without-in, without-other, in-without, without-falling, without-none, by-place}
-use Rattle.rules.proofs.Tests.{at-same, at-other, at-each, Seated}
+use Rattle.rules.proofs.Tests.{at-same, at-other, at-each}
 use Rattle.rules.proofs.Settle.{Ready, Settles, settle-settles, settle-stays, wants-same, wants-covers}
-
--- a row after job j's run has ended
-pub record Releases (js : List ℕ) (j : ℕ) (r : Row) (s : Settled) : Type 0 where
-  -- the job holds nothing
-  pub dropped : s .row .held j ≡ Free
-  -- what is woken stands ahead of what is left, without the job's place
-  pub parted : without j (r .queue) ≡ s .woken ++ s .row .queue
-  -- another job that is not woken holds what it held
-  pub kept : (i : ℕ) → i ≢ j → ((w : Waiter) → In w (s .woken) → w .job ≢ i) → s .row .held i ≡ r .held i
-  -- a woken job holds what it wanted
-  pub takes : (w : Waiter) → In w (s .woken) → s .row .held (w .job) ≡ wants (r .held) w
-  -- the others' locks only grow
-  pub grown : (i : ℕ) → i ≢ j → covers (s .row .held i) (r .held i) ≡ true
-  -- who is woken is another job, and waited
-  pub woken-was : (w : Waiter) → In w (s .woken) → In w (r .queue)
-  pub woken-other : (w : Waiter) → In w (s .woken) → w .job ≢ j
-  -- so did who is left
-  pub left-was : (w : Waiter) → In w (s .row .queue) → In w (r .queue)
-  pub left-other : (w : Waiter) → In w (s .row .queue) → w .job ≢ j
-  -- who is left is older than who is woken
-  pub across : (v w : Waiter) → In v (s .woken) → In w (s .row .queue) → w .job < v .job
-  -- holders are listed, beside each other and younger than the waiters left, the queue falls, and whoever is first in it is blocked
-  pub seats : Seated js (s .row .held)
-  pub pairs : (i k : ℕ) → i ≢ k → beside (s .row .held i) (s .row .held k) ≡ true
-  pub elder : (w : Waiter) (i : ℕ) → In w (s .row .queue) → i ≢ w .job → isFree (s .row .held i) ≡ false → w .job < i
-  pub down : Falling (s .row .queue)
-  pub blocked : FirstBlocked (s .row .held) (s .row .queue)
 
 module _ (js : List ℕ) (j : ℕ) (held : ℕ → Mode) (q : List Waiter) where
   -- a job that drops its lock and its place leaves a row that can be settled

@@ -10,12 +10,13 @@ use Rattle.laws.specs.Choice.{by-test}
 use Rattle.terms.specs.declared.letters.Ask.{Ask}
 use Rattle.terms.specs.Limits.{cells}
 use Rattle.conflict.specs.declared.action.Action.{Action}
-use Rattle.rules.specs.Desk.{Status, running, waiting, Waiter, Desk, at}
+use Rattle.rules.specs.Desk.{Status, running, waiting, Waiter, Desk, at, In}
 use Rattle.rules.specs.Rules.{isWoken, wakesOf, wakened, rowsAfter}
-use Rattle.rules.proofs.Invariant.{In, Inv}
+use Rattle.rules.specs.Releasing.{Releases}
+use Rattle.rules.specs.Invariant.{Inv}
 use Rattle.rules.proofs.Statuses.{live-open, waiting-open, one-cell}
 use Rattle.rules.proofs.Settle.{Ready}
-use Rattle.rules.proofs.Release.{Releases, released-releases}
+use Rattle.rules.proofs.Release.{released-releases}
 use Rattle.rules.proofs.Tests.{at-same, at-other, at-each}
 use Rattle.rules.proofs.Wakes.{WokenAt, woken-at, at-woken, woken-runs, others-stay, wakened-each}
 

@@ -12,9 +12,10 @@ use Rattle.rules.specs.declared.Answer.the-variants.{Go, Back}
 use Rattle.rules.specs.Desk.{Status, closed, running, waiting, sentback, Desk, Request, isLive, at, vacated}
 use Rattle.rules.specs.Rules.{Outcome, refused, withRow, withStatus, rule4}
 use Rattle.rules.specs.Step.{step}
-use Rattle.rules.proofs.Moved.{Elder, holder, waiter, Moved, refuses, begins, commits, gives-up, retries, has-it, promotes, waits-in-front, enters, waits-last, goes-back}
+use Rattle.rules.specs.Asked.{Elder, holder, waiter}
+use Rattle.rules.specs.Moves.{Moved, refuses, begins, commits, gives-up, retries, has-it, promotes, waits-in-front, enters, waits-last, goes-back}
 use Rattle.rules.proofs.Courses.{ask-back}
-use Rattle.rules.proofs.Invariant.{Inv}
+use Rattle.rules.specs.Invariant.{Inv}
 use Rattle.rules.proofs.Statuses.{waiting-live, running-live, running-not-waiting}
 use Rattle.rules.proofs.Tests.{at-each, not-older-holders, not-older-waiters}
 use Rattle.rules.proofs.RunEnd.{after-each}

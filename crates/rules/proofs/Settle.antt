@@ -11,11 +11,12 @@ use Rattle.conflict.specs.declared.modes.Mode.{Mode}
 use Rattle.conflict.specs.Modes.{needed, covers, beside, grants, asked, isFree}
 use Rattle.laws.specs.Lists.{member}
 use Rattle.conflict.proofs.ModeLaws.{beside-sym, grants-beside, covers-refl, covers-trans, asked-grows, asked-covers}
-use Rattle.rules.specs.Desk.{Waiter, at}
+use Rattle.rules.specs.Desk.{Waiter, at, In, first, later}
 use Rattle.rules.specs.Locks.{agrees, wants, woke, Settled, settle}
-use Rattle.rules.proofs.Invariant.{In, first, later, Falling, FirstBlocked}
+use Rattle.rules.specs.Releasing.{Seated}
+use Rattle.rules.specs.Invariant.{Falling, FirstBlocked}
 use Rattle.rules.proofs.Queue.{in-none, in-split, in-left}
-use Rattle.rules.proofs.Tests.{at-same, at-other, at-each, Seated, agrees-each, agrees-not, not-agrees}
+use Rattle.rules.proofs.Tests.{at-same, at-other, at-each, agrees-each, agrees-not, not-agrees}
 
 -- a row that can be settled: who holds and who waits is listed, and it is as every row is but for the blocker
 pub record Ready (js : List ℕ) (held : ℕ → Mode) (q : List Waiter) : Type 0 where

@@ -9,7 +9,7 @@ use Rattle.terms.specs.declared.letters.Ask.{Ask}
 use Rattle.conflict.specs.History.{History}
 use Rattle.rules.specs.Desk.{Status, closed, running, waiting, sentback, Waiter, Desk, isLive}
 use Rattle.rules.specs.Step.{Started}
-use Rattle.rules.proofs.Invariant.{Inv}
+use Rattle.rules.specs.Invariant.{Inv}
 use Rattle.rules.proofs.Kept.{started-inv}
 use Rattle.rules.proofs.Statuses.{waiting-open}
 use Rattle.rules.proofs.InTheWay.{way-some, way-younger, way-live}

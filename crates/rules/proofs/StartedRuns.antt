@@ -1,22 +1,11 @@
 -- The started desks are those after any requests from a fresh desk, with the history that these write (01, How much a contract says).
 -- Assumes nothing.
-use Prim.Native.Nat.{ℕ, _<_, _≤_}
 use mathlib.Core.Path.{_≡_, refl, sym, ap, ap₂, _∙_, subst, subst₂}
 use mathlib.Core.List.{List, [], _∷_, _++_, append-nil, append-assoc}
-use Rattle.terms.specs.Limits.{lastNumber}
 use Rattle.conflict.specs.History.{History}
 use Rattle.rules.specs.Desk.{Desk, Request, freshDesk}
 use Rattle.rules.specs.Step.{Started, fresh, after as one-more, step, events}
-use Rattle.rules.specs.Runs.{deskAfter, historyOf}
-
--- a desk and a history that requests from a fresh desk lead to
-pub record Reached (d : Desk) (h : History) : Type 0 where
-  pub first : ℕ
-  pub least : 0 < first
-  pub most : first ≤ lastNumber
-  pub requests : List Request
-  pub desk : d ≡ deskAfter (freshDesk first) requests
-  pub history : h ≡ historyOf (freshDesk first) requests
+use Rattle.rules.specs.Runs.{deskAfter, historyOf, Reached}
 
 -- after any requests a started desk is a started one, and has written what they write
 pub run-started : {d : Desk} {h : History} → Started d h → (rs : List Request) → Started (deskAfter d rs) (h ++ historyOf d rs)

@@ -15,9 +15,9 @@ use Rattle.laws.specs.Lists.{same, member}
 use Rattle.laws.proofs.Lists.{member-first, member-more}
 use Rattle.conflict.proofs.ModeLaws.{is-free, grants-free}
 use Rattle.laws.proofs.Parts.{and-first, and-second, or-either, nor-first, nor-second}
-use Rattle.rules.specs.Desk.{Waiter, at}
+use Rattle.rules.specs.Desk.{Waiter, at, In, first, later}
 use Rattle.rules.specs.Locks.{every, everyWaiter, isEmpty, agrees, alone, olderThanHolders, olderThanWaiters}
-use Rattle.rules.proofs.Invariant.{In, first, later}
+use Rattle.rules.specs.Releasing.{Seated}
 use Rattle.rules.proofs.Queue.{in-none, in-split}
 
 -- a function changed at one number, where it is changed
@@ -104,10 +104,6 @@ pub each-older-waiters : (q : List Waiter) (j : ℕ) → ((w : Waiter) → In w 
 each-older-waiters q j h =
     by-test (olderThanWaiters q j) (λ t. t)
     (λ n. let (w, k, l) = not-older-waiters q j n in let g : j < w .job = h w k in absurd (omega arith))
-
--- every holder is among the jobs listed
-abbrev pub Seated : List ℕ → (ℕ → Mode) → Type 0
-Seated js held = (i : ℕ) → isFree (held i) ≡ false → member i js ≡ true
 
 module _ (f : Mode → ℕ → Bool) (js : List ℕ) (held : ℕ → Mode) (j : ℕ) where
   -- a test over all other holders, which nothing held passes, says so of every other job

@@ -15,17 +15,18 @@ use Rattle.conflict.specs.History.{History}
 use Rattle.conflict.specs.Runs.{ended}
 use Rattle.conflict.proofs.ModeLaws.{covers-lets}
 use Rattle.conflict.proofs.StillHeld.{machine-still}
-use Rattle.rules.specs.Desk.{Desk, Request}
+use Rattle.rules.specs.Desk.{Desk, Request, In}
 use Rattle.rules.specs.Rules.{Outcome, wake, rowsAfter, rule4}
 use Rattle.rules.specs.Step.{step, events, Started}
-use Rattle.rules.specs.Histories.{Has, AskedBy, request, waiter, UnderLock}
-use Rattle.rules.proofs.Invariant.{Inv}
+use Rattle.rules.specs.Histories.{AskedBy, request, waiter, UnderLock}
+use Rattle.rules.specs.Invariant.{Inv}
 use Rattle.rules.proofs.Release.{woken-covers}
 use Rattle.rules.proofs.RunEnd.{row-releases}
 use Rattle.rules.proofs.Kept.{started-inv}
 use Rattle.rules.proofs.Written.{asking, Wrote, nothing, action, mark, step-wrote}
 use Rattle.rules.proofs.Machine.{started-machine}
-use Rattle.rules.proofs.WakeRecords.{has-none, has-split, WakeOf, record-of}
+use Rattle.rules.proofs.WakeRecords.{WakeOf, record-of}
+use Rattle.rules.proofs.Queue.{in-none, in-split}
 
 -- an action is one other action only if they are the same
 pub same-action : {x y : Action} → Does x ≡ Does y → x ≡ y
@@ -59,11 +60,11 @@ module _ {d : Desk} (v : Inv d) {r : Request} where
       )
 
   -- every action that a step writes
-  wrote-locked : {o : Outcome} {g : History} → Wrote d r o g → (x : Action) → Has (Does x) g → Locked d r (o .desk) x
+  wrote-locked : {o : Outcome} {g : History} → Wrote d r o g → (x : Action) → In (Does x) g → Locked d r (o .desk) x
   unfolding asking rule4
-  wrote-locked (nothing w) x h = has-none h
+  wrote-locked (nothing w) x h = in-none h
   wrote-locked {o} (action a k w c) x h =
-      has-split h
+      in-split h
       (λ e. subst (Locked d r (o .desk)) (sym (same-action e)) (
         a,
         request (k .letter) refl refl,
@@ -74,12 +75,12 @@ module _ {d : Desk} (v : Inv d) {r : Request} where
           besides = λ i n. w .pairs (r .cell) i (r .job) n;
         },
       ))
-      has-none
+      in-none
   wrote-locked {o} (mark m s js said open′ last′) x h =
-      has-split h no-mark (λ k. woken-locked (o .desk) x (λ c. refl) (record-of (rowsAfter d (r .job)) x cells k))
+      in-split h no-mark (λ k. woken-locked (o .desk) x (λ c. refl) (record-of (rowsAfter d (r .job)) x cells k))
 
 -- every action that a step of a started desk writes, its own or a wake's, is under a lock after that step: its job holds a mode that covers what was asked, and every other job's mode on that cell may stand beside it (01, rules 1 to 4)
-pub under-lock : {d : Desk} {h : History} → Started d h → (r : Request) (x : Action) → Has (Does x) (events d r) → (a : Ask) × AskedBy d r x a × UnderLock (step d r .desk) x a
+pub under-lock : {d : Desk} {h : History} → Started d h → (r : Request) (x : Action) → In (Does x) (events d r) → (a : Ask) × AskedBy d r x a × UnderLock (step d r .desk) x a
 under-lock {d} s r x k = wrote-locked (started-inv s) (step-wrote d r (started-inv s)) x k
 
 -- an action whose run has not ended is still under a mode that lets it: nothing is released before the run ends (01, The desk's rules)

@@ -10,11 +10,11 @@ use Rattle.conflict.specs.declared.modes.Mode.{Mode}
 use Rattle.conflict.specs.Modes.{isFree}
 use Rattle.rules.specs.declared.Answer.{Answer}
 use Rattle.rules.specs.declared.Answer.the-variants.{Go, Back}
-use Rattle.rules.specs.Desk.{Status, closed, running, waiting, sentback, Waiter, Row, Desk, Request, at, vacated}
+use Rattle.rules.specs.Desk.{Status, closed, running, waiting, sentback, Waiter, Row, Desk, Request, at, vacated, In}
 use Rattle.rules.specs.Rules.{Outcome, refused, withRow, withStatus, rule4}
-use Rattle.rules.specs.Waiting.{In, InWay, holds-it, ahead, IsWaiting, GivesUp}
-use Rattle.rules.proofs.Moved.{Moved, refuses, begins, commits, gives-up, retries, has-it, promotes, waits-in-front, enters, waits-last, goes-back}
-use Rattle.rules.proofs.Invariant.{Inv}
+use Rattle.rules.specs.Waiting.{InWay, holds-it, ahead, IsWaiting, GivesUp}
+use Rattle.rules.specs.Moves.{Moved, refuses, begins, commits, gives-up, retries, has-it, promotes, waits-in-front, enters, waits-last, goes-back}
+use Rattle.rules.specs.Invariant.{Inv}
 use Rattle.rules.proofs.Statuses.{waiting-open, running-not-waiting, sentback-not-waiting}
 use Rattle.rules.proofs.Queue.{in-none}
 use Rattle.rules.proofs.Tests.{at-other, at-each, at-all, empty-queue}

@@ -15,13 +15,13 @@ use Rattle.conflict.specs.Runs.{isEnd, ended}
 use Rattle.conflict.proofs.MoreModeLaws.{free-is-free}
 use Rattle.conflict.proofs.OneEvent.{marked-none, marked-does, marked-ends, ended-is}
 use Rattle.rules.specs.declared.Answer.{Answer}
-use Rattle.rules.specs.Desk.{Status, waiting, Waiter, Desk, Request}
+use Rattle.rules.specs.Desk.{Status, waiting, Waiter, Desk, Request, In}
 use Rattle.rules.specs.Locks.{wants}
 use Rattle.rules.specs.Rules.{Outcome, isWoken, rowsAfter, rule4}
 use Rattle.rules.specs.Step.{step, wakeRecords, events}
-use Rattle.rules.specs.Waiting.{In, InWay, holds-it, ahead, IsWaiting, GivesUp, Granted}
+use Rattle.rules.specs.Waiting.{InWay, holds-it, ahead, IsWaiting, GivesUp, Granted}
 use Rattle.rules.proofs.Moved.{step-moved}
-use Rattle.rules.proofs.Invariant.{Inv}
+use Rattle.rules.specs.Invariant.{Inv}
 use Rattle.rules.proofs.Kept.{step-inv}
 use Rattle.rules.proofs.Statuses.{one-cell, one-ask}
 use Rattle.rules.proofs.Settle.{wants-covers}

@@ -8,10 +8,10 @@ use borrow.Author.Tests.{eqb-true, eqb-false}
 use lib.Dec.{eqb}
 use Rattle.laws.specs.Choice.{by-test}
 use Rattle.conflict.specs.declared.action.Action.{Action}
-use Rattle.rules.specs.Desk.{Waiter}
+use Rattle.rules.specs.Desk.{Waiter, In, first, later}
 use Rattle.rules.specs.Locks.{Settled}
 use Rattle.rules.specs.Rules.{wake, wakesAt, wakesOf}
-use Rattle.rules.specs.Waiting.{In, first, later, Ahead, in-front}
+use Rattle.rules.specs.Waiting.{Ahead, in-front}
 use Rattle.rules.specs.Waiting as waiting
 use Rattle.rules.specs.WakeOrder.{Before, next, further}
 use Rattle.rules.proofs.Queue.{in-none, in-split, is-first, in-left, in-right, in-either}

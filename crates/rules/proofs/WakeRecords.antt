@@ -5,32 +5,15 @@ use mathlib.Core.Path.{_≡_, refl, ap, subst, _∙_}
 use mathlib.Core.Bool.{_||_}
 use mathlib.Core.List.{List, [], _∷_, _++_}
 use Rattle.conflict.specs.declared.action.Action.{Action}
-use Rattle.conflict.specs.declared.action.Event.{Event}
 use Rattle.conflict.specs.declared.action.Event.the-variants.{Does}
 use Rattle.laws.specs.Lists.{same}
-use Rattle.conflict.specs.History.{History, lineOf}
+use Rattle.conflict.specs.History.{lineOf}
 use Rattle.conflict.proofs.OneEvent.{line-none, line-does}
-use Rattle.rules.specs.Desk.{Waiter}
+use Rattle.rules.specs.Desk.{Waiter, In, first, later}
 use Rattle.rules.specs.Locks.{Settled}
 use Rattle.rules.specs.Rules.{wake, wakesAt, wakesOf, isWoken}
 use Rattle.rules.specs.Step.{wakeRecords}
-use Rattle.rules.specs.Histories.{Has, now, then}
-use Rattle.rules.proofs.Invariant.{In, first, later}
-
--- nothing stands in an empty history
-pub has-none : {P : Type 0} {e : Event} → Has e [] → P
-has-none = elim [ ]
-
--- an event of a history is its first or stands in the rest
-pub has-split : {P : Type 0} {e x : Event} {h : History} → Has e (x ∷ h) → (e ≡ x → P) → (Has e h → P) → P
-has-split now f g = f refl
-has-split (then k) f g = g k
-
--- an event of two histories put together stands in one of them
-pub has-either : {P : Type 0} {e : Event} (h g : History) → Has e (h ++ g) → (Has e h → P) → (Has e g → P) → P
-has-either [] g k f l = l k
-has-either {e = e} (x ∷ h) g k f l =
-    has-split k (λ p. f (subst (λ y. Has e (y ∷ h)) p now)) (λ m. has-either h g m (λ n. f (then n)) l)
+use Rattle.rules.proofs.Queue.{in-none, in-split, in-either}
 
 -- the records of two lists of wakes
 records-append : (xs ys : List Action) → wakeRecords (xs ++ ys) ≡ wakeRecords xs ++ wakeRecords ys
@@ -46,19 +29,19 @@ pub record WakeOf (s : ℕ → Settled) (a : Action) : Type 0 where
   pub is : a ≡ wake cell waiter
 
 -- each record of a cell's wakes is of a waiter granted there
-record-at : (s : ℕ → Settled) (a : Action) (c : ℕ) (q : List Waiter) → ((w : Waiter) → In w q → In w (s c .woken)) → Has (Does a) (wakeRecords (wakesAt c q)) → WakeOf s a
+record-at : (s : ℕ → Settled) (a : Action) (c : ℕ) (q : List Waiter) → ((w : Waiter) → In w q → In w (s c .woken)) → In (Does a) (wakeRecords (wakesAt c q)) → WakeOf s a
 unfolding wakeRecords wakesAt
-record-at s a c [] f h = has-none h
+record-at s a c [] f h = in-none h
 record-at s a c (w ∷ q) f h =
-    has-split h (λ e. record { cell = c; waiter = w; granted = f w first; is = cc }) (λ k. record-at s a c q (λ v m. f v (later m)) k)
+    in-split h (λ e. record { cell = c; waiter = w; granted = f w first; is = cc }) (λ k. record-at s a c q (λ v m. f v (later m)) k)
 
 -- each record of the wakes of cells that are searched is of a waiter granted at one of them
-pub record-of : (s : ℕ → Settled) (a : Action) (n : ℕ) → Has (Does a) (wakeRecords (wakesOf s n)) → WakeOf s a
+pub record-of : (s : ℕ → Settled) (a : Action) (n : ℕ) → In (Does a) (wakeRecords (wakesOf s n)) → WakeOf s a
 unfolding wakesOf wakeRecords
-record-of s a zero h = has-none h
+record-of s a zero h = in-none h
 record-of s a (suc c) h =
-    has-either (wakeRecords (wakesOf s c)) (wakeRecords (wakesAt c (s c .woken)))
-    (subst (Has (Does a)) (records-append (wakesOf s c) (wakesAt c (s c .woken))) h)
+    in-either (wakeRecords (wakesOf s c)) (wakeRecords (wakesAt c (s c .woken)))
+    (subst (In (Does a)) (records-append (wakesOf s c) (wakesAt c (s c .woken))) h)
     (record-of s a c) (record-at s a c (s c .woken) (λ w m. m))
 
 -- a line of a job stands among the records exactly if the job is among the wakes

@@ -10,10 +10,9 @@ use Rattle.conflict.specs.declared.action.Action.{Action}
 use Rattle.laws.specs.Lists.{same}
 use Rattle.laws.proofs.Lists.{same-refl}
 use Rattle.laws.proofs.Parts.{or-either, or-second}
-use Rattle.rules.specs.Desk.{Status, running, Waiter}
+use Rattle.rules.specs.Desk.{Status, running, Waiter, In, first, later}
 use Rattle.rules.specs.Locks.{Settled}
 use Rattle.rules.specs.Rules.{wake, wakesOf, isWoken, wakened}
-use Rattle.rules.proofs.Invariant.{In, first, later}
 use Rattle.rules.proofs.WakeOrder.{search-order}
 
 -- a job is granted at one of the first n cells: where, and as which waiter

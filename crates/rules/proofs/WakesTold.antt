@@ -1,52 +1,34 @@
 -- The wakes of a step exactly: told cell by cell and from the front of each queue, and each left with the very mode that it waited for (01, rule 4).
 -- Assumes nothing.
 use Prim.Native.Nat.{ℕ}
-use mathlib.Core.Path.{_≡_, sym, ap, subst}
+use mathlib.Core.Path.{_≡_, sym, subst}
 use mathlib.Core.Logic.{_⊎_, inl, inr}
-use mathlib.Core.Bool.{true, false}
 use mathlib.Core.List.{[]}
 use Rattle.terms.specs.declared.letters.Ask.{Ask}
 use Rattle.terms.specs.Limits.{cells}
 use Rattle.conflict.specs.declared.modes.Mode.{Mode}
-use Rattle.conflict.specs.declared.modes.Mode.the-variants.{X}
 use Rattle.conflict.specs.declared.action.Action.{Action}
-use Rattle.conflict.specs.Modes.{needed, isFree}
+use Rattle.conflict.specs.Modes.{needed}
 use Rattle.conflict.specs.History.{History}
 use Rattle.conflict.proofs.ModeLaws.{is-free, asked-free}
 use Rattle.conflict.proofs.ExactNeeds.{promotion-asks}
-use Rattle.rules.specs.Desk.{waiting, Waiter, Desk, Request}
+use Rattle.rules.specs.Desk.{waiting, Waiter, Desk, Request, In}
 use Rattle.rules.specs.Locks.{wants}
-use Rattle.rules.specs.Rules.{wake, rowsAfter, rule4, close, sendBack}
+use Rattle.rules.specs.Rules.{wake, rowsAfter}
 use Rattle.rules.specs.Step.{step, Started}
-use Rattle.rules.specs.Waiting.{In, Ahead}
+use Rattle.rules.specs.Waiting.{Ahead}
 use Rattle.rules.specs.WakeOrder.{Before, Sooner, smaller-cell, stood-ahead}
-use Rattle.rules.proofs.Invariant.{Falling, Inv}
+use Rattle.rules.specs.Effects.{RunEnds, WokenWith}
+use Rattle.rules.specs.Invariant.{Falling, Inv}
 use Rattle.rules.proofs.Kept.{started-inv}
 use Rattle.rules.proofs.Queue.{in-none, falling-left, without-falling}
 use Rattle.rules.proofs.Statuses.{one-ask}
 use Rattle.rules.proofs.AheadLaws.{ahead-in, ahead-of, ahead-younger, younger-ahead}
-use Rattle.rules.proofs.RunEnd.{wakesAfter, row-releases}
-use Rattle.rules.proofs.Courses.{commit-went, give-up-went, ask-back}
-use Rattle.rules.proofs.Waking.{RunEnds, by-commit, by-give-up, by-back, wakes-only-rule-4}
+use Rattle.rules.proofs.RunEnd.{row-releases}
+use Rattle.rules.proofs.Waking.{wakes-only-rule-4}
 use Rattle.rules.proofs.WakeOrder.{Searched, granted-ahead, before-none, search-order}
 use Rattle.rules.proofs.WakeOrder as searching
-
--- a step that ends a run leaves the cells and tells the wakes of rule 4
-record Ran (d : Desk) (r : Request) : Type 0 where
-  wakes : step d r .wakes ≡ wakesAfter d (r .job)
-  row : (c : ℕ) → step d r .desk .row c ≡ rowsAfter d (r .job) c .row
-
--- and every commit, give-up and sending back is such a step
-ran : (d : Desk) (r : Request) → RunEnds d r → Ran d r
-unfolding close sendBack rule4
-ran d r (by-commit l g) = let e = commit-went d r (r .job) l g .outcome in record { wakes = ap (λ o. o .wakes) e; row = λ c. ap (λ o. o .desk .row c) e }
-ran d r (by-give-up l g) = let e = give-up-went d r (r .job) l g .outcome in record { wakes = ap (λ o. o .wakes) e; row = λ c. ap (λ o. o .desk .row c) e }
-ran d r (by-back g) = let e = ask-back d r (r .job) g .outcome in record { wakes = ap (λ o. o .wakes) e; row = λ c. ap (λ o. o .desk .row c) e }
-
--- what a wake leaves a job with that waited with a: X if it held the cell, and what it needs if it did not (01, rules 2 to 4)
-pub record WokenWith (before after : Mode) (a : Ask) : Type 0 where
-  pub promoted : isFree before ≡ false → after ≡ X
-  pub entered : isFree before ≡ true → after ≡ needed a
+use Rattle.rules.proofs.RunEnded.{Ran, ran}
 
 module _ {d : Desk} (v : Inv d) (j c : ℕ) where
   -- who was granted ahead of another stood ahead of it

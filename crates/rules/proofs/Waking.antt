@@ -2,51 +2,26 @@
 -- Assumes nothing.
 use Prim.Native.Nat.{ℕ, _<_}
 use mathlib.Core.Path.{_≡_, refl, sym, ap, _∙_, subst}
-use mathlib.Core.Logic.{_≢_, _⊎_, inl, inr}
-use mathlib.Core.Bool.{true}
-use mathlib.Core.List.{List, [], _∷_}
+use mathlib.Core.Logic.{_⊎_, inl, inr}
+use mathlib.Core.List.{List, []}
 use Rattle.laws.specs.Choice.{not-both}
-use Rattle.terms.specs.declared.letters.Ask.{Ask}
-use Rattle.terms.specs.declared.letters.Letter.the-variants.{Commit, GiveUp}
-use Rattle.terms.specs.declared.letters.Lettered.the-variants.{Known}
-use Rattle.terms.specs.Letters.{letterOf}
 use Rattle.terms.specs.Limits.{cells}
 use Rattle.conflict.specs.declared.action.Action.{Action}
-use Rattle.conflict.specs.Modes.{needed, recorded, covers}
 use Rattle.conflict.specs.History.{History}
 use Rattle.rules.specs.declared.Answer.{Answer}
 use Rattle.rules.specs.declared.Answer.the-variants.{Go, Back}
-use Rattle.rules.specs.Desk.{Status, closed, running, sentback, waiting, vacated, Waiter, Desk, Request}
+use Rattle.rules.specs.Desk.{Status, closed, sentback, vacated, Waiter, Desk, Request, In}
 use Rattle.rules.specs.Rules.{Outcome, refused, wake, isWoken, rowsAfter, rule4}
 use Rattle.rules.specs.Step.{step, Started}
+use Rattle.rules.specs.Moves.{Moved, refuses, begins, commits, gives-up, retries, has-it, promotes, waits-in-front, enters, waits-last, goes-back}
 use Rattle.rules.proofs.Kept.{started-inv}
-use Rattle.rules.proofs.Invariant.{In, first, later, Inv}
-use Rattle.rules.proofs.Moved.{Moved, refuses, begins, commits, gives-up, retries, has-it, promotes, waits-in-front, enters, waits-last, goes-back, step-moved}
+use Rattle.rules.specs.Invariant.{Inv}
+use Rattle.rules.specs.Effects.{RunEnds, by-commit, by-give-up, by-back, Woken}
+use Rattle.rules.proofs.Moved.{step-moved}
 use Rattle.rules.proofs.Release.{woken-covers}
 use Rattle.rules.proofs.WakeOrder.{search-order}
 use Rattle.rules.proofs.RunEnd.{wakesAfter, row-releases, granted-woken, left-not-woken, woken-after}
-
--- the step is a commit, a give-up or a sending back of the request's job
-pub data RunEnds (d : Desk) (r : Request) : Type 0 where
-  by-commit : letterOf (r .kind) ≡ Known Commit → step d r .said ≡ Go (r .job) → RunEnds d r
-  by-give-up : letterOf (r .kind) ≡ Known GiveUp → step d r .said ≡ Go (r .job) → RunEnds d r
-  by-back : step d r .said ≡ Back (r .job) → RunEnds d r
-
--- the action is one of the wakes
-pub data Among (a : Action) : List Action → Type 0 where
-  here : {rest : List Action} → Among a (a ∷ rest)
-  further : {b : Action} {rest : List Action} → Among a rest → Among a (b ∷ rest)
-
--- from desk d to desk e the wake a: what was asked, that it waited for that, and what it is and holds now
-pub record Woken (d e : Desk) (a : Action) : Type 0 where
-  pub ask : Ask
-  pub kind : a .kind ≡ recorded ask
-  pub within : a .cell < cells
-  pub waited : d .stat (a .job) ≡ waiting (a .cell) ask
-  pub stood : In (record { job = a .job; ask = ask }) (d .row (a .cell) .queue)
-  pub runs : e .stat (a .job) ≡ running
-  pub holds : covers (e .row (a .cell) .held (a .job)) (needed ask) ≡ true
-  pub gone : (c : ℕ) (w : Waiter) → In w (e .row c .queue) → w .job ≢ a .job
+use Rattle.rules.proofs.Queue.{in-none}
 
 -- nobody is woken but by a commit, a give-up or a sending back
 pub wakes-only-rule-4 : (d : Desk) (r : Request) → (step d r .wakes ≡ []) ⊎ RunEnds d r
@@ -65,15 +40,6 @@ wakes-only-rule-4 d r = by-move (step-moved d r) refl
     by-move (waits-last b k f z w u) h = inl (ap (λ o. o .wakes) h)
     by-move (goes-back b k x) h = inr (by-back (unfold rule4 in ap (λ o. o .said) h))
 
--- nothing is among no wakes
-among-none : {P : Type 0} {a : Action} → Among a [] → P
-among-none = elim [ ]
-
--- what is among the wakes stands in their list
-among-in : {a : Action} {xs : List Action} → Among a xs → In a xs
-among-in here = first
-among-in (further h) = later (among-in h)
-
 module _ {d : Desk} (v : Inv d) (j : ℕ) (s : Status) (js : List ℕ) (said : Answer) where
   -- who is granted at a cell when job j's run ends
   granted-wakes : (c : ℕ) (w : Waiter) → c < cells → In w (rowsAfter d j c .woken) → Woken d (rule4 d j s js said .desk) (wake c w)
@@ -90,24 +56,24 @@ module _ {d : Desk} (v : Inv d) (j : ℕ) (s : Status) (js : List ℕ) (said : A
   }
 
   -- who is among the wakes when job j's run ends
-  rule4-wakes : (a : Action) → Among a (wakesAfter d j) → Woken d (rule4 d j s js said .desk) a
+  rule4-wakes : (a : Action) → In a (wakesAfter d j) → Woken d (rule4 d j s js said .desk) a
   rule4-wakes a h =
-      let g = search-order (rowsAfter d j) cells .granted (among-in h) in
+      let g = search-order (rowsAfter d j) cells .granted h in
       subst (Woken d (rule4 d j s js said .desk)) (sym (g .is)) (granted-wakes (g .cell) (g .waiter) (g .below) (g .granted))
 
 -- each wake was waiting for that cell with that kind before the step, and runs after it with what it asked for
-pub woken : {d : Desk} {h : History} → Started d h → (r : Request) (a : Action) → Among a (step d r .wakes) → Woken d (step d r .desk) a
+pub woken : {d : Desk} {h : History} → Started d h → (r : Request) (a : Action) → In a (step d r .wakes) → Woken d (step d r .desk) a
 woken {d} s r a = by-move (step-moved d r)
   where
-    by-move : {o : Outcome} → Moved d r o → Among a (o .wakes) → Woken d (o .desk) a
-    by-move (refuses why _) h = unfold refused in among-none h
-    by-move (begins l n m) h = among-none h
+    by-move : {o : Outcome} → Moved d r o → In a (o .wakes) → Woken d (o .desk) a
+    by-move (refuses why _) h = unfold refused in in-none h
+    by-move (begins l n m) h = in-none h
     by-move (commits l q) h = rule4-wakes (started-inv s) (r .job) closed (vacated (r .job) (d .jobs)) (Go (r .job)) a (unfold rule4 in h)
     by-move (gives-up l q) h = rule4-wakes (started-inv s) (r .job) closed (vacated (r .job) (d .jobs)) (Go (r .job)) a (unfold rule4 in h)
-    by-move (retries l q) h = among-none h
-    by-move (has-it b k x) h = among-none h
-    by-move (promotes b k x f z) h = among-none h
-    by-move (waits-in-front b k x f z w) h = among-none h
-    by-move (enters b k f z w) h = among-none h
-    by-move (waits-last b k f z w u) h = among-none h
+    by-move (retries l q) h = in-none h
+    by-move (has-it b k x) h = in-none h
+    by-move (promotes b k x f z) h = in-none h
+    by-move (waits-in-front b k x f z w) h = in-none h
+    by-move (enters b k f z w) h = in-none h
+    by-move (waits-last b k f z w u) h = in-none h
     by-move (goes-back b k x) h = rule4-wakes (started-inv s) (r .job) sentback (d .jobs) (Back (r .job)) a (unfold rule4 in h)

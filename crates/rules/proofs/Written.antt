@@ -16,17 +16,18 @@ use Rattle.conflict.specs.declared.action.Mark.the-variants.{Commit, GiveUp, Ba
 use Rattle.conflict.specs.declared.action.Event.the-variants.{Does, Ends}
 use Rattle.conflict.specs.Modes.{needed, recorded, covers, beside, grants, asked, isFree}
 use Rattle.conflict.specs.History.{History}
-use Rattle.conflict.specs.Runs.{isLast}
-use Rattle.conflict.proofs.OneEvent.{back-not-last}
+use Rattle.conflict.proofs.OneEvent.{back-not-last, isLast}
 use Rattle.conflict.proofs.ModeLaws.{covers-refl, asked-covers, asked-grows, asked-free, is-free, grants-free}
 use Rattle.rules.specs.declared.Answer.{Answer}
 use Rattle.rules.specs.declared.Answer.the-variants.{Go, Back as sent-back}
 use Rattle.rules.specs.Desk.{Status, closed, sentback, isOpen, Desk, Request, Waiter, Row, at, vacated}
 use Rattle.rules.specs.Rules.{Outcome, refused, withRow, withStatus, wakesOf, rowsAfter, rule4, grant}
 use Rattle.rules.specs.Step.{step, wentBy, ownRecords, wakeRecords, recordsOf, events}
-use Rattle.rules.proofs.Moved.{Asking, Moved, step-moved}
-use Rattle.rules.proofs.Moved.Moved.{refuses, begins, commits, gives-up, retries, has-it, promotes, waits-in-front, enters, waits-last, goes-back}
-use Rattle.rules.proofs.Invariant.{Inv}
+use Rattle.rules.specs.Asked.{Asking}
+use Rattle.rules.specs.Moves.{Moved}
+use Rattle.rules.specs.Moves.Moved.{refuses, begins, commits, gives-up, retries, has-it, promotes, waits-in-front, enters, waits-last, goes-back}
+use Rattle.rules.proofs.Moved.{step-moved}
+use Rattle.rules.specs.Invariant.{Inv}
 use Rattle.rules.proofs.Statuses.{running-open}
 use Rattle.rules.proofs.Tests.{at-same, at-each, agrees-each, alone-each}
 use Rattle.rules.proofs.Settle.{taking-pairs}

@@ -1,6 +1,6 @@
 -- The paper's desk: jobs by number, what each job is doing, and for each cell who holds it and who waits (01, Jobs and their numbers).
-use Prim.Native.Nat.{ℕ, zero, suc}
-use mathlib.Core.Bool.{Bool, true, false, not, _&&_, _||_}
+use Prim.Native.Nat.{ℕ}
+use mathlib.Core.Bool.{Bool, true, false}
 use mathlib.Core.List.{List, [], _∷_, map}
 use lib.ListN.{replicate}
 use Rattle.laws.specs.Choice.{pick}
@@ -8,7 +8,7 @@ use Rattle.terms.specs.declared.letters.Ask.{Ask}
 use Rattle.terms.specs.Limits.{places}
 use Rattle.conflict.specs.declared.modes.Mode.{Mode}
 use Rattle.conflict.specs.declared.modes.Mode.the-variants.{Free}
-use Rattle.laws.specs.Lists.{same, member}
+use Rattle.laws.specs.Lists.{same}
 
 -- a job is running, waiting for one cell with what it asked, or sent back while it is open, and closed else (01, Jobs and their numbers)
 pub data Status : Type 0 where
@@ -35,6 +35,11 @@ isLive sentback = false
 pub record Waiter : Type 0 where
   pub job : ℕ
   pub ask : Ask
+
+-- it stands in the list: a waiter in a queue, an action among the wakes, an event in a history
+pub data In {A : Type 0} (w : A) : List A → Type 0 where
+  first : {q : List A} → In w (w ∷ q)
+  later : {v : A} {q : List A} → In w q → In w (v ∷ q)
 
 -- a cell: the mode that each job holds, and the queue, its front first
 pub record Row : Type 0 where

@@ -2,22 +2,18 @@
 use Prim.Native.Nat.{ℕ}
 use mathlib.Core.Path.{_≡_}
 use mathlib.Core.Logic.{_≢_}
-use mathlib.Core.Bool.{true}
-use mathlib.Core.List.{_∷_}
+use mathlib.Core.Bool.{Bool, true, false}
+use mathlib.Core.List.{[], _∷_}
 use Rattle.terms.specs.declared.letters.Ask.{Ask}
 use Rattle.terms.specs.declared.letters.Letter.the-variants.{Asks}
 use Rattle.terms.specs.declared.letters.Lettered.the-variants.{Known}
 use Rattle.terms.specs.Letters.{letterOf}
 use Rattle.conflict.specs.declared.action.Action.{Action}
-use Rattle.conflict.specs.declared.action.Event.{Event}
+use Rattle.conflict.specs.declared.action.Mark.{Mark}
+use Rattle.conflict.specs.declared.action.Event.the-variants.{Does, Ends}
 use Rattle.conflict.specs.Modes.{needed, recorded, covers, beside, lets}
 use Rattle.conflict.specs.History.{History}
 use Rattle.rules.specs.Desk.{waiting, Desk, Request}
-
--- the event stands in the history
-pub data Has (e : Event) : History → Type 0 where
-  now : {h : History} → Has e (e ∷ h)
-  then : {x : Event} {h : History} → Has e h → Has e (x ∷ h)
 
 -- what an action that a step writes was asked by: the step's own request, or, for a wake, the request that its job waits with
 pub data AskedBy (d : Desk) (r : Request) (x : Action) (a : Ask) : Type 0 where
@@ -30,3 +26,14 @@ pub record UnderLock (d : Desk) (x : Action) (a : Ask) : Type 0 where
   pub covered : covers (d .row (x .cell) .held (x .job)) (needed a) ≡ true
   pub lawful : lets (d .row (x .cell) .held (x .job)) (x .kind) ≡ true
   pub besides : (i : ℕ) → i ≢ x .job → beside (d .row (x .cell) .held i) (d .row (x .cell) .held (x .job)) ≡ true
+
+-- the history has actions alone, and no mark
+unfoldable pub onlyActions : History → Bool
+onlyActions [] = true
+onlyActions (Does a ∷ h) = onlyActions h
+onlyActions (Ends m j ∷ h) = false
+
+-- a history without a mark, or with one mark and that first
+pub data MarkFirst : History → Type 0 where
+  no-mark : {h : History} → onlyActions h ≡ true → MarkFirst h
+  mark : (m : Mark) (j : ℕ) {h : History} → onlyActions h ≡ true → MarkFirst (Ends m j ∷ h)

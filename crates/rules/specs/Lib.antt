@@ -5,6 +5,11 @@ pub mod Step
 pub mod Table
 pub mod Start
 pub mod Runs
-pub mod Histories
+pub mod Asked
+pub mod Moves
+pub mod Effects
 pub mod Waiting
 pub mod WakeOrder
+pub mod Histories
+pub mod Invariant
+pub mod Releasing

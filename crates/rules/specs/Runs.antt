@@ -1,16 +1,16 @@
 -- Several requests one after another: the desk they leave, the numbers they give and the history they write (01, Jobs and their numbers).
-use Prim.Native.Nat.{ℕ, _<_}
+use Prim.Native.Nat.{ℕ, _<_, _≤_}
 use mathlib.Core.Path.{_≡_}
-use mathlib.Core.Bool.{Bool, true, false}
+use mathlib.Core.Bool.{true}
 use mathlib.Core.List.{List, [], _∷_, _++_}
 use Rattle.laws.specs.Choice.{pick}
 use Rattle.terms.specs.Letters.{letterOf}
-use Rattle.conflict.specs.declared.action.Event.the-variants.{Does, Ends}
+use Rattle.terms.specs.Limits.{lastNumber}
 use Rattle.laws.specs.Lists.{member}
 use Rattle.conflict.specs.History.{History}
 use Rattle.rules.specs.declared.Answer.{Answer}
 use Rattle.rules.specs.declared.Answer.the-variants.{Go, Wait, Back as sent-back, No}
-use Rattle.rules.specs.Desk.{Desk, Request}
+use Rattle.rules.specs.Desk.{Desk, Request, freshDesk}
 use Rattle.rules.specs.Step.{step, events}
 use Rattle.rules.specs.Table.{isBegin, letterIs}
 
@@ -45,8 +45,11 @@ unfoldable pub historyOf : Desk → List Request → History
 historyOf d [] = []
 historyOf d (r ∷ rs) = events d r ++ historyOf (step d r .desk) rs
 
--- the history has actions alone, and no mark
-unfoldable pub onlyActions : History → Bool
-onlyActions [] = true
-onlyActions (Does a ∷ h) = onlyActions h
-onlyActions (Ends m j ∷ h) = false
+-- a desk and a history that requests from a fresh desk lead to
+pub record Reached (d : Desk) (h : History) : Type 0 where
+  pub first : ℕ
+  pub least : 0 < first
+  pub most : first ≤ lastNumber
+  pub requests : List Request
+  pub desk : d ≡ deskAfter (freshDesk first) requests
+  pub history : h ≡ historyOf (freshDesk first) requests

@@ -54,6 +54,15 @@ asksOrCommits Retry = false
 asksOrCommits Back = false
 asksOrCommits (Asks a) = true
 
+-- the four kinds that ask for no cell: begin, commit, give-up and retry; k is no request
+abbrev pub asksNoCell : Letter → Bool
+asksNoCell Begin = true
+asksNoCell Commit = true
+asksNoCell GiveUp = true
+asksNoCell Retry = true
+asksNoCell Back = false
+asksNoCell (Asks a) = false
+
 -- the job is running
 abbrev pub isRunning : Status → Bool
 isRunning closed = false

@@ -1,5 +1,5 @@
 -- Waiting: who is in a waiter's way, chains of waits, what it is to wait on for the same request, and to be served (demand 3).
-use Prim.Native.Nat.{ℕ, _<_, _≤_}
+use Prim.Native.Nat.{ℕ, _<_, _≤_, zero, suc, _+_}
 use mathlib.Core.Path.{_≡_}
 use mathlib.Core.Logic.{_≢_}
 use mathlib.Core.Bool.{true, false}
@@ -9,20 +9,16 @@ use Rattle.terms.specs.declared.letters.Ask.{Ask}
 use Rattle.terms.specs.declared.letters.Letter.the-variants.{GiveUp}
 use Rattle.terms.specs.declared.letters.Lettered.the-variants.{Known}
 use Rattle.terms.specs.Letters.{letterOf}
+use Rattle.terms.specs.Limits.{cells}
 use Rattle.conflict.specs.declared.modes.Mode.{Mode}
 use Rattle.conflict.specs.Modes.{needed, covers, isFree}
 use Rattle.laws.specs.Lists.{member, distinct}
 use Rattle.conflict.specs.Runs.{ended}
-use Rattle.rules.specs.Desk.{running, waiting, Waiter, Row, Desk, Request, isOpen, isLive}
+use Rattle.rules.specs.Desk.{running, waiting, Waiter, Row, Desk, Request, isOpen, isLive, In}
 use Rattle.rules.specs.Locks.{wants}
 use Rattle.rules.specs.Rules.{Outcome, wake}
 use Rattle.rules.specs.Step.{step}
 use Rattle.rules.specs.Runs.{deskAfter, historyOf}
-
--- it stands in the list
-pub data In {A : Type 0} (w : A) : List A → Type 0 where
-  first : {q : List A} → In w (w ∷ q)
-  later : {v : A} {q : List A} → In w q → In w (v ∷ q)
 
 -- v stands ahead of w in the queue
 pub data Ahead (v w : Waiter) : List Waiter → Type 0 where
@@ -115,3 +111,12 @@ pub record ServedInTime (d : Desk) (c : ℕ) (w : Waiter) : Type 0 where
   pub at-most : AtMostInWay 31 (d .row c) w
   -- whatever is requested from then on: if it does not give up while it waits, then once all those runs have ended, it was given its cell in the mode it asked for, at the latest in the step that ended the last of them
   pub served : (rs : List Request) → Patient d c w rs → AllEnd d c w rs → Served d c w rs
+
+-- how many stand in the queues of the first n cells
+unfoldable pub standingIn : (ℕ → Row) → ℕ → ℕ
+standingIn rows zero = 0
+standingIn rows (suc n) = standingIn rows n + length (rows n .queue)
+
+-- how many stand in the queues of a desk
+abbrev pub waitersOf : Desk → ℕ
+waitersOf d = standingIn (d .row) cells

@@ -3,9 +3,9 @@ use Prim.Native.Nat.{ℕ, _<_}
 use mathlib.Core.Path.{_≡_}
 use mathlib.Core.List.{List, _∷_}
 use Rattle.conflict.specs.declared.action.Action.{Action}
-use Rattle.rules.specs.Desk.{Waiter, Desk}
+use Rattle.rules.specs.Desk.{Waiter, Desk, In}
 use Rattle.rules.specs.Rules.{wake}
-use Rattle.rules.specs.Waiting.{In, Ahead}
+use Rattle.rules.specs.Waiting.{Ahead}
 
 -- wake x is told before wake y
 pub data Before (x y : Action) : List Action → Type 0 where

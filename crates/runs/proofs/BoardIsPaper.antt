@@ -13,12 +13,12 @@ use Rattle.formats.specs.declared.Reading.the-variants.{Good, Bad}
 use Rattle.formats.specs.Lines.{readLine}
 use Rattle.formats.specs.Split.{linesOf}
 use Rattle.rules.specs.Desk.{Desk, Request, freshDesk}
-use Rattle.rules.proofs.Invariant.{Inv}
+use Rattle.rules.specs.Invariant.{Inv}
 use Rattle.rules.proofs.KeptBegin.{fresh-inv}
 use Rattle.rules.proofs.Kept.{step-inv}
 use Rattle.board.specs.declared.state.Desk as board
-use Rattle.board.specs.Steps.{emptyDesk, stepOf}
-use Rattle.board.specs.Stands.{Stands, Tied, wakesTold}
+use Rattle.board.specs.Steps.{emptyDesk}
+use Rattle.board.specs.Stands.{Stands, wakesTold}
 use Rattle.board.proofs.StepTied.{tie}
 use Rattle.board.proofs.FreshStands.{fresh-stands}
 use Rattle.runs.specs.Run.{Told, Lined, answered, lineBy, runOf}

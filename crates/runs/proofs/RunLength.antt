@@ -15,7 +15,8 @@ use Rattle.formats.specs.Lines.{readLine}
 use Rattle.formats.specs.Split.{linesOf}
 use Rattle.rules.specs.Desk.{Desk, freshDesk}
 use Rattle.rules.specs.Step.{events}
-use Rattle.rules.proofs.OneRecordEach.{waitersOf, none-standing, one-record-each}
+use Rattle.rules.specs.Waiting.{waitersOf}
+use Rattle.rules.proofs.OneRecordEach.{none-standing, one-record-each}
 use Rattle.runs.specs.Run.{answered, lineBy, runOf}
 use Rattle.runs.specs.Programs.{onPaper, firstNumber, runOn}
 use Rattle.runs.specs.Shown.{historyOfRun, historyOn}

@@ -16,9 +16,8 @@ use Rattle.laws.proofs.Lists.{same-refl}
 use Rattle.conflict.proofs.Marks.{listed}
 use Rattle.conflict.proofs.OneEvent.{line-does, line-ends}
 use Rattle.formats.specs.Split.{linesOf}
-use Rattle.rules.specs.Desk.{Desk}
+use Rattle.rules.specs.Desk.{Desk, In, first, later}
 use Rattle.rules.specs.Step.{Started}
-use Rattle.rules.specs.Histories.{Has, now, then}
 use Rattle.rules.proofs.NoEventAfterEnd.{no-event-after-end}
 use Rattle.rules.proofs.RecordLimits.{recorded-jobs, recorded-cells}
 use Rattle.rules.proofs.Serial.{commits-once, committed-jobs-serializable}
@@ -35,17 +34,17 @@ use Rattle.verdicts.proofs.ReadBack.{written-read-back}
 use Rattle.verdicts.proofs.WrittenHistories.{written-says, written-faultless, written-fits, written-judged}
 
 -- a history is within a limit where every job of it is, and every cell is below 64
-all-within : (last : ℕ) (h : History) → ((j : ℕ) → lineOf j h ≡ true → (1 ≤ j) × (j ≤ last)) → ((x : Action) → Has (Does x) h → x .cell < cells) → allWithin last h ≡ true
+all-within : (last : ℕ) (h : History) → ((j : ℕ) → lineOf j h ≡ true → (1 ≤ j) × (j ≤ last)) → ((x : Action) → In (Does x) h → x .cell < cells) → allWithin last h ≡ true
 unfolding allWithin
 all-within last [] jobs at = refl
 all-within last (Does a ∷ h) jobs at =
     let b = jobs (a .job) (line-does (a .job) a h ∙ or-first (same (a .job) (a .job)) (lineOf (a .job) h) (same-refl (a .job))) in
-    and-both (within last (Does a)) (allWithin last h) (within-action last a (b .0) (b .1) (at a now))
-    (all-within last h (λ j l. jobs j (line-does j a h ∙ or-second (same (a .job) j) (lineOf j h) l)) (λ x k. at x (then k)))
+    and-both (within last (Does a)) (allWithin last h) (within-action last a (b .0) (b .1) (at a first))
+    (all-within last h (λ j l. jobs j (line-does j a h ∙ or-second (same (a .job) j) (lineOf j h) l)) (λ x k. at x (later k)))
 all-within last (Ends m i ∷ h) jobs at =
     let b = jobs i (line-ends i m i h ∙ or-first (same i i) (lineOf i h) (same-refl i)) in
     and-both (within last (Ends m i)) (allWithin last h) (within-mark last m i (b .0) (b .1))
-    (all-within last h (λ j l. jobs j (line-ends j m i h ∙ or-second (same i j) (lineOf j h) l)) (λ x k. at x (then k)))
+    (all-within last h (λ j l. jobs j (line-ends j m i h ∙ or-second (same i j) (lineOf j h) l)) (λ x k. at x (later k)))
 
 -- two lists of the same jobs, none twice, are of one length
 same-size : (js ks : List ℕ) → distinct js ≡ true → distinct ks ≡ true → ((j : ℕ) → member j js ≡ member j ks) → length js ≡ length ks

@@ -1,4 +1,5 @@
 -- The lock machine: a table of who holds what, the moves that change it, and the history that they write (01, The desk's rules; 000, 18.3 and 18.4).
+-- Assumes nothing.
 use Prim.Native.Nat.{ℕ}
 use mathlib.Core.Path.{_≡_}
 use mathlib.Core.Logic.{_≢_}

@@ -1,9 +1,8 @@
 -- What holds of every started desk: of each row, and of the desk as a whole. Stated here; that every step keeps it is proved in the files that cite it.
--- Assumes nothing.
 use Prim.Native.Nat.{ℕ, _<_}
 use mathlib.Core.Path.{_≡_}
 use mathlib.Core.Logic.{_≢_}
-use mathlib.Core.Bool.{Bool, true, false}
+use mathlib.Core.Bool.{true, false}
 use mathlib.Core.List.{List, [], _∷_}
 use lib.ListN.{length}
 use Rattle.terms.specs.declared.letters.Ask.{Ask}
@@ -11,9 +10,8 @@ use Rattle.terms.specs.Limits.{cells, places}
 use Rattle.conflict.specs.declared.modes.Mode.{Mode}
 use Rattle.conflict.specs.Modes.{beside, grants, isFree}
 use Rattle.laws.specs.Lists.{member}
-use Rattle.rules.specs.Desk.{Status, closed, waiting, Waiter, Row, Desk, isOpen, isLive}
+use Rattle.rules.specs.Desk.{Status, closed, waiting, Waiter, Row, Desk, isOpen, isLive, In}
 use Rattle.rules.specs.Locks.{wants}
-pub use Rattle.rules.specs.Waiting.{In, first, later}
 
 -- the queue runs from younger to older
 abbrev pub Falling : List Waiter → Type 0

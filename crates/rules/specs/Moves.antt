@@ -1,0 +1,58 @@
+-- The rules as a relation: one move to a rule, with what the rule tests and what it leaves written out (01, The desk's rules; 01, Refusals by number).
+use Prim.Native.Nat.{ℕ, suc, _≤_}
+use mathlib.Core.Path.{_≡_}
+use mathlib.Core.Bool.{true, false, _&&_}
+use mathlib.Core.List.{List, [], _∷_, _++_}
+use Rattle.laws.specs.Lists.{member}
+use Rattle.terms.specs.declared.letters.Ask.{Ask}
+use Rattle.terms.specs.declared.letters.Letter.the-variants.{Begin, Commit, GiveUp, Retry}
+use Rattle.terms.specs.declared.letters.Lettered.the-variants.{Known}
+use Rattle.terms.specs.declared.refusals.Refusal.{Refusal}
+use Rattle.terms.specs.Letters.{letterOf}
+use Rattle.terms.specs.Limits.{lastNumber}
+use Rattle.conflict.specs.declared.modes.Mode.{Mode}
+use Rattle.conflict.specs.Modes.{needed, covers, asked, isFree}
+use Rattle.rules.specs.declared.Answer.the-variants.{Go, Wait, Back}
+use Rattle.rules.specs.Desk.{closed, running, waiting, sentback, isOpen, Waiter, Desk, Request, at, seated, vacated}
+use Rattle.rules.specs.Locks.{agrees, alone, olderThanHolders, olderThanWaiters, isEmpty}
+use Rattle.rules.specs.Rules.{Outcome, refused, withRow, withStatus, rule4}
+use Rattle.rules.specs.Table.{Due}
+use Rattle.rules.specs.Asked.{Asking, Elder}
+
+-- go: this desk, and nobody is woken
+abbrev pub goes : Desk → ℕ → Outcome
+goes e j = record { desk = e; said = Go j; wakes = [] }
+
+-- the job gets the mode, and every queue stays
+abbrev pub taking : Desk → ℕ → ℕ → Mode → Outcome
+taking d j c m = goes (withRow d c (record { held = at (d .row c .held) j m; queue = d .row c .queue })) j
+
+-- the job waits in this queue, and everybody still holds what they hold
+abbrev pub standing : Desk → ℕ → ℕ → Ask → List Waiter → Outcome
+standing d j c a q =
+    record {
+      desk = withStatus (withRow d c (record { held = d .row c .held; queue = q })) j (waiting c a);
+      said = Wait j;
+      wakes = [];
+    }
+
+-- the moves, each outcome written out: not by the names under which the rules are defined, so that a rule which does something else is no move
+pub data Moved (d : Desk) (r : Request) : Outcome → Type 0 where
+  -- a refusal that the table says is due
+  refuses : (why : Refusal) → Due d r why → Moved d r (refused d why)
+  begins : letterOf (r .kind) ≡ Known Begin → d .next ≤ lastNumber → member 0 (d .jobs) ≡ true → Moved d r (goes (record { next = suc (d .next); jobs = seated (d .next) (d .jobs); stat = at (d .stat) (d .next) running; row = d .row }) (d .next))
+  -- rule 4: commit and give-up close the job
+  commits : letterOf (r .kind) ≡ Known Commit → d .stat (r .job) ≡ running → Moved d r (rule4 d (r .job) closed (vacated (r .job) (d .jobs)) (Go (r .job)))
+  gives-up : letterOf (r .kind) ≡ Known GiveUp → isOpen (d .stat (r .job)) ≡ true → Moved d r (rule4 d (r .job) closed (vacated (r .job) (d .jobs)) (Go (r .job)))
+  -- rule 5
+  retries : letterOf (r .kind) ≡ Known Retry → d .stat (r .job) ≡ sentback → Moved d r (goes (withStatus d (r .job) running) (r .job))
+  -- rule 1
+  has-it : (a : Ask) → Asking d r a → covers (d .row (r .cell) .held (r .job)) (needed a) ≡ true → Moved d r (goes d (r .job))
+  -- rule 2
+  promotes : (a : Ask) → Asking d r a → covers (d .row (r .cell) .held (r .job)) (needed a) ≡ false → isFree (d .row (r .cell) .held (r .job)) ≡ false → alone (d .jobs) (d .row (r .cell) .held) (r .job) ≡ true → Moved d r (taking d (r .job) (r .cell) (asked (d .row (r .cell) .held (r .job)) (needed a)))
+  waits-in-front : (a : Ask) → Asking d r a → covers (d .row (r .cell) .held (r .job)) (needed a) ≡ false → isFree (d .row (r .cell) .held (r .job)) ≡ false → alone (d .jobs) (d .row (r .cell) .held) (r .job) ≡ false → olderThanHolders (d .jobs) (d .row (r .cell) .held) (r .job) ≡ true → Moved d r (standing d (r .job) (r .cell) a (record { job = r .job; ask = a } ∷ d .row (r .cell) .queue))
+  -- rule 3
+  enters : (a : Ask) → Asking d r a → isFree (d .row (r .cell) .held (r .job)) ≡ true → isEmpty (d .row (r .cell) .queue) ≡ true → agrees (d .jobs) (d .row (r .cell) .held) (r .job) (needed a) ≡ true → Moved d r (taking d (r .job) (r .cell) (needed a))
+  waits-last : (a : Ask) → Asking d r a → isFree (d .row (r .cell) .held (r .job)) ≡ true → (isEmpty (d .row (r .cell) .queue) && agrees (d .jobs) (d .row (r .cell) .held) (r .job) (needed a)) ≡ false → olderThanHolders (d .jobs) (d .row (r .cell) .held) (r .job) ≡ true → olderThanWaiters (d .row (r .cell) .queue) (r .job) ≡ true → Moved d r (standing d (r .job) (r .cell) a (d .row (r .cell) .queue ++ record { job = r .job; ask = a } ∷ []))
+  -- rules 2 and 3, otherwise: sent back by rule 4
+  goes-back : (a : Ask) → Asking d r a → Elder d (r .job) (r .cell) → Moved d r (rule4 d (r .job) sentback (d .jobs) (Back (r .job)))
