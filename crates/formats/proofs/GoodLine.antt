@@ -59,7 +59,7 @@ cell-not-there l m given job cell t h e =
 cell-written : (l m : Letter) (given job cell : ℕ) (t : List ℕ) → cellPart l given t ≡ Good m job cell → CellWritten l m given job cell t
 unfolding cellPart
 cell-written l m given job cell t e =
-    by-test (hasCell l) (λ h. cell-there l m given job cell t h (number-written lastCell t _ m job cell (omega arith) (rw h at e)))
+    by-test (hasCell l) (λ h. cell-there l m given job cell t h (number-written lastCell t _ m job cell (rw h at e)))
     (λ h. cell-not-there l m given job cell t h (rw h at e))
 
 -- what reading the fields of a line tells
@@ -103,7 +103,7 @@ job-not-there l m job cell t h w =
 fields-written : (l m : Letter) (job cell : ℕ) (t : List ℕ) → jobPart l t ≡ Good m job cell → FieldsWritten l m job cell t
 unfolding jobPart
 fields-written l m job cell t e =
-    by-test (hasJob l) (λ h. job-there l m job cell t h (number-written lastNumber t _ m job cell (omega arith) (rw h at e)))
+    by-test (hasJob l) (λ h. job-there l m job cell t h (number-written lastNumber t _ m job cell (rw h at e)))
     (λ h. job-not-there l m job cell t h (cell-written l m 0 job cell t (rw h at e)))
 
 -- what a good line is: the record of a letter that such lines have, with fields that are not too large, and 0 for a field that the letter does not have

@@ -1,6 +1,6 @@
 -- What a line says: the line reader's answer for every string of bytes (01, Lines).
-use Prim.Native.Nat.{ℕ, zero, suc, _+_, _*_, _-_}
-use mathlib.Core.Bool.{Bool, true, false, _&&_, _||_, not}
+use Prim.Native.Nat.{ℕ, _+_, _*_, _-_}
+use mathlib.Core.Bool.{Bool, true, false, _&&_, not}
 use mathlib.Core.List.{List, [], _∷_}
 use lib.Dec.{eqb, leb}
 use Rattle.laws.specs.Choice.{pick}
@@ -20,6 +20,11 @@ lastCell = 99
 -- whether a byte is a digit
 unfoldable pub isDigit : ℕ → Bool
 isDigit b = leb 48 b && leb b 57
+
+-- whether a text has digits only
+unfoldable pub digitsOnly : List ℕ → Bool
+digitsOnly [] = true
+digitsOnly (b ∷ t) = isDigit b && digitsOnly t
 
 -- the digits that a text begins with
 unfoldable pub digitsOf : List ℕ → List ℕ
