@@ -14,7 +14,7 @@ abbrev pub tens : ℕ → ℕ
 tens zero = 1
 tens (suc k) = 10 * tens k
 
--- a number has fewer digits than one more than itself
+-- a number is below the power of ten with as many places
 pub below-tens : (n : ℕ) → n < tens n
 below-tens zero = omega arith
 below-tens (suc n) = omega (arith, below-tens n)
