@@ -1,27 +1,17 @@
 -- Shortest decimal: the digits of a number stand for it, have no leading zero, and no other such digits stand for it.
 -- Assumes nothing.
-use Prim.Native.Nat.{ℕ, zero, suc, _+_, _*_, _-_, _/_, _%_, _^_, _<_, _≤_}
+use Prim.Native.Nat.{ℕ, zero, suc, _+_, _*_, _-_, _/_, _%_, _<_, _≤_}
 use mathlib.Core.Path.{_≡_, refl, sym, ap, _∙_}
-use mathlib.Core.Bool.{Bool, true, false, _&&_, not}
+use mathlib.Core.Bool.{Bool, true, false, not}
 use mathlib.Core.List.{List, [], _∷_, _++_, append-assoc, append-nil}
 use native.Mathlib.Omega.{arith}
 use lib.Dec.{eqb, ltb}
-use lib.ListN.{length, length-append}
-use borrow.Author.Tests.{ltb-true, ltb-false, lt-ltb, le-ltb, le-leb, eqb-false, ne-eqb, not-true}
+use borrow.Author.Tests.{ltb-true, ltb-false, le-leb, eqb-false, ne-eqb, not-true}
 use Rattle.laws.specs.Choice.{by-test, not-both}
-use Rattle.formats.specs.Lines.{isDigit, valueFrom, shortest}
+use Rattle.formats.specs.Lines.{isDigit, digitsOnly, valueFrom, shortest}
 use Rattle.formats.specs.Decimal.{digit, digitsIn, decimal}
-use Rattle.formats.proofs.Digits.{value-grows, digit-bounds}
-
--- ten to the power of so many places
-abbrev pub tens : ℕ → ℕ
-tens zero = 1
-tens (suc k) = 10 * tens k
-
--- whether a text has digits only
-unfoldable pub digitsOnly : List ℕ → Bool
-digitsOnly [] = true
-digitsOnly (b ∷ t) = isDigit b && digitsOnly t
+use Rattle.formats.proofs.Digits.{digit-bounds}
+use Rattle.formats.proofs.EnoughPlaces.{tens, below-tens, decimal-below-ten, decimal-from-ten}
 
 -- a number below ten has a digit
 pub digit-is : (d : ℕ) → d < 10 → isDigit (digit d) ≡ true
@@ -94,85 +84,56 @@ shortest-in p n h =
     by-test (ltb n 10) (λ s. rw s)
     (λ s. rw s (leads-shortest _ (leads-append (digitsIn p (n / 10)) (digit (n % 10) ∷ []) (leads-in p (n / 10) (omega (arith, ltb-false n 10 s)) (omega arith)))))
 
--- with enough places, one more changes nothing
-same-places : (places n : ℕ) → 0 < n → n < tens places → digitsIn (suc places) n ≡ digitsIn places n
-unfolding digitsIn
-same-places zero n z h = absurd (omega arith)
-same-places (suc p) n z h =
-    by-test (ltb n 10) (λ s. rw s)
-    (λ s. rw s (ap (λ ds. ds ++ digit (n % 10) ∷ []) (same-places p (n / 10) (omega (arith, ltb-false n 10 s)) (omega arith))))
-
--- a number from ten on is written as its tenth and its last digit
-more-digits : (places n : ℕ) → 10 ≤ n → digitsIn (suc places) n ≡ digitsIn places (n / 10) ++ digit (n % 10) ∷ []
-unfolding digitsIn
-more-digits p n h = rw (le-ltb n 10 h)
-
--- a number below ten is written as its digit
-one-digit : (places n : ℕ) → n < 10 → digitsIn (suc places) n ≡ digit n ∷ []
-unfolding digitsIn
-one-digit p n h = rw (lt-ltb n 10 h)
-
 -- a further digit is written after the others
-one-more : (places n b : ℕ) → 0 < n → isDigit b ≡ true → n * 10 + (b - 48) < tens (suc places) → digitsIn (suc places) (n * 10 + (b - 48)) ≡ digitsIn (suc places) n ++ b ∷ []
-one-more p n b z d h =
+one-more : (n b : ℕ) → 0 < n → isDigit b ≡ true → decimal (n * 10 + (b - 48)) ≡ decimal n ++ b ∷ []
+one-more n b z d =
     let m = n * 10 + (b - 48) in
     let lo : 48 ≤ b = digit-bounds b d .0 in
     let hi : b ≤ 57 = digit-bounds b d .1 in
     let q : m / 10 ≡ n = omega arith in
     let r : digit (m % 10) ≡ b = omega arith in
-    more-digits p m (omega arith) ∙ rw (q, r) (ap (λ ds. ds ++ b ∷ []) (sym (same-places p n z (omega arith))))
+    decimal-from-ten m (omega arith) ∙ rw (q, r)
 
 -- further digits are written after the others
-further : (places n : ℕ) (ds : List ℕ) → 0 < n → digitsOnly ds ≡ true → valueFrom n ds < tens (suc places) → digitsIn (suc places) (valueFrom n ds) ≡ digitsIn (suc places) n ++ ds
+further : (n : ℕ) (ds : List ℕ) → 0 < n → digitsOnly ds ≡ true → decimal (valueFrom n ds) ≡ decimal n ++ ds
 unfolding digitsOnly valueFrom
-further p n [] z o h = sym (append-nil _)
-further p n (d ∷ ds) z o h =
-    let m = n * 10 + (d - 48) in
-    let g : m ≤ valueFrom m ds = value-grows m ds in
-    further p m ds (omega arith) (only-parts d ds o .1) h
-    ∙ ap (λ es. es ++ ds) (one-more p n d z (only-parts d ds o .0) (omega arith))
-    ∙ append-assoc (digitsIn (suc p) n) (d ∷ []) ds
+further n [] z o = sym (append-nil _)
+further n (d ∷ ds) z o =
+    further (n * 10 + (d - 48)) ds (omega arith) (only-parts d ds o .1)
+    ∙ ap (λ es. es ++ ds) (one-more n d z (only-parts d ds o .0))
+    ∙ append-assoc (decimal n) (d ∷ []) ds
 
 -- a digit is written as itself
-first-digit : (places d : ℕ) → isDigit d ≡ true → digitsIn (suc places) (0 * 10 + (d - 48)) ≡ d ∷ []
-first-digit p d k =
+first-digit : (d : ℕ) → isDigit d ≡ true → decimal (0 * 10 + (d - 48)) ≡ d ∷ []
+first-digit d k =
     let lo : 48 ≤ d = digit-bounds d k .0 in
     let hi : d ≤ 57 = digit-bounds d k .1 in
     let e : 48 + (0 * 10 + (d - 48)) ≡ d = omega arith in
-    one-digit p (0 * 10 + (d - 48)) (omega arith) ∙ rw e
-
--- digits with no leading zero except the single 0 are those of their number
-pub digits-of-value : (places : ℕ) (ds : List ℕ) → digitsOnly ds ≡ true → shortest ds ≡ true → valueFrom 0 ds < tens (suc places) → digitsIn (suc places) (valueFrom 0 ds) ≡ ds
-unfolding valueFrom shortest
-digits-of-value p [] o s h = not-both s refl
-digits-of-value p (d ∷ []) o s h = first-digit p d (only-parts d [] o .0)
-digits-of-value p (d ∷ e ∷ ds) o s h =
-    let k : isDigit d ≡ true = only-parts d (e ∷ ds) o .0 in
-    let lo : 48 ≤ d = digit-bounds d k .0 in
-    let ne : d ≡ 48 → ⊥ = eqb-false d 48 (not-true _ s) in
-    let z : 0 < 0 * 10 + (d - 48) = omega arith in
-    further p (0 * 10 + (d - 48)) (e ∷ ds) z (only-parts d (e ∷ ds) o .1) h ∙ ap (λ es. es ++ e ∷ ds) (first-digit p d k)
-
--- twenty places hold what is below the twentieth power of ten
-pub twenty-places : tens 20 ≡ 10 ^ 20
-twenty-places = refl
+    decimal-below-ten (0 * 10 + (d - 48)) (omega arith) ∙ rw e
 
 -- shortest decimal has digits only
 pub decimal-digits : (n : ℕ) → digitsOnly (decimal n) ≡ true
 unfolding decimal
-decimal-digits n = digits-only 20 n
+decimal-digits n = digits-only (suc n) n
 
 -- shortest decimal has no leading zero except the single 0
-pub decimal-shortest : (n : ℕ) → n < tens 20 → shortest (decimal n) ≡ true
+pub decimal-shortest : (n : ℕ) → shortest (decimal n) ≡ true
 unfolding decimal
-decimal-shortest n h = shortest-in 19 n h
+decimal-shortest n = shortest-in n n (omega (arith, below-tens n))
 
 -- shortest decimal stands for its number
-pub decimal-value : (n : ℕ) → n < tens 20 → valueFrom 0 (decimal n) ≡ n
+pub decimal-value : (n : ℕ) → valueFrom 0 (decimal n) ≡ n
 unfolding decimal
-decimal-value n h = value-in 20 n h
+decimal-value n = value-in (suc n) n (omega (arith, below-tens n))
 
 -- no other digits that are shortest stand for a number
-pub decimal-unique : (ds : List ℕ) → digitsOnly ds ≡ true → shortest ds ≡ true → valueFrom 0 ds < tens 20 → decimal (valueFrom 0 ds) ≡ ds
-unfolding decimal
-decimal-unique ds o s h = digits-of-value 19 ds o s h
+pub decimal-unique : (ds : List ℕ) → digitsOnly ds ≡ true → shortest ds ≡ true → decimal (valueFrom 0 ds) ≡ ds
+unfolding valueFrom shortest
+decimal-unique [] o s = not-both s refl
+decimal-unique (d ∷ []) o s = first-digit d (only-parts d [] o .0)
+decimal-unique (d ∷ e ∷ ds) o s =
+    let k : isDigit d ≡ true = only-parts d (e ∷ ds) o .0 in
+    let lo : 48 ≤ d = digit-bounds d k .0 in
+    let ne : d ≡ 48 → ⊥ = eqb-false d 48 (not-true _ s) in
+    let z : 0 < 0 * 10 + (d - 48) = omega arith in
+    further (0 * 10 + (d - 48)) (e ∷ ds) z (only-parts d (e ∷ ds) o .1) ∙ ap (λ es. es ++ e ∷ ds) (first-digit d k)

@@ -6,12 +6,13 @@ use mathlib.Core.List.{List, [], _∷_, _++_, append-assoc}
 use native.Mathlib.Nat.{le-refl, pow-suc, mod-eq-of-lt, div-lt-iff-lt-mul, zero-lt-suc}
 use native.Mathlib.Numerals.{add-one, sub-one}
 use native.Mathlib.Omega.{arith}
-use borrow.Author.Tests.{lt-ltb, le-ltb, ltb-true}
+use borrow.Author.Tests.{lt-ltb, ltb-true, ltb-false}
 use lib.Dec.{ltb}
-use lib.ListN.{length, drop, set, length-append, length-set}
+use lib.ListN.{length, drop, set, replicate, length-append, length-set}
 use lib.Seq.{drop-cons, drop-set-lt, getD-set-same}
 use Rattle.laws.specs.Choice.{by-test}
 use Rattle.formats.specs.Decimal.{digit, digitsIn, decimal}
+use Rattle.formats.proofs.EnoughPlaces.{decimal-below-ten, decimal-from-ten}
 
 -- the single 0
 pub decimal-0 : decimal 0 ≡ 48 ∷ []
@@ -28,28 +29,10 @@ pub decimal-last : decimal 4_294_967_295 ≡ 52 ∷ 50 ∷ 57 ∷ 52 ∷ 57 ∷ 
 unfolding decimal digitsIn
 decimal-last = refl
 
--- a number below ten is its one digit
-pub one-digit : (p n : ℕ) → n < 10 → digitsIn (suc p) n ≡ digit n ∷ []
-unfolding digitsIn
-one-digit p n h = rw (lt-ltb n 10 h)
-
--- any other number is the digits of its tenth, and then its last digit
-pub more-digits : (p n : ℕ) → 10 ≤ n → digitsIn (suc p) n ≡ digitsIn p (n / 10) ++ digit (n % 10) ∷ []
-unfolding digitsIn
-more-digits p n h = rw (le-ltb n 10 h)
-
--- no number takes more places than it is given
-pub places-hold : (p n : ℕ) → length (digitsIn p n) ≤ p
-unfolding digitsIn
-places-hold zero n = zero-le
-places-hold (suc p) n =
-    by-test (ltb n 10) (λ t. rw t (omega arith))
-    (λ f. rw f (rw length-append (let ih = places-hold p (n / 10) in omega arith)))
-
--- a number in decimal has at most twenty digits
-pub decimal-at-most-20 : (n : ℕ) → length (decimal n) ≤ 20
-unfolding decimal
-decimal-at-most-20 n = places-hold 20 n
+-- a number of twenty-one digits, which no machine word holds
+pub decimal-long : decimal (10 ^ 20) ≡ 49 ∷ replicate 20 48
+unfolding decimal digitsIn
+decimal-long = refl
 
 -- a number below a power of ten has at most as many digits as the power says
 below-power : (p k n : ℕ) → n < 10 ^ suc k → length (digitsIn p n) ≤ suc k
@@ -63,37 +46,40 @@ below-power (suc p) (suc k) n h =
 -- the same of a number in decimal
 pub digits-at-most : (k n : ℕ) → n < 10 ^ suc k → length (decimal n) ≤ suc k
 unfolding decimal
-digits-at-most k n h = below-power 20 k n h
+digits-at-most k n h = below-power (suc n) k n h
+
+-- twenty digits are enough for every number of 64 bits
+pub decimal-at-most-20 : (n : ℕ) → n < 2 ^ 64 → length (decimal n) ≤ 20
+decimal-at-most-20 n h = digits-at-most 19 n (omega arith)
+
+-- a number has a digit
+some-digit : (n : ℕ) → 1 ≤ length (decimal n)
+some-digit n =
+    by-test (ltb n 10) (λ t. rw (decimal-below-ten n (ltb-true n 10 t)) (omega arith))
+    (λ f. rw (decimal-from-ten n (ltb-false n 10 f), length-append) (omega arith))
 
 -- so many digits have been counted of n when the digits of rest are still to be counted, the last of them as one already
 pub record Counting (n w rest : ℕ) : Type 0 where
-  pub places : ℕ
-  pub within : w + places ≡ 20
-  pub small : rest < 10 ^ suc places
-  pub sum : length (decimal n) + 1 ≡ w + length (digitsIn (suc places) rest)
+  pub most : length (decimal n) ≤ 20
+  pub some : 1 ≤ length (decimal rest)
+  pub sum : length (decimal n) + 1 ≡ w + length (decimal rest)
 
 -- at first all of n is to be counted
 pub counting-first : (n : ℕ) → n < 2 ^ 64 → Counting n 1 n
-unfolding decimal
-counting-first n h = record { places = 19; within = refl; small = omega arith; sum = omega arith }
+counting-first n h = record { most = decimal-at-most-20 n h; some = some-digit n; sum = omega arith }
 
 -- a number of two digits or more has one digit more than its tenth
 pub counting-next : (n w rest : ℕ) → Counting n w rest → 10 ≤ rest → Counting n (w + 1) (rest / 10)
-counting-next n w rest k h = go (k .places) (k .within) (k .small) (k .sum)
-  where
-    go : (p : ℕ) → w + p ≡ 20 → rest < 10 ^ suc p → length (decimal n) + 1 ≡ w + length (digitsIn (suc p) rest) → Counting n (w + 1) (rest / 10)
-    go zero e b s = absurd (omega arith)
-    go (suc p) e b s =
-        record {
-          places = p;
-          within = omega arith;
-          small = div-lt-iff-lt-mul (zero-lt-suc 9) .1 (rw pow-suc at b);
-          sum = s ∙ ap (λ l. w + length l) (more-digits (suc p) rest h) ∙ rw (length-append (digitsIn (suc p) (rest / 10))) (omega arith);
-        }
+counting-next n w rest k h =
+    record {
+      most = k .most;
+      some = some-digit (rest / 10);
+      sum = k .sum ∙ ap (λ l. w + length l) (decimal-from-ten rest h) ∙ rw (length-append (decimal (rest / 10))) (omega arith);
+    }
 
 -- at last one digit is left, and it has been counted
 pub counting-last : (n w rest : ℕ) → Counting n w rest → rest < 10 → w ≡ length (decimal n)
-counting-last n w rest k h = let e = ap length (one-digit (k .places) rest h) in omega arith
+counting-last n w rest k h = let e = ap length (decimal-below-ten rest h) in omega arith
 
 -- the last so many digits of n, with zeros in front where there are no more
 unfoldable pub lastDigits : ℕ → ℕ → List ℕ
@@ -101,7 +87,7 @@ lastDigits zero n = []
 lastDigits (suc k) n = lastDigits k (n / 10) ++ digit (n % 10) ∷ []
 
 -- n in shortest decimal is the last so many digits of n, as many as there are
-pub digits-are-last : (p n : ℕ) → digitsIn p n ≡ lastDigits (length (digitsIn p n)) n
+digits-are-last : (p n : ℕ) → digitsIn p n ≡ lastDigits (length (digitsIn p n)) n
 unfolding digitsIn lastDigits
 digits-are-last zero n = refl
 digits-are-last (suc p) n =
@@ -117,7 +103,7 @@ drop-written l i v h =
 -- before the first digit is written: all of them are to be written
 pub all-to-write : (n w : ℕ) (l : List ℕ) → w ≡ length (decimal n) → lastDigits w n ++ drop w l ≡ decimal n ++ drop w l
 unfolding decimal
-all-to-write n w l e = ap (λ t. t ++ drop w l) (ap (λ k. lastDigits k n) e ∙ sym (digits-are-last 20 n))
+all-to-write n w l e = ap (λ t. t ++ drop w l) (ap (λ k. lastDigits k n) e ∙ sym (digits-are-last (suc n) n))
 
 -- one more digit stands at its place: what is still to be written and what stands already make the same list as before
 pub one-more : (i rest : ℕ) (l whole : List ℕ) → 0 < i → i ≤ length l → lastDigits i rest ++ drop i l ≡ whole →

@@ -37,10 +37,10 @@ pub field-at-most : (k : ℕ) (there : Bool) (n : ℕ) → n < 10 ^ suc k → le
 field-at-most k true n h = omega (arith, field-length true n refl, digits-at-most k n h)
 field-at-most k false n h = omega (arith, no-field-length false n refl)
 
--- no field has more than twenty-one bytes
-pub field-at-most-21 : (there : Bool) (n : ℕ) → length (field there n) ≤ 21
-field-at-most-21 true n = let d = decimal-at-most-20 n in omega (arith, field-length true n refl)
-field-at-most-21 false n = omega (arith, no-field-length false n refl)
+-- no field of a number of 64 bits has more than twenty-one bytes
+pub field-at-most-21 : (there : Bool) (n : ℕ) → n < 2 ^ 64 → length (field there n) ≤ 21
+field-at-most-21 true n h = let d = decimal-at-most-20 n h in omega (arith, field-length true n refl)
+field-at-most-21 false n h = omega (arith, no-field-length false n refl)
 
 -- an answer record: the line number, the word behind its tab, and the last field with the newline
 pub answer-is : (line : ℕ) (word : Word) (number : ℕ) →

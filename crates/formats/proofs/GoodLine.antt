@@ -5,11 +5,13 @@ use mathlib.Core.Path.{_≡_, ap, refl, sym, _∙_}
 use mathlib.Core.Bool.{Bool, true, false}
 use mathlib.Core.Logic.{_↔_}
 use mathlib.Core.List.{List, [], _∷_, _++_, append-assoc}
+use mathlib.Core.Option.{none, some}
 use native.Mathlib.Omega.{arith}
 use Rattle.laws.specs.Choice.{by-test, not-both}
 use Rattle.terms.specs.declared.letters.Letter.{Letter}
 use Rattle.terms.specs.declared.letters.Lettered.{Lettered}
 use Rattle.terms.specs.declared.letters.Lettered.the-variants.{Known, Unknown}
+use Rattle.terms.specs.declared.refusals.Refusal.the-variants.{BadLine}
 use Rattle.terms.specs.Letters.{letterOf, hasJob, hasCell}
 use Rattle.terms.specs.Words.{newline}
 use Rattle.terms.specs.Limits.{lastNumber}
@@ -17,7 +19,7 @@ use Rattle.terms.proofs.Alphabet.{byte-of-letter}
 use Rattle.formats.specs.declared.Reading.{Reading}
 use Rattle.formats.specs.declared.Reading.the-variants.{Good, Bad}
 use Rattle.formats.specs.Records.{field, lineRecord}
-use Rattle.formats.specs.Lines.{lastCell, ending, cellPart, jobPart, letterPart, readLine}
+use Rattle.formats.specs.Lines.{refusalOf, lastCell, ending, cellPart, jobPart, letterPart, readLine}
 use Rattle.formats.proofs.ReadBack.{reads-record}
 use Rattle.formats.proofs.WrittenFields.{NumberField, number-written, ending-written, not-bad}
 
@@ -59,7 +61,7 @@ cell-not-there l m given job cell t h e =
 cell-written : (l m : Letter) (given job cell : ℕ) (t : List ℕ) → cellPart l given t ≡ Good m job cell → CellWritten l m given job cell t
 unfolding cellPart
 cell-written l m given job cell t e =
-    by-test (hasCell l) (λ h. cell-there l m given job cell t h (number-written lastCell t _ m job cell (omega arith) (rw h at e)))
+    by-test (hasCell l) (λ h. cell-there l m given job cell t h (number-written lastCell t _ m job cell (rw h at e)))
     (λ h. cell-not-there l m given job cell t h (rw h at e))
 
 -- what reading the fields of a line tells
@@ -103,7 +105,7 @@ job-not-there l m job cell t h w =
 fields-written : (l m : Letter) (job cell : ℕ) (t : List ℕ) → jobPart l t ≡ Good m job cell → FieldsWritten l m job cell t
 unfolding jobPart
 fields-written l m job cell t e =
-    by-test (hasJob l) (λ h. job-there l m job cell t h (number-written lastNumber t _ m job cell (omega arith) (rw h at e)))
+    by-test (hasJob l) (λ h. job-there l m job cell t h (number-written lastNumber t _ m job cell (rw h at e)))
     (λ h. job-not-there l m job cell t h (cell-written l m 0 job cell t (rw h at e)))
 
 -- what a good line is: the record of a letter that such lines have, with fields that are not too large, and 0 for a field that the letter does not have
@@ -143,3 +145,13 @@ all-else-bad which bytes other = go (readLine which bytes) refl
     go : (r : Reading) → readLine which bytes ≡ r → readLine which bytes ≡ Bad
     go (Good l job cell) e = absurd (other l job cell (good-is-record which bytes l job cell e))
     go Bad e = e
+
+-- ALL ELSE IS REFUSAL 9: a line is refused with 9 exactly where it is no good line
+pub nine-exactly : (which : Letter → Bool) (bytes : List ℕ) → (refusalOf (readLine which bytes) ≡ some BadLine) ↔ ((l : Letter) (job cell : ℕ) → GoodLine which bytes l job cell → ⊥)
+nine-exactly which bytes = (refused-only, λ other. ap refusalOf (all-else-bad which bytes other))
+  where
+    refused-only : refusalOf (readLine which bytes) ≡ some BadLine → (l : Letter) (job cell : ℕ) → GoodLine which bytes l job cell → ⊥
+    refused-only e l job cell g =
+        let q : none ≡ some BadLine = sym (ap refusalOf (good-exactly which bytes l job cell .1 g)) ∙ e in
+        let z : _≡_ {A = ℕ} 0 1 = cc in
+        omega arith

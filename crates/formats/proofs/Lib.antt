@@ -9,6 +9,7 @@ pub mod Held
 pub mod Found
 pub mod Places
 pub mod Digits
+pub mod EnoughPlaces
 pub mod DecimalLaws
 pub mod WrittenFields
 pub mod ReadBack

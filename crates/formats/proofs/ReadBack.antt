@@ -4,7 +4,6 @@ use Prim.Native.Nat.{ℕ, _≤_}
 use mathlib.Core.Path.{_≡_, refl, sym, ap, _∙_}
 use mathlib.Core.Bool.{Bool, true, false}
 use mathlib.Core.List.{[], _∷_, _++_, append-assoc}
-use native.Mathlib.Omega.{arith}
 use Rattle.laws.specs.Choice.{by-test}
 use Rattle.terms.specs.declared.letters.Letter.{Letter}
 use Rattle.terms.specs.Letters.{hasJob, hasCell}
@@ -27,7 +26,7 @@ field-stops false n = refl
 reads-cell : (l : Letter) (job cell : ℕ) → cell ≤ lastCell → (hasCell l ≡ false → cell ≡ 0) → cellPart l job (field (hasCell l) cell ++ newline ∷ []) ≡ Good l job cell
 unfolding cellPart field ending digitAhead isDigit
 reads-cell l job cell small unused =
-    by-test (hasCell l) (λ h. rw h (reads-number lastCell cell (newline ∷ []) _ small (omega arith) refl))
+    by-test (hasCell l) (λ h. rw h (reads-number lastCell cell (newline ∷ []) _ small refl))
     (λ h. rw h (ap (Good l job) (sym (unused h))))
 
 -- a written job and what follows it are read back
@@ -35,7 +34,7 @@ reads-job : (l : Letter) (job cell : ℕ) → job ≤ lastNumber → cell ≤ la
 unfolding jobPart field
 reads-job l job cell jobs cells no-job no-cell =
     by-test (hasJob l)
-    (λ h. rw h (reads-number lastNumber job (field (hasCell l) cell ++ newline ∷ []) (cellPart l) jobs (omega arith) (field-stops (hasCell l) cell) ∙ reads-cell l job cell cells no-cell))
+    (λ h. rw h (reads-number lastNumber job (field (hasCell l) cell ++ newline ∷ []) (cellPart l) jobs (field-stops (hasCell l) cell) ∙ reads-cell l job cell cells no-cell))
     (λ h. rw h (reads-cell l 0 cell cells no-cell ∙ ap (λ j. Good l j cell) (sym (no-job h))))
 
 -- reading a written record gives back what was written

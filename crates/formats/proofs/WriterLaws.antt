@@ -3,10 +3,12 @@
 use Prim.Native.Nat.{ℕ, _+_, _-_, _≤_, _<_}
 use mathlib.Core.Path.{_≡_, refl, sym, ap, _∙_}
 use mathlib.Core.Bool.{true, false}
+use mathlib.Core.Logic.{_↔_, _⊎_, inl, inr, ⊎-elim}
 use mathlib.Core.List.{List, _++_}
 use native.Mathlib.Omega.{arith}
-use borrow.Author.Tests.{leb-true, le-leb, lt-leb}
-use lib.ListN.{length, take, drop, getD}
+use borrow.Author.Tests.{ltb-true, ltb-false, leb-true, leb-false, le-leb, lt-leb}
+use lib.Dec.{ltb, leb}
+use lib.ListN.{length, take, drop, getD, length-drop}
 use lib.Seq.{getD-take, getD-drop}
 use Rattle.laws.specs.Choice.{by-test}
 use Rattle.terms.specs.declared.letters.Letter.{Letter}
@@ -47,6 +49,27 @@ pub too-long : (b : List ℕ) (at : ℕ) (bs : List ℕ) → length b < at + len
 unfolding fits
 too-long b at bs h = told-refused b at bs (lt-leb (at + length bs) (length b) h)
 
+-- a record that there is room for is not refused
+pub not-refused : {P : Type 0} {w : Written} {why : Refusal} (b : List ℕ) (at : ℕ) (bs : List ℕ) → w ≡ told b at bs → w ≡ Refused why → at + length bs ≤ length b → P
+unfolding fits
+not-refused b at bs e f h =
+    let t : told b at bs ≡ Next (at + length bs) = told-next b at bs (le-leb (at + length bs) (length b) h) in
+    let z : _≡_ {A = ℕ} 0 1 = cc in
+    absurd (omega arith)
+
+-- FIFTEEN EXACTLY WHERE THERE IS NO ROOM: a record is refused exactly where the place is past the end, or what is left of the buffer from there is shorter than the record (01, refusal 15)
+pub no-room-exactly : (b : List ℕ) (at : ℕ) (bs : List ℕ) → (told b at bs ≡ Refused NoRoom) ↔ ((length b < at) ⊎ (length (drop at b) < length bs))
+no-room-exactly b at bs = (refused-there, ⊎-elim (past-the-end b at bs) (λ h. let n = length-drop at b in too-long b at bs (omega arith)))
+  where
+    refused-there : told b at bs ≡ Refused NoRoom → (length b < at) ⊎ (length (drop at b) < length bs)
+    refused-there e =
+        by-test (ltb (length b) at) (λ t. inl (ltb-true (length b) at t))
+        (λ f.
+        let within = ltb-false (length b) at f in
+        let n = length-drop at b in
+        by-test (leb (at + length bs) (length b)) (λ t. not-refused b at bs refl e (leb-true (at + length bs) (length b) t))
+        (λ g. let h = leb-false (at + length bs) (length b) g in inr (omega arith)))
+
 -- at the end of the buffer every answer record is refused
 pub answer-at-the-end : (b : List ℕ) (line : ℕ) (word : Word) (number : ℕ) → told b (length b) (answerRecord line word number) ≡ Refused NoRoom
 answer-at-the-end b line word number = too-long b (length b) (answerRecord line word number) (let n = answer-length line word number in omega arith)
@@ -67,14 +90,6 @@ next-wrote {w} {b} {at} {bs} {n} {m} e f g =
     let k = next-told b at bs n (sym e ∙ f) in
     let t = le-leb (at + length bs) (length b) (omega arith) in
     record { ends = k .0; within = k .1; holds = g ∙ rw (t, k .0) refl }
-
--- a record that there is room for is not refused
-pub not-refused : {P : Type 0} {w : Written} {why : Refusal} (b : List ℕ) (at : ℕ) (bs : List ℕ) → w ≡ told b at bs → w ≡ Refused why → at + length bs ≤ length b → P
-unfolding fits
-not-refused b at bs e f h =
-    let t : told b at bs ≡ Next (at + length bs) = told-next b at bs (le-leb (at + length bs) (length b) h) in
-    let z : _≡_ {A = ℕ} 0 1 = cc in
-    absurd (omega arith)
 
 -- a refusal leaves every byte
 pub left-refused : (b : List ℕ) (at : ℕ) (bs : List ℕ) → fits b at bs ≡ false → left b at bs ≡ b

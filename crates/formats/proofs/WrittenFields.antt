@@ -1,6 +1,6 @@
 -- A number field that was written is read back, and one that is read was written.
 -- Assumes nothing.
-use Prim.Native.Nat.{ℕ, _<_, _≤_}
+use Prim.Native.Nat.{ℕ, _≤_}
 use mathlib.Core.Path.{_≡_, refl, sym, ap}
 use mathlib.Core.Bool.{true, false}
 use mathlib.Core.List.{List, [], _∷_, _++_}
@@ -13,9 +13,9 @@ use Rattle.terms.specs.Words.{tab, newline}
 use Rattle.formats.specs.declared.Reading.{Reading}
 use Rattle.formats.specs.declared.Reading.the-variants.{Good, Bad}
 use Rattle.formats.specs.Decimal.{decimal}
-use Rattle.formats.specs.Lines.{isDigit, digitsOf, afterDigits, valueFrom, shortest, numberThen, ending}
+use Rattle.formats.specs.Lines.{isDigit, digitsOnly, digitsOf, afterDigits, valueFrom, shortest, numberThen, ending}
 use Rattle.formats.specs.Fields.{digitAhead}
-use Rattle.formats.proofs.DecimalLaws.{tens, digitsOnly, only-parts, decimal-digits, decimal-shortest, decimal-value, decimal-unique}
+use Rattle.formats.proofs.DecimalLaws.{only-parts, decimal-digits, decimal-shortest, decimal-value, decimal-unique}
 
 -- the digits that a text begins with, and what follows, are the text
 pub digits-then : (t : List ℕ) → digitsOf t ++ afterDigits t ≡ t
@@ -40,11 +40,11 @@ digits-before (d ∷ ds) t o h =
     (rw (k .0) (ap (λ u. d ∷ u) (e .0)), rw (k .0) (e .1))
 
 -- a number that was written is read back
-pub reads-number : (most n : ℕ) (t : List ℕ) (rest : ℕ → List ℕ → Reading) → n ≤ most → n < tens 20 → digitAhead t ≡ false → numberThen most (tab ∷ decimal n ++ t) rest ≡ rest n t
+pub reads-number : (most n : ℕ) (t : List ℕ) (rest : ℕ → List ℕ → Reading) → n ≤ most → digitAhead t ≡ false → numberThen most (tab ∷ decimal n ++ t) rest ≡ rest n t
 unfolding numberThen
-reads-number most n t rest small fits stop =
+reads-number most n t rest small stop =
     let e = digits-before (decimal n) t (decimal-digits n) stop in
-    rw (e .0, e .1, decimal-shortest n fits, decimal-value n fits, le-leb n most small)
+    rw (e .0, e .1, decimal-shortest n, decimal-value n, le-leb n most small)
 
 -- what a good line's number field tells: the number, what is left after it, that the field was written so, and that what is left goes on to the good line
 pub record NumberField (most : ℕ) (t : List ℕ) (rest : ℕ → List ℕ → Reading) (good : Reading) : Type 0 where
@@ -59,10 +59,10 @@ pub not-bad : {P : Type 0} {l : Letter} {job cell : ℕ} → Bad ≡ Good l job 
 not-bad e = let z : _≡_ {A = ℕ} 0 1 = cc in absurd (omega arith)
 
 -- a number that is read was written
-pub number-written : (most : ℕ) (t : List ℕ) (rest : ℕ → List ℕ → Reading) (l : Letter) (job cell : ℕ) → most < tens 20 → numberThen most t rest ≡ Good l job cell → NumberField most t rest (Good l job cell)
+pub number-written : (most : ℕ) (t : List ℕ) (rest : ℕ → List ℕ → Reading) (l : Letter) (job cell : ℕ) → numberThen most t rest ≡ Good l job cell → NumberField most t rest (Good l job cell)
 unfolding numberThen
-number-written most [] rest l job cell m e = not-bad e
-number-written most (b ∷ t) rest l job cell m e =
+number-written most [] rest l job cell e = not-bad e
+number-written most (b ∷ t) rest l job cell e =
     let ds = digitsOf t in
     by-test (eqb b tab)
     (λ k. by-test (shortest ds)
@@ -70,7 +70,7 @@ number-written most (b ∷ t) rest l job cell m e =
     (λ v. record {
       number = valueFrom 0 ds;
       left = afterDigits t;
-      written = rw (eqb-true b tab k, decimal-unique ds (digits-are t) s (omega (arith, leb-true (valueFrom 0 ds) most v))) (ap (λ u. tab ∷ u) (sym (digits-then t)));
+      written = rw (eqb-true b tab k, decimal-unique ds (digits-are t) s) (ap (λ u. tab ∷ u) (sym (digits-then t)));
       small = leb-true _ _ v;
       goes-on = rw (k, s, v) at e;
     })

@@ -1,17 +1,25 @@
 -- What a line says: the line reader's answer for every string of bytes (01, Lines).
-use Prim.Native.Nat.{ℕ, zero, suc, _+_, _*_, _-_}
-use mathlib.Core.Bool.{Bool, true, false, _&&_, _||_, not}
+use Prim.Native.Nat.{ℕ, _+_, _*_, _-_}
+use mathlib.Core.Bool.{Bool, true, false, _&&_, not}
 use mathlib.Core.List.{List, [], _∷_}
+use mathlib.Core.Option.{Option, none, some}
 use lib.Dec.{eqb, leb}
 use Rattle.laws.specs.Choice.{pick}
 use Rattle.terms.specs.declared.letters.Letter.{Letter}
 use Rattle.terms.specs.declared.letters.Lettered.{Lettered}
 use Rattle.terms.specs.declared.letters.Lettered.the-variants.{Known, Unknown}
+use Rattle.terms.specs.declared.refusals.Refusal.{Refusal}
+use Rattle.terms.specs.declared.refusals.Refusal.the-variants.{BadLine}
 use Rattle.terms.specs.Letters.{letterOf, hasJob, hasCell}
 use Rattle.terms.specs.Words.{tab, newline}
 use Rattle.terms.specs.Limits.{lastNumber}
 use Rattle.formats.specs.declared.Reading.{Reading}
 use Rattle.formats.specs.declared.Reading.the-variants.{Good, Bad}
+
+-- the refusal of a line as it reads: a bad line is refusal 9, and a good one is not refused (01, Lines: all else is refusal 9)
+abbrev pub refusalOf : Reading → Option Refusal
+refusalOf (Good l job cell) = none
+refusalOf Bad = some BadLine
 
 -- a cell has one or two digits (01, Lines)
 abbrev pub lastCell : ℕ
@@ -20,6 +28,11 @@ lastCell = 99
 -- whether a byte is a digit
 unfoldable pub isDigit : ℕ → Bool
 isDigit b = leb 48 b && leb b 57
+
+-- whether a text has digits only
+unfoldable pub digitsOnly : List ℕ → Bool
+digitsOnly [] = true
+digitsOnly (b ∷ t) = isDigit b && digitsOnly t
 
 -- the digits that a text begins with
 unfoldable pub digitsOf : List ℕ → List ℕ

@@ -1,6 +1,6 @@
 -- The verdict's line has at most 1,028 bytes: seven of the word, four for each of 255 jobs, and the newline (01, The judge's rules).
 -- Assumes nothing.
-use Prim.Native.Nat.{ℕ, _+_, _*_, _≤_}
+use Prim.Native.Nat.{ℕ, suc, _+_, _*_, _≤_}
 use mathlib.Core.Path.{_≡_, refl, sym, ap, _∙_, subst}
 use mathlib.Core.Bool.{true}
 use mathlib.Core.List.{List, [], _∷_}
@@ -14,18 +14,20 @@ use lib.Seq.{take-append-seam}
 use Rattle.laws.specs.Choice.{by-test}
 use Rattle.laws.specs.Lists.{member, distinct}
 use Rattle.laws.proofs.Lists.{member-first, member-more}
+use Rattle.terms.specs.declared.refusals.Refusal.{Refusal}
 use Rattle.terms.specs.declared.refusals.Refusal.the-variants.{TooLong}
 use Rattle.terms.specs.declared.words.Word as word
 use Rattle.terms.specs.declared.words.Word.{Word}
-use Rattle.terms.specs.Limits.{judgedJobs, judgedBytes}
+use Rattle.terms.specs.Limits.{judgedJobs, judgedLines, judgedBytes}
 use Rattle.terms.specs.Refusals.{numberOf}
 use Rattle.terms.specs.Words.{tab}
+use Rattle.terms.proofs.Numbers.{one-to-sixteen}
 use Rattle.conflict.specs.History.{isCommit, marked}
 use Rattle.formats.specs.declared.Written.the-variants.{Next}
 use Rattle.formats.specs.Decimal.{decimal}
 use Rattle.formats.specs.Records.{fits, told, left}
 use Rattle.formats.specs.Split.{linesOf}
-use Rattle.formats.proofs.DigitLaws.{decimal-at-most-20, digits-at-most}
+use Rattle.formats.proofs.DigitLaws.{digits-at-most}
 use Rattle.text.proofs.WordLaws.{word-at-most-7}
 use Rattle.formats.proofs.WriterLaws.{told-next, left-text}
 use Rattle.verdicts.specs.Judged as judged
@@ -36,6 +38,7 @@ use Rattle.verdicts.proofs.Deciding.{by-verdict}
 use Rattle.verdicts.proofs.FewJobs.{at-most-255, committed-within}
 use Rattle.verdicts.proofs.Histories.{jobs-committed, order-once, order-names, knot-shows}
 use Rattle.verdicts.proofs.LineFaults.{Tells, finds-fault}
+use Rattle.judge.proofs.FewLines.{number-few}
 use Rattle.runs.specs.Programs.{tabbed, wordLine, sayLine, judgedLine, verdictOf}
 use Rattle.reporter.proofs.WordLines.{word-line-length, two-numbers-length}
 
@@ -61,9 +64,11 @@ jobs-at-most : (w : Word) (js : List ℕ) → distinct js ≡ true → ((j : ℕ
 jobs-at-most w js once r =
     omega (arith, word-line-length w js, word-at-most-7 w, tabbed-at-most js (λ j m. r j m .1), at-most-255 js once r)
 
--- a line of the word no and two numbers of any size
-no-at-most : (a b : ℕ) → length (wordLine word.the-variants.No (a ∷ b ∷ [])) ≤ lineLimit
-no-at-most a b = omega (arith, two-numbers-length word.the-variants.No a b, decimal-at-most-20 a, decimal-at-most-20 b)
+-- a line of the word no, a line number up to 4,097 and a refusal
+no-at-most : (n : ℕ) (why : Refusal) → n ≤ suc judgedLines → length (wordLine word.the-variants.No (n ∷ numberOf why ∷ [])) ≤ lineLimit
+no-at-most n why h =
+    let r = one-to-sixteen why in
+    omega (arith, two-numbers-length word.the-variants.No n (numberOf why), digits-at-most 3 n (omega arith), digits-at-most 1 (numberOf why) (omega arith))
 
 -- the jobs that fill the first places of a buffer stand there
 filled-first : (js buffer : List ℕ) → take (length js) (filled js buffer) ≡ js
@@ -98,7 +103,7 @@ module _ (ls : List (List ℕ)) (e : firstFaulty 1 [] ls ≡ none) (buffer : Lis
 lines-at-most : (buffer : List ℕ) (ls : List (List ℕ)) (o : Option Faulty) → firstFaulty 1 [] ls ≡ o → let j = sayLines buffer ls o in length (sayLine (j .said) (j .order)) ≤ lineLimit
 unfolding sayLines sayLine
 lines-at-most buffer ls none e = said-at-most ls e buffer
-lines-at-most buffer ls (some f) e = no-at-most (f .number) (numberOf (f .why))
+lines-at-most buffer ls (some f) e = no-at-most (f .number) (f .why) (number-few 1 [] ls f (omega arith) e)
 
 -- the line on a text of any length, with an order buffer that is long enough
 buffer-at-most : (text buffer : List ℕ) → judgedJobs ≤ length buffer →
@@ -115,7 +120,7 @@ judged-at-most text = buffer-at-most text (replicate judgedJobs 0) (omega (arith
 pub verdict-at-most : (text : List ℕ) → length (verdictOf text) ≤ lineLimit
 unfolding verdictOf
 verdict-at-most text =
-    by-test (ltb judgedBytes (length text)) (λ t. rw t (no-at-most 0 (numberOf TooLong))) (λ f. rw f (judged-at-most text))
+    by-test (ltb judgedBytes (length text)) (λ t. rw t (no-at-most 0 TooLong (omega arith))) (λ f. rw f (judged-at-most text))
 
 -- so it fits into every buffer that has as many
 verdict-fits : (b text : List ℕ) → lineLimit ≤ length b → fits b 0 (verdictOf text) ≡ true

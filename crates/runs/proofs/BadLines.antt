@@ -4,6 +4,7 @@ use Prim.Native.Nat.{ℕ, _+_}
 use mathlib.Core.Path.{_≡_, refl, ap}
 use mathlib.Core.Logic.{_↔_}
 use mathlib.Core.List.{List, [], _∷_}
+use mathlib.Core.Option.{some}
 use native.Mathlib.Omega.{arith}
 use lib.Dec.{ltb}
 use borrow.Author.Tests.{ltb-true, ltb-false}
@@ -13,7 +14,7 @@ use Rattle.terms.specs.Letters.{byteOf, ofRequests}
 use Rattle.terms.specs.Limits.{requestLines}
 use Rattle.formats.specs.declared.Reading.{Reading}
 use Rattle.formats.specs.declared.Reading.the-variants.{Good, Bad}
-use Rattle.formats.specs.Lines.{readLine}
+use Rattle.formats.specs.Lines.{refusalOf, readLine}
 use Rattle.formats.specs.Split.{linesOf}
 use Rattle.rules.specs.declared.Answer.the-variants.{No}
 use Rattle.rules.specs.Desk.{Desk, freshDesk}
@@ -23,7 +24,7 @@ use Rattle.runs.specs.Programs.{onPaper, firstNumber, runOn}
 use Rattle.runs.specs.LinesTold.{LinesTold, no-line, no-more, a-line}
 
 -- by what the line says: a step never answers 9
-answered-exactly : (d : Desk) (n : ℕ) (r : Reading) → (answered onPaper d n r .told .said ≡ No BadLine) ↔ (r ≡ Bad)
+answered-exactly : (d : Desk) (n : ℕ) (r : Reading) → (answered onPaper d n r .told .said ≡ No BadLine) ↔ (refusalOf r ≡ some BadLine)
 unfolding answered onPaper
 answered-exactly d n Bad = (λ _. refl, λ _. refl)
 answered-exactly d n (Good l job cell) = (
@@ -32,7 +33,7 @@ answered-exactly d n (Good l job cell) = (
 )
 
 -- a line is answered with 9 exactly where it is bad
-pub line-9-exactly : (d : Desk) (n : ℕ) (l : List ℕ) → (lineBy onPaper d n l .told .said ≡ No BadLine) ↔ (readLine ofRequests l ≡ Bad)
+pub line-9-exactly : (d : Desk) (n : ℕ) (l : List ℕ) → (lineBy onPaper d n l .told .said ≡ No BadLine) ↔ (refusalOf (readLine ofRequests l) ≡ some BadLine)
 unfolding lineBy
 line-9-exactly d n l = answered-exactly d n (readLine ofRequests l)
 

@@ -1,12 +1,12 @@
 -- The verdict program prints no, 0, 16 exactly for a text longer than 65,536 bytes, and of every text one line (01, The judge's rules; 01, refusal 16).
 -- Assumes nothing.
-use Prim.Native.Nat.{ℕ, zero, suc, _≤_, _<_}
+use Prim.Native.Nat.{ℕ, _<_}
 use mathlib.Core.Path.{_≡_, refl, sym, ap, _∙_}
 use mathlib.Core.Logic.{_↔_}
 use mathlib.Core.Bool.{true, false}
 use mathlib.Core.List.{List, [], _∷_, _++_}
 use native.Mathlib.Omega.{arith}
-use borrow.Author.Tests.{lt-ltb, ltb-true, ltb-false, eqb-false, not-true}
+use borrow.Author.Tests.{lt-ltb, ltb-true, eqb-false, not-true}
 use lib.Dec.{eqb, ltb}
 use lib.ListN.{length, getD, take, replicate, length-replicate}
 use Rattle.laws.specs.Choice.{by-test}
@@ -19,15 +19,14 @@ use Rattle.terms.specs.Refusals.{numberOf}
 use Rattle.terms.specs.Words.{tab, newline, spelt}
 use Rattle.formats.specs.Lines.{shortest, valueFrom}
 use Rattle.formats.specs.Decimal.{decimal}
-use Rattle.formats.specs.Split.{inFront, linesOf}
 use Rattle.formats.proofs.DigitLaws.{decimal-0}
-use Rattle.formats.proofs.DecimalLaws.{tens, decimal-digits, decimal-shortest, decimal-value}
+use Rattle.formats.proofs.DecimalLaws.{decimal-digits, decimal-shortest, decimal-value}
 use Rattle.verdicts.specs.declared.verdict.Verdict.{Verdict}
 use Rattle.verdicts.specs.declared.verdict.Verdict.the-variants.{Orderly as is-orderly, Knot as is-knot, No as is-refused}
 use Rattle.verdicts.specs.Answers.{noNewline}
 use Rattle.verdicts.specs.Judgement.{judgementOf}
 use Rattle.verdicts.proofs.RecordLines.{digits-plain, plain-append}
-use Rattle.verdicts.proofs.Refusing.{short-exactly, line-0-short, refused-exactly}
+use Rattle.verdicts.proofs.Refusing.{short-exactly, line-0-short}
 use Rattle.runs.specs.Programs.{tabbed, wordLine, sayLine, judgedLine, verdictOf}
 use Rattle.runs.specs.VerdictLine.{OneLine}
 
@@ -64,30 +63,18 @@ said-one-line (is-orderly n) order = word-one-line Orderly (take n order)
 said-one-line (is-knot n) order = word-one-line Knot (take n order)
 said-one-line (is-refused line why) order = word-one-line No (line ∷ numberOf why ∷ [])
 
--- a text has no more lines than bytes
-lines-at-most : (t : List ℕ) → length (linesOf t) ≤ length t
-unfolding linesOf inFront
-lines-at-most [] = omega arith
-lines-at-most (b ∷ t) =
-    let ih = lines-at-most t in
-    by-test (eqb b newline) (λ e. rw e (omega arith)) (λ e. rw e (front (linesOf t) ih))
-  where
-    front : (ls : List (List ℕ)) → length ls ≤ length t → length (inFront b ls) ≤ suc (length t)
-    front [] h = omega arith
-    front (l ∷ ls) h = omega arith
-
 -- digits that begin with 0 and are shortest are the single 0
-zero-alone : (n : ℕ) (ds rest more : List ℕ) → n < tens 20 → decimal n ≡ ds → getD ((ds ++ tab ∷ rest) ++ more) 0 0 ≡ 48 → n ≡ 0
-zero-alone n [] rest more l e h = absurd (omega arith)
-zero-alone n (d ∷ []) rest more l e h = sym (decimal-value n l) ∙ ap (valueFrom 0) e ∙ (unfold valueFrom in omega arith)
-zero-alone n (d ∷ c ∷ ds) rest more l e h =
-    absurd (eqb-false d 48 (not-true (eqb d 48) (unfold shortest in sym (ap shortest e) ∙ decimal-shortest n l)) h)
+zero-alone : (n : ℕ) (ds rest more : List ℕ) → decimal n ≡ ds → getD ((ds ++ tab ∷ rest) ++ more) 0 0 ≡ 48 → n ≡ 0
+zero-alone n [] rest more e h = absurd (omega arith)
+zero-alone n (d ∷ []) rest more e h = sym (decimal-value n) ∙ ap (valueFrom 0) e ∙ (unfold valueFrom in omega arith)
+zero-alone n (d ∷ c ∷ ds) rest more e h =
+    absurd (eqb-false d 48 (not-true (eqb d 48) (unfold shortest in sym (ap shortest e) ∙ decimal-shortest n)) h)
 
 -- a refusal that is printed as no, 0, 16 has line number 0
-printed-line-0 : (n m : ℕ) → n < tens 20 → wordLine No (n ∷ m ∷ []) ≡ wordLine No (0 ∷ 16 ∷ []) → n ≡ 0
+printed-line-0 : (n m : ℕ) → wordLine No (n ∷ m ∷ []) ≡ wordLine No (0 ∷ 16 ∷ []) → n ≡ 0
 unfolding wordLine tabbed
-printed-line-0 n m l e =
-    zero-alone n (decimal n) (decimal m ++ []) (newline ∷ []) l refl
+printed-line-0 n m e =
+    zero-alone n (decimal n) (decimal m ++ []) (newline ∷ []) refl
     (ap (λ t. getD t 3 0) e ∙ ap (λ ds. getD ((ds ++ tab ∷ (decimal 16 ++ [])) ++ newline ∷ []) 0 0) decimal-0)
 
 -- another word is printed otherwise
@@ -95,26 +82,20 @@ other-word : (w : Word) (ns : List ℕ) → wordLine w ns ≡ wordLine No (0 ∷
 unfolding wordLine
 other-word w ns e n = eqb-false (getD (wordLine w ns) 0 0) 110 n (ap (λ t. getD t 0 0) e)
 
-module _ (text : List ℕ) (few : length text ≤ judgedBytes) where
-  -- a refusal of the judge, with the program's buffer, has a line number from 1 on, and no more than there are bytes
-  refused-line : (n : ℕ) (why : Refusal) → judgementOf text (replicate judgedJobs 0) .said ≡ is-refused n why → (1 ≤ n) × (n < tens 20)
-  refused-line zero why e =
-      let h = short-exactly text (replicate judgedJobs 0) .0 (e ∙ ap (is-refused 0) (line-0-short text (replicate judgedJobs 0) why e)) in
-      absurd (omega (arith, length-replicate {A = ℕ} judgedJobs 0))
-  refused-line (suc n) why e =
-      let f = refused-exactly text (replicate judgedJobs 0) (suc n) why (omega arith) .0 e .1 in
-      (omega arith, omega (arith, f .to, lines-at-most text))
+module _ (text : List ℕ) where
+  -- no refusal of the judge has line number 0 with the program's buffer
+  refused-line : (n : ℕ) (why : Refusal) → judgementOf text (replicate judgedJobs 0) .said ≡ is-refused n why → n ≡ 0 → ⊥
+  refused-line n why e z =
+      let l : judgementOf text (replicate judgedJobs 0) .said ≡ is-refused 0 why = rw z at e in
+      let h = short-exactly text (replicate judgedJobs 0) .0 (l ∙ ap (is-refused 0) (line-0-short text (replicate judgedJobs 0) why l)) in
+      omega (arith, length-replicate {A = ℕ} judgedJobs 0)
 
-  -- so what is printed of such a text is not no, 0, 16
+  -- so what is printed of its verdict is not no, 0, 16
   not-16 : (v : Verdict) (order : List ℕ) → judgementOf text (replicate judgedJobs 0) .said ≡ v → sayLine v order ≡ wordLine No (0 ∷ 16 ∷ []) → ⊥
   unfolding sayLine wordLine
   not-16 (is-orderly n) order e p = other-word Orderly (take n order) p refl
   not-16 (is-knot n) order e p = other-word Knot (take n order) p refl
-  not-16 (is-refused n why) order e p =
-      let b = refused-line n why e in
-      let one = b .0 in
-      let z = printed-line-0 n (numberOf why) (b .1) p in
-      omega arith
+  not-16 (is-refused n why) order e p = refused-line n why e (printed-line-0 n (numberOf why) p)
 
 -- SIXTEEN EXACTLY FOR A LONGER TEXT: no, 0, 16 is printed of a text exactly where it has more than 65,536 bytes
 pub too-long-exactly : (text : List ℕ) → (verdictOf text ≡ wordLine No (0 ∷ 16 ∷ [])) ↔ (65_536 < length text)
@@ -125,7 +106,7 @@ too-long-exactly text = (printed, λ h. rw (lt-ltb judgedBytes (length text) h))
     printed e =
         let j = judgementOf text (replicate judgedJobs 0) in
         by-test (ltb judgedBytes (length text)) (λ t. ltb-true judgedBytes (length text) t)
-        (λ f. absurd (not-16 text (ltb-false judgedBytes (length text) f) (j .said) (j .order) refl (rw f at e)))
+        (λ f. absurd (not-16 text (j .said) (j .order) refl (rw f at e)))
 
 -- ONE LINE: what the verdict program prints has one newline, at its end
 pub verdict-one-line : (text : List ℕ) → OneLine (verdictOf text)

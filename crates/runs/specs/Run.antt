@@ -1,19 +1,19 @@
 -- The run of a desk over lines of text: one definition, of which the answers and the history are two views (01, Lines).
-use Prim.Native.Nat.{ℕ, zero, suc, _+_}
-use mathlib.Core.Bool.{Bool}
+use Prim.Native.Nat.{ℕ, _+_}
 use mathlib.Core.List.{List, [], _∷_, _++_}
+use mathlib.Core.Option.{Option, none, some}
 use lib.Dec.{ltb}
 use Rattle.laws.specs.Choice.{pick}
 use Rattle.terms.specs.declared.words.Word.{Word}
 use Rattle.terms.specs.declared.words.Word.the-variants.{Go, Wait, Back, No, Wake}
-use Rattle.terms.specs.declared.refusals.Refusal.the-variants.{BadLine}
+use Rattle.terms.specs.declared.refusals.Refusal.{Refusal}
 use Rattle.terms.specs.Letters.{byteOf, ofRequests}
 use Rattle.terms.specs.Refusals.{numberOf}
 use Rattle.terms.specs.Limits.{requestLines}
 use Rattle.conflict.specs.declared.action.Action.{Action}
 use Rattle.formats.specs.declared.Reading.{Reading}
 use Rattle.formats.specs.declared.Reading.the-variants.{Good, Bad}
-use Rattle.formats.specs.Lines.{readLine}
+use Rattle.formats.specs.Lines.{refusalOf, readLine}
 use Rattle.formats.specs.Records.{answerRecord}
 use Rattle.rules.specs.declared.Answer.{Answer}
 use Rattle.rules.specs.declared.Answer.the-variants.{Go as goes, Wait as waits, Back as back, No as refuses}
@@ -47,13 +47,19 @@ pub record Lined (S : Type 0) : Type 0 where
   pub desk : S
   pub told : Told
 
--- a bad line is answered by refusal 9, and the desk does not see it; a good one is a step
+-- the request that a line says; a bad line says none
+abbrev pub requestIn : Reading → Request
+requestIn Bad = noRequest
+requestIn (Good l job cell) = record { kind = byteOf l; job = job; cell = cell }
+
+-- a line that the reader refuses is answered by that refusal, and the desk does not see it; any other is a step
+abbrev pub answeredBy : {S : Type 0} → Stepping S → S → ℕ → Request → Option Refusal → Lined S
+answeredBy step d n r (some why) = record { desk = d; told = record { line = n; request = r; said = refuses why; wakes = [] } }
+answeredBy step d n r none = let o = step d r in record { desk = o .desk; told = record { line = n; request = r; said = o .said; wakes = o .wakes } }
+
+-- a line is answered as it reads: refusal 9 where it is bad, and else a step
 unfoldable pub answered : {S : Type 0} → Stepping S → S → ℕ → Reading → Lined S
-answered step d n Bad = record { desk = d; told = record { line = n; request = noRequest; said = refuses BadLine; wakes = [] } }
-answered step d n (Good l job cell) =
-    let r : Request = record { kind = byteOf l; job = job; cell = cell } in
-    let o = step d r in
-    record { desk = o .desk; told = record { line = n; request = r; said = o .said; wakes = o .wakes } }
+answered step d n r = answeredBy step d n (requestIn r) (refusalOf r)
 
 -- line n answered
 unfoldable pub lineBy : {S : Type 0} → Stepping S → S → ℕ → List ℕ → Lined S

@@ -16,11 +16,11 @@ use Rattle.terms.specs.Words.{newline}
 use Rattle.conflict.specs.declared.action.Event.{Event}
 use Rattle.conflict.specs.declared.action.Event.the-variants.{Does, Ends}
 use Rattle.conflict.specs.History.{History}
-use Rattle.formats.specs.Lines.{isDigit}
+use Rattle.formats.specs.Lines.{isDigit, digitsOnly}
 use Rattle.formats.specs.Decimal.{decimal}
 use Rattle.formats.specs.Records.{field, lineRecord}
 use Rattle.formats.specs.Split.{linesOf, joined, oneLine, hasNewline, every}
-use Rattle.formats.proofs.DecimalLaws.{digitsOnly, decimal-digits}
+use Rattle.formats.proofs.DecimalLaws.{decimal-digits}
 use Rattle.formats.proofs.TextLines.{lines-only}
 use Rattle.verdicts.specs.Answers.{noNewline}
 use Rattle.verdicts.specs.Written.{askBy, markLetter, eventLine, textOf}

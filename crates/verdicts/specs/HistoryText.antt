@@ -9,7 +9,7 @@ use Rattle.laws.specs.Lists.{member}
 use Rattle.terms.specs.declared.letters.Letter.{Letter}
 use Rattle.terms.specs.declared.letters.Letter.the-variants.{Begin, Commit, GiveUp, Retry, Back, Asks}
 use Rattle.terms.specs.declared.refusals.Refusal.{Refusal}
-use Rattle.terms.specs.declared.refusals.Refusal.the-variants.{BadLine, CellAbove, TooManyLines, JobOutside, Ended}
+use Rattle.terms.specs.declared.refusals.Refusal.the-variants.{CellAbove, TooManyLines, JobOutside, Ended}
 use Rattle.terms.specs.Letters.{ofHistories, hasCell}
 use Rattle.terms.specs.Limits.{cells, judgedJobs, judgedLines}
 use Rattle.terms.specs.Words.{newline}
@@ -20,7 +20,7 @@ use Rattle.conflict.specs.Modes.{recorded}
 use Rattle.conflict.specs.History.{History}
 use Rattle.formats.specs.declared.Reading.{Reading}
 use Rattle.formats.specs.declared.Reading.the-variants.{Good, Bad}
-use Rattle.formats.specs.Lines.{readLine}
+use Rattle.formats.specs.Lines.{refusalOf, readLine}
 use Rattle.formats.specs.Split.{linesOf}
 
 -- the fault of a good line, given the jobs that have committed or given up: 12, then 2, then 13 (01, Refusals by number)
@@ -29,9 +29,9 @@ faultOfGood ended l job cell =
     pick (eqb job 0 || ltb judgedJobs job) (some JobOutside)
     (pick (hasCell l && leb cells cell) (some CellAbove) (pick (member job ended) (some Ended) none))
 
--- the fault of a line as it reads: 9 where it is bad
+-- the fault of a line as it reads: 9 where it is bad, as the reader has it
 unfoldable pub faultOf : List ℕ → Reading → Option Refusal
-faultOf ended Bad = some BadLine
+faultOf ended Bad = refusalOf Bad
 faultOf ended (Good l job cell) = faultOfGood ended l job cell
 
 -- the fault of line n: 11 where it is line 4,097, before anything else on it

@@ -17,10 +17,10 @@ width-requires-2 : tie.Need-width-requires-2
 width-requires-2 c κs = search needs
 
 add-if1 : tie.Need-add-if1
-add-if1 c = let s = c .before .before .before .args in omega (arith, decimal-at-most-20 (s .line), decimal-at-most-20 (s .number))
+add-if1 c = let s = c .before .before .before in omega (arith, decimal-at-most-20 (s .args .line) (s .fits .line .fits), decimal-at-most-20 (s .args .number) (s .fits .number .fits))
 
 add-if1-2 : tie.Need-add-if1-2
-add-if1-2 c = let s = c .before .before .before .args in omega (arith, decimal-at-most-20 (s .line), decimal-at-most-20 (s .number))
+add-if1-2 c = let s = c .before .before .before in omega (arith, decimal-at-most-20 (s .args .line) (s .fits .line .fits), decimal-at-most-20 (s .args .number) (s .fits .number .fits))
 
 put-word-requires : tie.Need-put-word-requires
 put-word-requires c κs = search needs

@@ -12,7 +12,7 @@ width-requires : tie.Need-width-requires
 width-requires c κs = search needs
 
 add-result : tie.Need-add-result
-add-result c = omega (arith, decimal-at-most-20 (c .before .before .args .n))
+add-result c = let s = c .before .before in omega (arith, decimal-at-most-20 (s .args .n) (s .fits .n .fits))
 
 returns : tie.Need-returns
 returns c = omega (arith, field-length _ (c .before .before .args .n) (c .before .if1 .taken))

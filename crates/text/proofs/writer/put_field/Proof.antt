@@ -55,7 +55,9 @@ put-number-requires c κs =
     )
 
 add-result : tie.Need-add-result
-add-result c = omega (arith, decimal-at-most-20 (c .before .before .before .before .before .before .args .n), c .before .before .put-number .ensures .ends)
+add-result c =
+    let s = c .before .before .before .before .before .before in
+    omega (arith, decimal-at-most-20 (s .args .n) (s .fits .n .fits), c .before .before .put-number .ensures .ends)
 
 same-length : tie.Need-same-length
 same-length c = wrote-length (numbered c)

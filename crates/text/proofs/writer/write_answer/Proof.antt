@@ -27,13 +27,13 @@ long c =
 -- it is short
 short : (c : tie.After-field-width) → c .before .width .result + c .before .before .spelled .result .len + c .field-width .result + 2 ≤ 50
 short c =
-    let s = c .before .before .before .before .args in
+    let s = c .before .before .before .before in
     omega (
       arith,
-      decimal-at-most-20 (s .line),
-      field-at-most-21 true (s .number),
-      word-at-most-7 (s .word),
-      spelling-length (c .before .before .spelled .result) (s .word) (c .before .before .spelled .ensures),
+      decimal-at-most-20 (s .args .line) (s .fits .line .fits),
+      field-at-most-21 true (s .args .number) (s .fits .number .fits),
+      word-at-most-7 (s .args .word),
+      spelling-length (c .before .before .spelled .result) (s .args .word) (c .before .before .spelled .ensures),
     )
 
 -- where the test holds, the record fits

@@ -33,8 +33,14 @@ long c =
 -- it is short
 short : (c : tie.After-field-width2) → c .before .before .field-width .result + c .field-width2 .result + 2 ≤ 44
 short c =
-    let s = c .before .before .before .before .before .args in
-    omega (arith, field-at-most-21 (hasJob (s .letter)) (s .job), field-at-most-21 (hasCell (s .letter)) (s .cell), second (c .before .before), third c)
+    let s = c .before .before .before .before .before in
+    omega (
+      arith,
+      field-at-most-21 (hasJob (s .args .letter)) (s .args .job) (s .fits .job .fits),
+      field-at-most-21 (hasCell (s .args .letter)) (s .args .cell) (s .fits .cell .fits),
+      second (c .before .before),
+      third c,
+    )
 
 -- where the test holds, the record fits
 fitting : (c : tie.Then1) → let s = c .before .before .before .before .before .before .before .args in s .at + length (lineRecord (s .letter) (s .job) (s .cell)) ≤ length (s .buf .now)
