@@ -1,7 +1,7 @@
 -- From what the scan tells and what is decided to the judgement: a short buffer, a faultless text, a faulty line.
 -- Assumes nothing.
-use Prim.Native.Nat.{ℕ, _-_, _≤_, _<_}
-use mathlib.Core.Path.{_≡_, refl, sym, _∙_, subst}
+use Prim.Native.Nat.{ℕ, _+_, _-_, _≤_, _<_}
+use mathlib.Core.Path.{_≡_, refl, sym, ap, _∙_, subst}
 use mathlib.Core.List.{List, []}
 use native.Mathlib.Omega.{arith}
 use borrow.Author.Tests.{lt-ltb, le-ltb}
@@ -9,19 +9,19 @@ use lib.ListN.{length, take, drop, getD}
 use Rattle.terms.specs.declared.refusals.Refusal.{Refusal}
 use Rattle.terms.specs.declared.refusals.Refusal.the-variants.{ShortOrder}
 use Rattle.terms.specs.Limits.{judgedJobs, judgedLines}
-use Rattle.formats.specs.Split.{linesOf}
+use Rattle.formats.specs.Split.{linesOf, joined}
 use Rattle.verdicts.specs.declared.verdict.Verdict.{Verdict}
 use Rattle.verdicts.specs.declared.verdict.Verdict.the-variants.{No}
 use Rattle.verdicts.specs.Judged.{orderly, knotted, verdictOf}
 use Rattle.verdicts.specs.Judged as verdicts
 use Rattle.verdicts.specs.Arrays.{historyBy}
 use Rattle.verdicts.specs.HistoryText.{firstFaulty}
-use Rattle.verdicts.specs.Judgement.{sayVerdict, sayLines, judgementOf}
+use Rattle.verdicts.specs.Judgement.{sayVerdict, sayLines, judgementOf, lineFrom}
 use Rattle.judge.specs.declared.scan.Scanned.{Scanned}
 use Rattle.judge.specs.declared.scan.Scanned.the-variants.{Faultless, Faulty}
 use Rattle.judge.specs.declared.entry.Judged.{Judged}
 use Rattle.judge.specs.Scanned.{Clean, Spoilt, ScannedAs}
-use Rattle.judge.specs.Judged.{Small, JudgedAs}
+use Rattle.judge.specs.Judged.{Small, JudgedAs, bytesOn}
 use Rattle.judge.proofs.SmallNumbers.{judgement-small}
 
 -- a buffer that is too short is refused first
@@ -40,6 +40,12 @@ unfolding sayVerdict
 no-line buffer (orderly order) = refl
 no-line buffer (knotted js) = refl
 
+-- and its part is at the text's start
+no-start : (text buffer : List ℕ) (v : verdicts.Verdict) → 0 ≡ lineFrom text (sayVerdict buffer v .said)
+unfolding sayVerdict lineFrom
+no-start text buffer (orderly order) = refl
+no-start text buffer (knotted js) = refl
+
 -- a faultless text is judged by the history that is kept of it
 clean-judgement : (text codes jobs cells buffer : List ℕ) (n : ℕ) → judgedJobs ≤ length buffer → Clean text codes jobs cells n →
     judgementOf text buffer ≡ sayVerdict buffer (verdictOf (historyBy codes jobs cells n))
@@ -56,6 +62,7 @@ spoilt-judgement text buffer number why from to h s =
 
 -- the judge finds a short buffer
 pub judged-short : (text buffer : List ℕ) → length buffer < judgedJobs → JudgedAs text buffer buffer (record { said = No 0 ShortOrder; from = 0; to = 0 })
+unfolding lineFrom joined
 judged-short text buffer h =
     let e = short-judgement text buffer h in
     record {
@@ -63,6 +70,7 @@ judged-short text buffer h =
       order-is = rw e;
       ordered = omega arith;
       within = omega arith;
+      starts = refl;
       place = rw e;
     }
 
@@ -87,12 +95,14 @@ module _ (text codes jobs cells buffer : List ℕ) (x : Scanned) (h : judgedJobs
         order-is = rw j q;
         ordered = omega arith;
         within = omega arith;
+        starts = no-start text buffer (verdictOf (historyBy codes jobs cells n)) ∙ ap (lineFrom text) (sym p);
         place = rw j (sym (no-line buffer (verdictOf (historyBy codes jobs cells n))));
       }
 
   -- the judge finds a faulty line
   pub judged-faulty : (number : ℕ) (why : Refusal) (from to : ℕ) → x ≡ Faulty number why from to →
       JudgedAs text buffer buffer (record { said = No number why; from = from; to = to })
+  unfolding lineFrom
   judged-faulty number why from to e =
       let f : Spoilt text number why from to = subst (ScannedAs text codes jobs cells) e s in
       let j = spoilt-judgement text buffer number why from to h f in
@@ -101,9 +111,17 @@ module _ (text codes jobs cells buffer : List ℕ) (x : Scanned) (h : judgedJobs
         order-is = rw j;
         ordered = f .ordered;
         within = f .within;
+        starts = f .behind;
         place = rw j;
       }
 
 -- what is found has small numbers
 pub judged-small : (text before after : List ℕ) (r : Judged) → JudgedAs text before after r → Small (r .said)
 judged-small text before after r j = subst Small (sym (j .said-is)) (judgement-small text before)
+
+-- the part that is cut at the place found stands where the line handed back starts
+pub part-starts : (place : ℕ × ℕ) (text before after : List ℕ) (r : Judged) → JudgedAs text before after r →
+    (place .0, r .from + place .1) ≡ bytesOn place (lineFrom text (judgementOf text before .said))
+part-starts place text before after r j =
+    let e : r .from ≡ lineFrom text (judgementOf text before .said) = j .starts ∙ ap (lineFrom text) (j .said-is) in
+    ap (λ (o : ℕ). (place .0, o)) (omega arith)

@@ -1,7 +1,9 @@
--- No second verdict, line, order buffer or answer meets the contract of the judge's entries.
+-- No second verdict, line, place of the line, order buffer or answer meets the contract of the judge's entries.
 -- Assumes nothing.
-use mathlib.Core.Path.{sym, _∙_}
-use denote.Ref.{now}
+use Prim.Native.Nat.{ℕ}
+use mathlib.Core.Path.{sym, ap₂, _∙_}
+use mathlib.Core.List.{List}
+use denote.Ref.{ptr, now}
 use Rattle.laws.specs.Unique.{UniqueLent, UniquePart}
 use Rattle.judge.proofs.entry.judge_text.Reads as judge-text
 use Rattle.judge.proofs.entry.judge_text.Kinds as judge-textK
@@ -12,6 +14,6 @@ use Rattle.judge.proofs.entry.judge.Kinds as judgeK
 pub judge-text-unique : UniqueLent judge-textK.ps judge-textK.r judge-text.Post (λ κs e. now (e .1 .0))
 judge-text-unique κs a x y e f p q = (p .0 ∙ sym (q .0), p .1 ∙ sym (q .1))
 
--- the line handed back, what the order buffer then holds, and the answer
-pub judge-unique : UniquePart judgeK.ps judgeK.r judge.Post (λ κs x. now x) (λ κs e. now (e .1 .0)) (λ κs e. now (e .1 .1 .0))
-judge-unique κs a x y e f p q = (p .0 ∙ sym (q .0), p .1 ∙ sym (q .1), p .2 ∙ sym (q .2))
+-- the line handed back with its place, what the order buffer then holds, and the answer
+pub judge-unique : UniquePart judgeK.ps judgeK.r judge.Post {A = (ℕ × ℕ) × List ℕ} (λ κs x. (ptr x, now x)) (λ κs e. now (e .1 .0)) (λ κs e. now (e .1 .1 .0))
+judge-unique κs a x y e f p q = (ap₂ (λ (s : ℕ × ℕ) (t : List ℕ). (s, t)) (p .1 ∙ sym (q .1)) (p .0 ∙ sym (q .0)), p .2 ∙ sym (q .2), p .3 ∙ sym (q .3))

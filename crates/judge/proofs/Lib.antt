@@ -9,3 +9,4 @@ pub mod Handing
 pub mod KeptClean
 pub mod Numbered
 pub mod JudgeUnique
+pub mod PastLines

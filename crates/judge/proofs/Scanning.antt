@@ -8,6 +8,7 @@ use mathlib.Core.Option.{none, some}
 use native.Mathlib.Numerals.{add-one}
 use native.Mathlib.Omega.{arith}
 use lib.ListN.{length, getD, set, drop, replicate, length-set, length-drop, getD-replicate, length-replicate, drop-of-length-le}
+use lib.Seq.{length-take-le}
 use Rattle.laws.specs.Lists.{member}
 use Rattle.terms.specs.declared.refusals.Refusal.{Refusal}
 use Rattle.terms.specs.Letters.{ofHistories}
@@ -24,6 +25,7 @@ use Rattle.judge.specs.declared.scan.Looked.the-variants.{Kept, Refused}
 use Rattle.judge.specs.Looked.{endsJob, lookedAt}
 use Rattle.judge.specs.Scanned.{bareEnd, Flagged, Clean, Spoilt}
 use Rattle.judge.proofs.BareLine.{part, bare-place}
+use Rattle.judge.proofs.PastLines.{Past, past-none, past-more, past-place}
 use Rattle.judge.proofs.Looking.{refused-fault, kept-fault}
 use Rattle.judge.proofs.Keeping.{kept-as}
 use Rattle.judge.proofs.KeptArrays.{history-more, named-more}
@@ -38,6 +40,7 @@ pub record Scanning (text codes jobs cells : List ℕ) (flags : List Bool) (n fr
   pub goes-on : firstFaulty (n + 1) ended (linesOf (drop from text)) ≡ firstFaulty 1 [] (linesOf text)
   pub says : historyBy codes jobs cells n ++ eventsIn (linesOf (drop from text)) ≡ eventsIn (linesOf text)
   pub named : (p : ℕ) → p < n → getD jobs p 0 ≡ 0 → ⊥
+  pub past : Past text n from
 
 -- before the first line
 pub scanning-starts : (text codes jobs cells : List ℕ) → length codes ≡ judgedLines → length jobs ≡ judgedLines → length cells ≡ judgedLines →
@@ -53,6 +56,7 @@ scanning-starts text codes jobs cells h g k =
       goes-on = refl;
       says = refl;
       named = λ p m. absurd (omega arith);
+      past = past-none text;
     }
 
 -- a line without a fault leaves the deciding to the lines after it
@@ -98,6 +102,12 @@ line-falls text from to h e =
 pub line-some : (text : List ℕ) (from to : ℕ) → from < length text → to ≡ from + used (drop from text) → 0 < to
 line-some text from to h e = omega (arith, line-falls text from to h e)
 
+-- and it ends so many bytes on as it has
+line-long : (text : List ℕ) (from to : ℕ) → from < length text → to ≡ from + used (drop from text) → from + length (part text from to) ≡ to
+line-long text from to h e =
+    let m : to - from ≤ length (drop from text) = omega (arith, used-within (drop from text)) in
+    omega (arith, length-take-le (to - from) (drop from text) m)
+
 -- the next line says one event, and then the others say theirs
 next-event : (l : List ℕ) (ls : List (List ℕ)) (v : Event) → eventOf (readLine ofHistories l) ≡ v ∷ [] → eventsIn (l ∷ ls) ≡ v ∷ eventsIn ls
 unfolding eventsIn
@@ -125,6 +135,7 @@ module _ (text codes jobs cells : List ℕ) (flags : List Bool) (n from to : ℕ
             (ap (λ g. historyBy codes jobs cells n ++ g) (sym (next-event (part text from to) (linesOf (drop to text)) (eventBy code job cell) (k .event)))
             ∙ rw (← next-line text from to h e) (s .says));
         named = named-more jobs n job (omega arith) (k .some-job) (s .named);
+        past = past-more text n from to (part text from to) (s .past) (next-line text from to h e) (line-long text from to h e);
       }
 
   -- there is room for it
@@ -145,4 +156,5 @@ module _ (text codes jobs cells : List ℕ) (flags : List Bool) (n from to : ℕ
         ordered = rw r (p .from-on);
         within = rw r (p .within);
         place = rw r (p .place);
+        behind = past-place text n from (s .past);
       }

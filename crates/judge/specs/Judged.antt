@@ -1,11 +1,11 @@
 -- What the judge finds before it is handed out: the judgement, with the place of the line handed back in the text (01, Lines).
-use Prim.Native.Nat.{ℕ, _-_, _^_, _≤_, _<_}
+use Prim.Native.Nat.{ℕ, _+_, _-_, _^_, _≤_, _<_}
 use mathlib.Core.Path.{_≡_}
 use mathlib.Core.List.{List}
 use lib.ListN.{length, take, drop}
 use Rattle.verdicts.specs.declared.verdict.Verdict.{Verdict}
 use Rattle.verdicts.specs.declared.verdict.Verdict.the-variants.{Orderly, Knot, No}
-use Rattle.verdicts.specs.Judgement.{judgementOf}
+use Rattle.verdicts.specs.Judgement.{judgementOf, lineFrom}
 use Rattle.judge.specs.declared.entry.Judged.{Judged}
 
 -- the numbers of a verdict are small enough for three places of 32 bits
@@ -20,4 +20,9 @@ pub record JudgedAs (text before after : List ℕ) (r : Judged) : Type 0 where
   pub order-is : after ≡ judgementOf text before .order
   pub ordered : r .from ≤ r .to
   pub within : r .to ≤ length text
+  pub starts : r .from ≡ lineFrom text (r .said)
   pub place : take (r .to - r .from) (drop (r .from) text) ≡ judgementOf text before .line
+
+-- the place so many bytes on from a place in memory: the same block, and that much further in it; a lent text stands at the place of its first byte
+abbrev pub bytesOn : ℕ × ℕ → ℕ → ℕ × ℕ
+bytesOn place n = (place .0, place .1 + n)

@@ -11,8 +11,9 @@ use Rattle.laws.specs.Lists.{member}
 use Rattle.terms.specs.declared.refusals.Refusal.{Refusal}
 use Rattle.terms.specs.Words.{newline}
 use Rattle.terms.specs.Limits.{judgedLines}
-use Rattle.formats.specs.Split.{linesOf}
+use Rattle.formats.specs.Split.{linesOf, joined}
 use Rattle.verdicts.specs.HistoryText.{firstFaulty, eventsIn, bare}
+use Rattle.verdicts.specs.LineTable.{linesBefore}
 use Rattle.verdicts.specs.Arrays.{historyBy}
 use Rattle.judge.specs.declared.scan.Scanned.{Scanned}
 use Rattle.judge.specs.declared.scan.Scanned.the-variants.{Faultless, Faulty}
@@ -39,6 +40,7 @@ pub record Spoilt (text : List ℕ) (number : ℕ) (why : Refusal) (from to : �
   pub ordered : from ≤ to
   pub within : to ≤ length text
   pub place : take (to - from) (drop from text) ≡ bare line
+  pub behind : from ≡ length (joined (linesBefore (linesOf text) number))
 
 -- what is told of a text, with the arrays beside it
 abbrev pub ScannedAs : List ℕ → List ℕ → List ℕ → List ℕ → Scanned → Type 0

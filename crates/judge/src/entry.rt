@@ -8,8 +8,9 @@ use terms::refusals::Refusal;
 use terms::refusals::number_of;
 use verdicts::verdict::Verdict;
 ghost use mathlib.Core.Path.{_≡_};
-ghost use Rattle.verdicts.specs.Judgement.{judgementOf, inNumbers};
-ghost use Rattle.judge.specs.Judged.{Small, JudgedAs};
+ghost use denote.Ref.{ptr};
+ghost use Rattle.verdicts.specs.Judgement.{judgementOf, lineFrom, inNumbers};
+ghost use Rattle.judge.specs.Judged.{Small, JudgedAs, bytesOn};
 
 // What is said, and where in the text the line handed back stands; at the text's start and empty where no line is.
 struct Judged {
@@ -77,9 +78,9 @@ pub fn judge_text(text: &[u8], order: &mut [u8]) -> Verdict
     found.said
 }
 
-// The same with the verdict in three numbers, and the faulty line handed back as it stands in the text, without its newline; an empty part where none is faulty.
+// The same with the verdict in three numbers, and the faulty line handed back as it stands in the text, without its newline, behind the lines before it; an empty part at the text's start where none is faulty.
 pub fn judge<'a>(text: &'a [u8], order: &mut [u8], answer: &mut [u32; 3]) -> &'a [u8]
-    ensures { λ r. ⌜ (now r ≡ judgementOf (now (text .entry)) (now (order .entry)) .line) × (now (order .exit) ≡ judgementOf (now (text .entry)) (now (order .entry)) .order) × (now (answer .exit) ≡ inNumbers (judgementOf (now (text .entry)) (now (order .entry)) .said)) ⌝ }
+    ensures { λ r. ⌜ (now r ≡ judgementOf (now (text .entry)) (now (order .entry)) .line) × (ptr r ≡ bytesOn (ptr (text .entry)) (lineFrom (now (text .entry)) (judgementOf (now (text .entry)) (now (order .entry)) .said))) × (now (order .exit) ≡ judgementOf (now (text .entry)) (now (order .entry)) .order) × (now (answer .exit) ≡ inNumbers (judgementOf (now (text .entry)) (now (order .entry)) .said)) ⌝ }
 {
     let found = judgement(text, order);
     let said = found.said;

@@ -6,8 +6,8 @@ use mathlib.Core.Bool.{true, false, not}
 use mathlib.Core.List.{List, [], _∷_, _++_, append-assoc, append-nil}
 use native.Mathlib.Omega.{arith}
 use lib.Dec.{eqb}
-use lib.ListN.{length, drop, getD}
-use lib.Seq.{split-at}
+use lib.ListN.{length, take, drop, getD}
+use lib.Seq.{split-at, take-append-seam, drop-append-seam}
 use borrow.Author.Tests.{eqb-true, not-true}
 use Rattle.laws.specs.Choice.{by-test, not-both}
 use Rattle.laws.proofs.Parts.{and-first, and-second}
@@ -20,7 +20,7 @@ use Rattle.verdicts.specs.Answers.{noNewline, NewlineOff, Stands}
 use Rattle.verdicts.specs.Answers.NewlineOff.{taken-off, lacks-it}
 
 -- lines one after another, in two parts
-joined-append : (ls ms : List (List ℕ)) → joined (ls ++ ms) ≡ joined ls ++ joined ms
+pub joined-append : (ls ms : List (List ℕ)) → joined (ls ++ ms) ≡ joined ls ++ joined ms
 unfolding joined
 joined-append [] ms = refl
 joined-append (l ∷ ls) ms = ap (λ t. l ++ t) (joined-append ls ms) ∙ sym (append-assoc l (joined ls) (joined ms))
@@ -105,3 +105,10 @@ bare-stands text n a b =
 -- no other bytes are line n as it stands in the text without its newline
 pub stands-only : (text : List ℕ) (n : ℕ) (bytes : List ℕ) → Stands text n bytes → bytes ≡ bare (lineAt (linesOf text) n)
 stands-only text n bytes s = off-only (lineAt (linesOf text) n) bytes (s .whole) (s .one)
+
+-- the bytes from behind the lines before it on, as many as it has, are the line
+pub stands-behind : (text : List ℕ) (n : ℕ) (bytes : List ℕ) → Stands text n bytes → take (length bytes) (drop (length (joined (linesBefore (linesOf text) n))) text) ≡ bytes
+stands-behind text n bytes s =
+    let before : List ℕ = joined (linesBefore (linesOf text) n) in
+    let e : drop (length before) text ≡ bytes ++ s .rest = ap (drop (length before)) (s .place ∙ append-assoc before bytes (s .rest)) ∙ drop-append-seam before (bytes ++ s .rest) in
+    ap (take (length bytes)) e ∙ take-append-seam bytes (s .rest)

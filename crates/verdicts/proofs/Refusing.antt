@@ -7,7 +7,7 @@ use mathlib.Core.Bool.{Bool, true}
 use mathlib.Core.List.{List, [], _∷_}
 use mathlib.Core.Option.{some}
 use native.Mathlib.Omega.{arith}
-use lib.ListN.{length}
+use lib.ListN.{length, take, drop}
 use Rattle.laws.specs.Choice.{by-test}
 use Rattle.terms.specs.declared.refusals.Refusal.{Refusal}
 use Rattle.terms.specs.declared.refusals.Refusal.the-variants.{ShortOrder}
@@ -16,13 +16,13 @@ use Rattle.terms.specs.Limits.{judgedJobs}
 use Rattle.formats.specs.Lines.{readLine}
 use Rattle.formats.specs.Split.{linesOf}
 use Rattle.verdicts.specs.declared.verdict.Verdict.the-variants.{No}
-use Rattle.verdicts.specs.Judgement.{Judgement, judgementOf}
+use Rattle.verdicts.specs.Judgement.{Judgement, judgementOf, lineFrom}
 use Rattle.verdicts.specs.LineTable.{lineAt, linesBefore, holds, order, firstOf, tableSays, Due, FirstFault}
 use Rattle.verdicts.specs.Answers.{Stands, Answers}
 use Rattle.verdicts.specs.Answers.Answers.{short, faulty, in-order, in-knot}
 use Rattle.verdicts.proofs.Answering.{answers}
 use Rattle.verdicts.proofs.OneAnswer.{answers-exactly}
-use Rattle.verdicts.proofs.LineBack.{bare-stands}
+use Rattle.verdicts.proofs.LineBack.{bare-stands, stands-behind}
 
 module _ (text buffer : List ℕ) where
   -- a refusal said is 14 for a short buffer, or the one that is due for the first faulty line, handed back; the buffer stays
@@ -71,6 +71,18 @@ module _ (text buffer : List ℕ) where
   -- in all other answers, and for refusal 14, the part handed back is empty
   pub else-empty : ((n : ℕ) (why : Refusal) → 1 ≤ n → judgementOf text buffer .said ≡ No n why → ⊥) → judgementOf text buffer .line ≡ []
   else-empty other = no-line (judgementOf text buffer) (answers text buffer) other
+
+  -- an answer hands back the bytes from the line's place on
+  handed-there : (j : Judgement) → Answers text buffer j → take (length (j .line)) (drop (lineFrom text (j .said)) text) ≡ j .line
+  unfolding lineFrom
+  handed-there j (short h) = refl
+  handed-there j (faulty {n = n} {line = line} room f s) = stands-behind text n line s
+  handed-there j (in-order room all o) = refl
+  handed-there j (in-knot room all k) = refl
+
+  -- what is handed back is what stands at its place in the text
+  pub handed-from : take (length (judgementOf text buffer .line)) (drop (lineFrom text (judgementOf text buffer .said)) text) ≡ judgementOf text buffer .line
+  handed-from = handed-there (judgementOf text buffer) (answers text buffer)
 
   -- after a refusal the order buffer holds what it held
   pub refusal-keeps : (n : ℕ) (why : Refusal) → judgementOf text buffer .said ≡ No n why → judgementOf text buffer .order ≡ buffer

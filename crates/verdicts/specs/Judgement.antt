@@ -9,12 +9,13 @@ use Rattle.laws.specs.Choice.{pick}
 use Rattle.terms.specs.declared.refusals.Refusal.the-variants.{ShortOrder}
 use Rattle.terms.specs.Refusals.{numberOf}
 use Rattle.terms.specs.Limits.{judgedJobs}
-use Rattle.formats.specs.Split.{linesOf}
+use Rattle.formats.specs.Split.{linesOf, joined}
 use Rattle.verdicts.specs.declared.verdict.Verdict.{Verdict}
 use Rattle.verdicts.specs.declared.verdict.Verdict.the-variants.{Orderly, Knot, No}
 use Rattle.verdicts.specs.Judged.{orderly, knotted, verdictOf}
 use Rattle.verdicts.specs.Judged as judged
 use Rattle.verdicts.specs.HistoryText.{Faulty, firstFaulty, eventsIn, bare}
+use Rattle.verdicts.specs.LineTable.{linesBefore}
 
 -- what is said, what the buffer then holds, and the line handed back
 pub record Judgement : Type 0 where
@@ -41,6 +42,13 @@ unfoldable pub judgementOf : List ℕ → List ℕ → Judgement
 judgementOf text buffer =
     pick (ltb (length buffer) judgedJobs) (record { said = No 0 ShortOrder; order = buffer; line = [] })
     (sayLines buffer (linesOf text) (firstFaulty 1 [] (linesOf text)))
+
+-- where in the text the part handed back starts: with a refusal of a line behind all lines before it; in all other answers, and for 14, whose line number is 0,
+-- at the text's start (01, Lines: as it stands in the caller's text)
+unfoldable pub lineFrom : List ℕ → Verdict → ℕ
+lineFrom text (Orderly n) = 0
+lineFrom text (Knot n) = 0
+lineFrom text (No line why) = length (joined (linesBefore (linesOf text) line))
 
 -- the answer in three numbers: 0 orderly and 1 knot with the length, 2 a refusal with its number and its line number
 unfoldable pub inNumbers : Verdict → List ℕ

@@ -1,6 +1,6 @@
 -- `judge::entry::judge` meets its contract: the line's place is the judgement's, and the numbers are those of what is said.
 -- Assumes nothing.
-use Rattle.judge.proofs.Handing.{judged-small}
+use Rattle.judge.proofs.Handing.{judged-small, part-starts}
 use mathlib.Core.Path.{ap, _∙_}
 use Rattle.verdicts.specs.Judgement.{inNumbers}
 use borrow.Author.Needs.{needs}
@@ -28,7 +28,7 @@ same-length c = search needs
 returns : tie.Need-returns
 returns c =
     let j = c .before .before .before .before .judgement .ensures in
-    (j .place, j .order-is, c .before .in-numbers .ensures ∙ ap inNumbers (j .said-is))
+    (j .place, part-starts _ _ _ _ _ j, j .order-is, c .before .in-numbers .ensures ∙ ap inNumbers (j .said-is))
 
 pub judge-spec : {M : Type 1} → statement M
 judge-spec =
