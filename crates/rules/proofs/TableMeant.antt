@@ -1,12 +1,11 @@
 -- The step follows the refusal table: a walk through the letters and what the job is doing, made once (01, Refusals by number).
 -- Assumes nothing.
-use Prim.Native.Nat.{ℕ, _<_, _≤_}
+use Prim.Native.Nat.{ℕ}
 use mathlib.Core.Option.{Option, none, some}
 use mathlib.Core.Path.{_≡_, refl}
 use mathlib.Core.Bool.{Bool, true, false, not, _&&_}
-use lib.Dec.{ltb}
-use native.Mathlib.Omega.{arith}
-use borrow.Author.Tests.{ltb-true, ltb-false, lt-ltb, le-ltb}
+use lib.Dec.{ltb, leb}
+use borrow.Author.Tests.{ltb-true, ltb-false, lt-leb, le-leb}
 use Rattle.laws.specs.Choice.{pick, by-test}
 use Rattle.terms.specs.declared.letters.Ask.{Ask}
 use Rattle.terms.specs.declared.letters.Letter.the-variants.{Begin, Commit, GiveUp, Retry, Back, Asks}
@@ -76,9 +75,8 @@ retry-meant d j c (waiting c′ a) = refl
 retry-meant d j c sentback = goes j
 
 -- a cell is above 63 exactly where it is none of the 64
-above : (c : ℕ) → ltb 63 c ≡ not (ltb c cells)
-above c = by-test (ltb c cells) (λ t. rw t (le-ltb 63 c (let h : c < 64 = ltb-true c cells t in omega arith)))
-    (λ f. rw f (lt-ltb 63 c (let h : 64 ≤ c = ltb-false c cells f in omega arith)))
+above : (c : ℕ) → leb cells c ≡ not (ltb c cells)
+above c = by-test (ltb c cells) (λ t. rw t (lt-leb cells c (ltb-true c cells t))) (λ f. rw f (le-leb cells c (ltb-false c cells f)))
 
 -- a read, a write or an increment does what the table says
 ask-meant : (d : Desk) (j c : ℕ) (a : Ask) (s : Status) → Meant d j (dueBy d (Known (Asks a)) s c) (stepAsk d j c a s)
