@@ -60,7 +60,7 @@ module _ {d : Desk} {q : ℕ → List Waiter} (plain : Plain d) (v : Inv (paperO
       plain = record {
         numbers = length-set (d .number) (pos (d .number) 0) (d .next) ∙ plain .numbers;
         statuses = length-set (d .status) (pos (d .number) 0) runningCode ∙ plain .statuses;
-        cells = plain .cells;
+        waited = plain .waited;
         asks = plain .asks;
         modes = plain .modes;
         free-status = λ r l e. getD-set-other (d .status) (pos (d .number) 0) r runningCode 0 (other r e) ∙ plain .free-status r l (was r e);

@@ -46,7 +46,7 @@ module _ {d : Desk} (q : ℕ → List Waiter) (plain : Plain d) {j p : ℕ} (sea
     plain = record {
       numbers = plain .numbers;
       statuses = plain .statuses;
-      cells = plain .cells;
+      waited = plain .waited;
       asks = plain .asks;
       modes = length-set (d .held) (spot c p) (codeOf m) ∙ plain .modes;
       free-status = plain .free-status;
@@ -64,12 +64,12 @@ module _ {d : Desk} (q : ℕ → List Waiter) (plain : Plain d) {j p : ℕ} (sea
     next = refl;
     jobs = refl;
     stat = λ i. sym (at-number closed (d .number) (statusAt (d .status) (d .cell) (d .ask)) (statusAt (set (d .status) p waitingCode) (set (d .cell) p c) (set (d .ask) p (askCode a))) (waiting c a) seat
-        (λ r _. set-waiting (d .status) (d .cell) (d .ask) p c a (sized (d .status) (plain .statuses)) (sized (d .cell) (plain .cells)) (sized (d .ask) (plain .asks)) r) i);
+        (λ r _. set-waiting (d .status) (d .cell) (d .ask) p c a (sized (d .status) (plain .statuses)) (sized (d .cell) (plain .waited)) (sized (d .ask) (plain .asks)) r) i);
     held = λ e i. at-all (λ e r. r .held i ≡ modeBy d e i) (paperOf d q .row) c (record { held = modeBy d c; queue = line }) refl (λ e n. refl) e;
     plain = record {
       numbers = plain .numbers;
       statuses = length-set (d .status) p waitingCode ∙ plain .statuses;
-      cells = length-set (d .cell) p c ∙ plain .cells;
+      waited = length-set (d .cell) p c ∙ plain .waited;
       asks = length-set (d .ask) p (askCode a) ∙ plain .asks;
       modes = plain .modes;
       free-status = free-after waitingCode;
@@ -92,7 +92,7 @@ module _ {d : Desk} (q : ℕ → List Waiter) (plain : Plain d) {j p : ℕ} (sea
     plain = record {
       numbers = plain .numbers;
       statuses = length-set (d .status) p runningCode ∙ plain .statuses;
-      cells = plain .cells;
+      waited = plain .waited;
       asks = plain .asks;
       modes = plain .modes;
       free-status = free-after runningCode;

@@ -1,11 +1,12 @@
 -- Who is in a waiter's way, read off the arrays, is who is so on the paper's desk: a cell's waiters by age are its queue. So somebody always is, each is live and younger, they are at most 31, and waits never run in a circle (demand 3).
 -- Assumes nothing.
-use Prim.Native.Nat.{ℕ, _<_}
+use Prim.Native.Nat.{ℕ, _<_, _-_}
 use mathlib.Core.Path.{_≡_, refl, sym, subst, _∙_}
 use mathlib.Core.Logic.{_↔_}
 use mathlib.Core.Bool.{true, false}
 use native.Mathlib.Omega.{arith}
 use Rattle.terms.specs.declared.letters.Ask.{Ask}
+use Rattle.terms.specs.Limits.{places}
 use Rattle.conflict.specs.Modes.{isFree}
 use Rattle.conflict.specs.History.{History}
 use Rattle.rules.specs.Desk as paper
@@ -68,7 +69,7 @@ module _ {d : Desk} {h : History} (s : Started d h) (c j : ℕ) (a : Ask) (k : I
       subst (λ x. isLive x ≡ true) (t .stat i) (way-live (started-inv g) c (waiterOf j a) (t .stat j ∙ k) i (way-to t (started-inv g) c j a k i w))
 
   -- at most 31 jobs are in its way (demand 3)
-  pub desk-at-most-31 : AtMostInWay 31 d c j
+  pub desk-at-most-31 : AtMostInWay (places - 1) d c j
   desk-at-most-31 is o ways =
       let (D, g, t) = stands-for-paper s in
       at-most-31 g c (waiterOf j a) (t .stat j ∙ k) is o (λ i m. way-to t (started-inv g) c j a k i (ways i m))

@@ -51,9 +51,9 @@ module _ {d : Desk} {h : History} (s : Started d h) where
   desk-at-most-32 = by-desk s (λ D. length (table.openJobs D) ≤ places) (λ D. at-most-32) (λ q k. unfold table.openJobs in k)
 
   -- row 6 of the table as printed: no place is free exactly where 32 jobs are open
-  pub desk-row-6 : (l : Lettered) → allOpen l (d .number) ≡ (letterIs isBegin l && eqb (length (openJobs d)) 32)
+  pub desk-row-6 : (l : Lettered) → allOpen l (d .number) ≡ (letterIs isBegin l && eqb (length (openJobs d)) places)
   unfolding openJobs
-  desk-row-6 l = by-desk s (λ D. allOpen l (D .jobs) ≡ (letterIs isBegin l && eqb (length (table.openJobs D)) 32)) (λ D k. row-6 k l) (λ q k. unfold table.openJobs in k)
+  desk-row-6 l = by-desk s (λ D. allOpen l (D .jobs) ≡ (letterIs isBegin l && eqb (length (table.openJobs D)) places)) (λ D k. row-6 k l) (λ q k. unfold table.openJobs in k)
 
   -- row 3 of the table as printed: 0 never is open
   pub desk-row-3 : notOpen (statusBy d 0) ≡ true

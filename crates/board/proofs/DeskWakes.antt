@@ -1,6 +1,6 @@
 -- The wakes of the desk that runs: each waited for its cell with its kind, runs after the step and holds what it needs; none unless rule 4 ran; and nobody else's status, place or lock changes (01, rule 4; 01, The desk's rules).
 -- Assumes nothing.
-use Prim.Native.Nat.{ℕ, _≤_}
+use Prim.Native.Nat.{ℕ, _≤_, _-_}
 use mathlib.Core.Path.{_≡_, sym, ap, _∙_}
 use mathlib.Core.Logic.{_≢_, _⊎_, inl, inr}
 use mathlib.Core.Bool.{false}
@@ -8,6 +8,7 @@ use mathlib.Core.List.{[]}
 use lib.ListN.{length, getD}
 use Rattle.laws.specs.Lists.{member}
 use Rattle.terms.specs.Letters.{letterOf}
+use Rattle.terms.specs.Limits.{places}
 use Rattle.conflict.specs.declared.action.Action.{Action}
 use Rattle.conflict.specs.History.{History}
 use Rattle.rules.specs.Desk as paper
@@ -44,7 +45,7 @@ module _ {d : Desk} {h : History} (s : Started d h) (kind job c : ℕ) where
       })
 
   -- at most 31 are told, and nothing stands past them
-  pub desk-wakes-few : (stepOf d kind job c .said .count ≤ 31) × (length (wakesTold (stepOf d kind job c .said)) ≡ stepOf d kind job c .said .count) × ((q : ℕ) → stepOf d kind job c .said .count ≤ q → getD (stepOf d kind job c .said .wakes) q noAction ≡ noAction)
+  pub desk-wakes-few : (stepOf d kind job c .said .count ≤ places - 1) × (length (wakesTold (stepOf d kind job c .said)) ≡ stepOf d kind job c .said .count) × ((q : ℕ) → stepOf d kind job c .said .count ≤ q → getD (stepOf d kind job c .said .wakes) q noAction ≡ noAction)
   desk-wakes-few = let (D, g, t) = step-for-paper s kind job c in (t .few, ap length (t .wakes) ∙ sym (t .count), t .rest)
 
   -- nobody is woken but by a commit, a give-up or a sending back

@@ -58,7 +58,7 @@ module _ {d : Desk} {q : ℕ → List Waiter} (plain : Plain d) (v : Inv (paperO
     plain = record {
       numbers = plain .numbers;
       statuses = g .sound .statuses;
-      cells = plain .cells;
+      waited = plain .waited;
       asks = plain .asks;
       modes = g .sound .modes;
       free-status = g .sound .free-status;
@@ -105,7 +105,7 @@ module _ {d : Desk} {q : ℕ → List Waiter} (plain : Plain d) (v : Inv (paperO
     plain = record {
       numbers = length-set (d .number) p 0 ∙ plain .numbers;
       statuses = g .sound .statuses;
-      cells = plain .cells;
+      waited = plain .waited;
       asks = plain .asks;
       modes = g .sound .modes;
       free-status = freed-status s g modes;

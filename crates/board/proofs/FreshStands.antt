@@ -1,10 +1,10 @@
 -- A fresh desk's arrays stand for the fresh desk.
 -- Assumes nothing.
-use Prim.Native.Nat.{ℕ}
+use Prim.Native.Nat.{ℕ, _*_}
 use mathlib.Core.Path.{_≡_, refl, sym, ap, subst, _∙_}
 use mathlib.Core.Bool.{false}
 use lib.ListN.{replicate, length-replicate}
-use Rattle.terms.specs.Limits.{places}
+use Rattle.terms.specs.Limits.{places, cells}
 use Rattle.conflict.specs.declared.modes.Mode.the-variants.{Free}
 use Rattle.conflict.specs.Modes.{modeOf}
 use Rattle.conflict.proofs.CodeLaws.{mode-zero}
@@ -37,14 +37,14 @@ fresh-stands n = record {
   next = refl;
   jobs = refl;
   stat = λ j. sym (nobody-has closed (replicate places 0) (statusAt (replicate places freeCode) (replicate places 0) (replicate places 0)) j (none-seated places j));
-  held = λ c j. sym (nobody-has Free (replicate places 0) (modeAt (replicate 2048 0) c) j (none-seated places j));
+  held = λ c j. sym (nobody-has Free (replicate places 0) (modeAt (replicate (cells * places) 0) c) j (none-seated places j));
   plain = record {
     numbers = length-replicate {A = ℕ} places 0;
     statuses = length-replicate {A = ℕ} places 0;
-    cells = length-replicate {A = ℕ} places 0;
+    waited = length-replicate {A = ℕ} places 0;
     asks = length-replicate {A = ℕ} places 0;
-    modes = length-replicate {A = ℕ} 2048 0;
+    modes = length-replicate {A = ℕ} (cells * places) 0;
     free-status = λ p l e. copies-at places 0 p;
-    free-held = λ p l e c. none-held 2048 c p;
+    free-held = λ p l e c. none-held (cells * places) c p;
   };
 }

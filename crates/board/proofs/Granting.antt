@@ -1,6 +1,6 @@
 -- One waiter is granted: its place holds the mode, it runs, its action stands after the wakes so far, and all else is as before.
 -- Assumes nothing.
-use Prim.Native.Nat.{ℕ, suc, _+_, _<_, _≤_}
+use Prim.Native.Nat.{ℕ, suc, _+_, _<_, _≤_, _-_, _*_}
 use mathlib.Core.Path.{_≡_, sym, ap, subst, _∙_, fun-ext}
 use mathlib.Core.Logic.{_≢_}
 use mathlib.Core.Bool.{true}
@@ -46,12 +46,12 @@ wakesSoFar s = take (s .told .count) (s .told .wakes)
 
 -- arrays of their lengths, free places idle, room for everybody that still waits among the wakes, and nothing past the last of them
 pub record Sound (ks : List ℕ) (s : Settling) : Type 0 where
-  pub modes : length (s .held) ≡ 2048
+  pub modes : length (s .held) ≡ cells * places
   pub statuses : length (s .told .status) ≡ places
   pub wakes : length (s .told .wakes) ≡ places
   pub free-status : (p : ℕ) → p < places → getD ks p 0 ≡ 0 → getD (s .told .status) p 0 ≡ freeCode
   pub free-held : (p : ℕ) → p < places → getD ks p 0 ≡ 0 → (c : ℕ) → modeAt (s .held) c p ≡ Free
-  pub room : s .told .count + waiters (s .told .status) places ≤ 31
+  pub room : s .told .count + waiters (s .told .status) places ≤ places - 1
   pub rest : (q : ℕ) → s .told .count ≤ q → getD (s .told .wakes) q noAction ≡ noAction
 
 module _ {ks : List ℕ} {s : Settling} (size : length ks ≡ places) (h : Sound ks s) where

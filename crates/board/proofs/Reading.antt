@@ -1,6 +1,6 @@
 -- Arrays that stand for a paper's desk are that desk but for the queues; and a step with no wakes is tied where the desks it leaves stand.
 -- Assumes nothing.
-use Prim.Native.Nat.{ℕ, _≤_}
+use Prim.Native.Nat.{ℕ, _≤_, _-_}
 use mathlib.Core.Path.{_≡_, refl, sym, ap, subst, _∙_, fun-ext}
 use mathlib.Core.Bool.{Bool, true, false}
 use mathlib.Core.List.{List, []}
@@ -46,7 +46,7 @@ pub plain-stands : {d : Desk} → Plain d → (q : ℕ → List Waiter) → Stan
 plain-stands p q = record { next = refl; jobs = refl; stat = λ j. refl; held = λ c j. refl; plain = p }
 
 -- as many wakes are counted as there are
-pub told-count : (s : Said) (W : List Action) → length (s .wakes) ≡ places → s .count ≤ 31 → wakesTold s ≡ W → s .count ≡ length W
+pub told-count : (s : Said) (W : List Action) → length (s .wakes) ≡ places → s .count ≤ places - 1 → wakesTold s ≡ W → s .count ≡ length W
 unfolding wakesTold
 told-count s W e l h = sym (length-take-le (s .count) (s .wakes) (rw e (omega arith))) ∙ ap length h
 

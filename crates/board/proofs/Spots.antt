@@ -1,6 +1,6 @@
 -- The table of modes: a mode set at one place of a cell, and the locks that a place drops; nothing else of the table changes.
 -- Assumes nothing.
-use Prim.Native.Nat.{ℕ, zero, suc, _<_, _≤_}
+use Prim.Native.Nat.{ℕ, zero, suc, _<_, _≤_, _*_}
 use mathlib.Core.Path.{_≡_, refl, sym, ap, subst, _∙_}
 use mathlib.Core.Logic.{_≢_}
 use mathlib.Core.List.{List}
@@ -42,7 +42,7 @@ pub set-seat : (held : List ℕ) (c p n b q : ℕ) → p < places → q < places
 set-seat held c p n b q l k d = set-elsewhere held c p n b q (λ e. d (omega arith))
 
 -- the spots of the cells and places that there are
-pub spot-below : (c p : ℕ) → c < cells → p < places → spot c p < 2048
+pub spot-below : (c p : ℕ) → c < cells → p < places → spot c p < cells * places
 spot-below c p h l = omega arith
 
 -- a mode set at one place of a cell
@@ -53,7 +53,7 @@ set-mode held c p m h q =
     (λ n. set-place held c p (codeOf m) q n)
 
 -- past the last cell nothing is held
-pub none-beyond : (held : List ℕ) → length held ≡ 2048 → (c p : ℕ) → cells ≤ c → modeAt held c p ≡ Free
+pub none-beyond : (held : List ℕ) → length held ≡ cells * places → (c p : ℕ) → cells ≤ c → modeAt held c p ≡ Free
 unfolding modeAt
 none-beyond held e c p h = rw (List·getD-eq-default held 0 {n = spot c p} (rw e (omega arith))) mode-zero
 
@@ -71,7 +71,7 @@ dropped-left held p (suc n) c q l k h =
     set-cell (droppedBy held p n) n p 0 c q l k (λ e. omega arith) ∙ dropped-left held p n c q l k (omega arith)
 
 -- on the others the place holds nothing, and every other place holds what it held
-dropped-done : (held : List ℕ) (p n c q : ℕ) → p < places → q < places → n ≤ cells → length held ≡ 2048 → c < n → modeAt (droppedBy held p n) c q ≡ at (modeAt held c) p Free q
+dropped-done : (held : List ℕ) (p n c q : ℕ) → p < places → q < places → n ≤ cells → length held ≡ cells * places → c < n → modeAt (droppedBy held p n) c q ≡ at (modeAt held c) p Free q
 unfolding droppedBy
 dropped-done held p zero c q l k b s h = absurd (omega arith)
 dropped-done held p (suc n) c q l k b s h =
@@ -87,7 +87,7 @@ dropped-done held p (suc n) c q l k b s h =
         (λ d. set-place (droppedBy held p n) n p 0 q d ∙ dropped-left held p n n q l k (omega arith))
 
 -- so a place that drops its locks holds nothing on any cell, and every other place holds what it held
-pub dropped-all : (held : List ℕ) (p c q : ℕ) → p < places → q < places → length held ≡ 2048 → modeAt (droppedBy held p cells) c q ≡ at (modeAt held c) p Free q
+pub dropped-all : (held : List ℕ) (p c q : ℕ) → p < places → q < places → length held ≡ cells * places → modeAt (droppedBy held p cells) c q ≡ at (modeAt held c) p Free q
 dropped-all held p c q l k s =
     by-below c cells (dropped-done held p cells c q l k (omega arith) s) beyond
   where

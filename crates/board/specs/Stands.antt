@@ -1,5 +1,5 @@
 -- The paper's desk as the arrays hold it, by numbers; what it is for arrays to stand for a paper's desk; and started arrays with their history.
-use Prim.Native.Nat.{ℕ, _<_, _≤_}
+use Prim.Native.Nat.{ℕ, _<_, _≤_, _-_, _*_}
 use mathlib.Core.Path.{_≡_}
 use mathlib.Core.Bool.{Bool, not, _&&_}
 use mathlib.Core.List.{List, [], _++_}
@@ -8,7 +8,7 @@ use lib.ListN.{length, getD, take}
 use Rattle.laws.specs.Choice.{pick}
 use Rattle.laws.specs.Lists.{member, pos}
 use Rattle.terms.specs.declared.letters.Ask.{Ask}
-use Rattle.terms.specs.Limits.{places, lastNumber}
+use Rattle.terms.specs.Limits.{places, lastNumber, cells}
 use Rattle.conflict.specs.declared.modes.Mode.{Mode}
 use Rattle.conflict.specs.declared.modes.Mode.the-variants.{Free}
 use Rattle.conflict.specs.declared.action.Action.{Action}
@@ -53,9 +53,9 @@ modeBy d c = byNumber Free (d .number) (modeAt (d .held) c)
 pub record Plain (d : Desk) : Type 0 where
   pub numbers : length (d .number) ≡ places
   pub statuses : length (d .status) ≡ places
-  pub cells : length (d .cell) ≡ places
+  pub waited : length (d .cell) ≡ places
   pub asks : length (d .ask) ≡ places
-  pub modes : length (d .held) ≡ 2048
+  pub modes : length (d .held) ≡ cells * places
   pub free-status : (p : ℕ) → p < places → getD (d .number) p 0 ≡ 0 → getD (d .status) p 0 ≡ freeCode
   pub free-held : (p : ℕ) → p < places → getD (d .number) p 0 ≡ 0 → (c : ℕ) → modeAt (d .held) c p ≡ Free
 
@@ -77,7 +77,7 @@ pub record Tied (o : Outcome) (O : rules.Outcome) : Type 0 where
   pub answer : o .said .answer ≡ O .said
   pub wakes : wakesTold (o .said) ≡ O .wakes
   pub count : o .said .count ≡ length (O .wakes)
-  pub few : o .said .count ≤ 31
+  pub few : o .said .count ≤ places - 1
   pub size : length (o .said .wakes) ≡ places
   pub rest : (q : ℕ) → o .said .count ≤ q → getD (o .said .wakes) q noAction ≡ noAction
 

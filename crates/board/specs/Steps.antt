@@ -1,5 +1,5 @@
 -- One step of the desk over its arrays, in the order of the rules; what the contracts cite.
-use Prim.Native.Nat.{ℕ, zero, suc, _+_}
+use Prim.Native.Nat.{ℕ, zero, suc, _+_, _*_}
 use mathlib.Core.Bool.{Bool, true, false, not, _&&_, _||_}
 use mathlib.Core.List.{List, [], _∷_}
 use lib.Dec.{eqb, ltb}
@@ -50,7 +50,7 @@ emptyDesk n =
       status = replicate places freeCode;
       cell = replicate places 0;
       ask = replicate places 0;
-      held = replicate 2048 0;
+      held = replicate (cells * places) 0;
     }
 
 -- started at a first number: 10 for 0, with a blank desk beside it that is not started (01, refusal 10)

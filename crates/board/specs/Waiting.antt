@@ -1,5 +1,5 @@
 -- Waiting, read off the arrays: who is in a waiter's way, chains of waits, what it is to wait on for the same request, and to be served (demand 3).
-use Prim.Native.Nat.{ℕ, _<_, _≤_}
+use Prim.Native.Nat.{ℕ, _<_, _≤_, _-_}
 use mathlib.Core.Path.{_≡_}
 use mathlib.Core.Logic.{_≢_}
 use mathlib.Core.Bool.{true, false}
@@ -7,6 +7,7 @@ use mathlib.Core.List.{List, [], _∷_, _++_}
 use lib.ListN.{length}
 use Rattle.laws.specs.Lists.{member, distinct}
 use Rattle.terms.specs.declared.letters.Ask.{Ask}
+use Rattle.terms.specs.Limits.{places}
 use Rattle.conflict.specs.declared.modes.Mode.{Mode}
 use Rattle.conflict.specs.declared.action.Action.{Action}
 use Rattle.conflict.specs.Modes.{needed, recorded, covers, asked, isFree}
@@ -106,6 +107,6 @@ pub record ServedInTime (d : Desk) (c j : ℕ) (a : Ask) : Type 0 where
   -- those in its way are each in a run, younger, and at most 31
   pub in-a-run : (i : ℕ) → InWay d c j i → isLive (statusBy d i) ≡ true
   pub younger : (i : ℕ) → InWay d c j i → j < i
-  pub at-most : AtMostInWay 31 d c j
+  pub at-most : AtMostInWay (places - 1) d c j
   -- whatever is requested from then on: if it does not give up while it waits, then once all those runs have ended, it was given its cell in the mode it asked for, at the latest in the step that ended the last of them
   pub served : (rs : List Request) → Patient d c j a rs → AllEnd d c j rs → Served d c j a rs

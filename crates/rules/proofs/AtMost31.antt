@@ -1,6 +1,6 @@
 -- At most 31 jobs are in a waiter's way (demand 3): they and the waiter are open jobs, and there are 32 places.
 -- Assumes nothing.
-use Prim.Native.Nat.{ℕ, _<_, _≤_}
+use Prim.Native.Nat.{ℕ, _<_, _≤_, _-_}
 use mathlib.Core.Path.{_≡_, sym, subst, _∙_}
 use mathlib.Core.Bool.{true, false}
 use mathlib.Core.List.{List, _∷_}
@@ -19,6 +19,7 @@ use Rattle.rules.proofs.Kept.{started-inv}
 use Rattle.rules.proofs.Statuses.{live-open, waiting-open}
 use Rattle.rules.proofs.InTheWay.{way-younger, way-live}
 use Rattle.rules.proofs.Pigeonhole.{no-longer}
+use Rattle.terms.specs.Limits.{places}
 
 module _ {d : Desk} (v : Inv d) (c : ℕ) (w : Waiter) (k : IsWaiting d c w) (is : List ℕ) (ways : (i : ℕ) → member i is ≡ true → InWay (d .row c) w i) where
   -- the waiter is not in its own way
@@ -38,7 +39,7 @@ module _ {d : Desk} (v : Inv d) (c : ℕ) (w : Waiter) (k : IsWaiting d c w) (is
       (λ f. v .seats i (live-open (d .stat i) (way-live v c w k i (ways i (sym (member-later (w .job) is i f) ∙ m)))))
 
 -- at most 31 jobs are in a waiter's way (demand 3)
-pub at-most-31 : {d : Desk} {h : History} → Started d h → (c : ℕ) (w : Waiter) → IsWaiting d c w → AtMostInWay 31 (d .row c) w
+pub at-most-31 : {d : Desk} {h : History} → Started d h → (c : ℕ) (w : Waiter) → IsWaiting d c w → AtMostInWay (places - 1) (d .row c) w
 at-most-31 {d} s c w k is o ways =
     let v = started-inv s in
     let l : length (w .job ∷ is) ≤ length (d .jobs) = no-longer (w .job ∷ is) (d .jobs) (with-self v c w k is ways o) (all-seated v c w k is ways) in

@@ -15,7 +15,7 @@ pub mod KeptQueue
 pub mod KeptAsk
 pub mod KeptRun
 pub mod Kept
-pub mod Verdicts
+pub mod TableMeant
 pub mod Refusing
 pub mod Starting
 pub mod OpenJobs

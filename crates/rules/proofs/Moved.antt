@@ -1,6 +1,7 @@
 -- The rules as a relation, one constructor to a rule with its tests as premises, and that every step is such a move: the one place that follows the tests.
 -- Assumes nothing.
 use Prim.Native.Nat.{ℕ}
+use mathlib.Core.Option.{some}
 use mathlib.Core.Path.{_≡_, refl}
 use mathlib.Core.Bool.{Bool, true, false, _&&_}
 use lib.Dec.{ltb, leb}
@@ -21,7 +22,7 @@ use Rattle.rules.specs.Desk.{Status, closed, running, waiting, sentback,
 use Rattle.rules.specs.Locks.{agrees, alone, olderThanHolders, olderThanWaiters, isEmpty}
 use Rattle.rules.specs.Rules.{Outcome, refused, close, sendBack, grant, queued, rule1, rule2, rule3, ask, retry, begin}
 use Rattle.rules.specs.Step.{stepCommit, stepGiveUp, stepRetry, stepAsk, stepBegin, stepBy, step}
-use Rattle.rules.specs.Table.{holds, order, firstOf, refusal, verdictBy, verdict}
+use Rattle.rules.specs.Table.{holds, order, firstOf, dueBy, dueOf}
 use Rattle.rules.specs.Asked.{Asking, holder, waiter}
 use Rattle.rules.specs.Moves.{Moved, refuses, begins, commits, gives-up, retries, has-it, promotes, waits-in-front, enters, waits-last, goes-back}
 
@@ -58,20 +59,20 @@ cell-above : (c : ℕ) → ltb c cells ≡ false → leb cells c ≡ true
 cell-above c f = le-leb cells c (ltb-false c cells f)
 
 -- a refusal that is due by the request's letter and what its job is doing
-due-by : {d : Desk} {r : Request} {l : Lettered} {s : Status} (why : Refusal) → letterOf (r .kind) ≡ l → d .stat (r .job) ≡ s → verdictBy d l s (r .cell) ≡ refusal why → Moved d r (refused d why)
-unfolding verdict
+due-by : {d : Desk} {r : Request} {l : Lettered} {s : Status} (why : Refusal) → letterOf (r .kind) ≡ l → d .stat (r .job) ≡ s → dueBy d l s (r .cell) ≡ some why → Moved d r (refused d why)
+unfolding dueOf
 due-by why e q h = refuses why (rw (e, q) h)
 
 -- begin tests 7, then 6
 begin-moved : (d : Desk) (r : Request) → letterOf (r .kind) ≡ Known Begin → Moved d r (stepBegin d)
-unfolding stepBegin begin verdictBy holds order firstOf
+unfolding stepBegin begin dueBy holds order firstOf
 begin-moved d r e =
     either (ltb lastNumber (d .next)) (λ t. due-by NoNumberLeft e refl (rw t))
     (λ f. either (member 0 (d .jobs)) (begins e (ltb-false _ _ f)) (λ n. due-by AllOpen e refl (rw (f, n))))
 
 -- a commit, by what the job is doing
 commit-moved : (d : Desk) (r : Request) (s : Status) → letterOf (r .kind) ≡ Known Commit → d .stat (r .job) ≡ s → Moved d r (stepCommit d (r .job) s)
-unfolding stepCommit close verdictBy holds order firstOf isOpen
+unfolding stepCommit close dueBy holds order firstOf isOpen
 commit-moved d r closed e q = due-by NotOpen e q refl
 commit-moved d r running e q = commits e q
 commit-moved d r (waiting c a) e q = due-by Waiting e q refl
@@ -79,7 +80,7 @@ commit-moved d r sentback e q = due-by SentBack e q refl
 
 -- a give-up
 give-up-moved : (d : Desk) (r : Request) (s : Status) → letterOf (r .kind) ≡ Known GiveUp → d .stat (r .job) ≡ s → Moved d r (stepGiveUp d (r .job) s)
-unfolding stepGiveUp close verdictBy holds order firstOf isOpen
+unfolding stepGiveUp close dueBy holds order firstOf isOpen
 give-up-moved d r closed e q = due-by NotOpen e q refl
 give-up-moved d r running e q = gives-up e (rw q)
 give-up-moved d r (waiting c a) e q = gives-up e (rw q)
@@ -87,7 +88,7 @@ give-up-moved d r sentback e q = gives-up e (rw q)
 
 -- a retry
 retry-moved : (d : Desk) (r : Request) (s : Status) → letterOf (r .kind) ≡ Known Retry → d .stat (r .job) ≡ s → Moved d r (stepRetry d (r .job) s)
-unfolding stepRetry retry verdictBy holds order firstOf isOpen
+unfolding stepRetry retry dueBy holds order firstOf isOpen
 retry-moved d r closed e q = due-by NotOpen e q refl
 retry-moved d r running e q = due-by Running e q refl
 retry-moved d r (waiting c a) e q = due-by Waiting e q refl
@@ -95,7 +96,7 @@ retry-moved d r sentback e q = retries e q
 
 -- a read, a write or an increment
 asked-moved : (d : Desk) (r : Request) (a : Ask) (s : Status) → letterOf (r .kind) ≡ Known (Asks a) → d .stat (r .job) ≡ s → Moved d r (stepAsk d (r .job) (r .cell) a s)
-unfolding stepAsk verdictBy holds order firstOf isOpen
+unfolding stepAsk dueBy holds order firstOf isOpen
 asked-moved d r a closed e q = due-by NotOpen e q refl
 asked-moved d r a running e q =
     either (ltb (r .cell) cells) (λ t. ask-moved d r a (record { letter = e; runs = q; within = ltb-true _ _ t }))
@@ -106,8 +107,8 @@ asked-moved d r a sentback e q = due-by SentBack e q refl
 -- by the request's letter
 step-by : (d : Desk) (r : Request) (l : Lettered) → letterOf (r .kind) ≡ l → Moved d r (stepBy d r l)
 unfolding stepBy
-step-by d r Unknown e = unfold verdictBy holds order firstOf in due-by UnknownKind e refl refl
-step-by d r (Known no-request) e = unfold verdictBy holds order firstOf in due-by UnknownKind e refl refl
+step-by d r Unknown e = unfold dueBy holds order firstOf in due-by UnknownKind e refl refl
+step-by d r (Known no-request) e = unfold dueBy holds order firstOf in due-by UnknownKind e refl refl
 step-by d r (Known Begin) e = begin-moved d r e
 step-by d r (Known Commit) e = commit-moved d r (d .stat (r .job)) e refl
 step-by d r (Known GiveUp) e = give-up-moved d r (d .stat (r .job)) e refl

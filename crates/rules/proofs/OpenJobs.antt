@@ -125,11 +125,11 @@ unfolding openJobs
 full-32 {d} inv m = as-many (d .stat) (d .jobs) (λ k h. inv .opens k (λ e. not-both (rw e at h) m) h) ∙ inv .size
 
 -- row 6 of the table as printed: no place is free exactly where 32 jobs are open
-pub row-6 : {d : Desk} {h : History} → Started d h → (l : Lettered) → allOpen l (d .jobs) ≡ (letterIs isBegin l && eqb (length (openJobs d)) 32)
+pub row-6 : {d : Desk} {h : History} → Started d h → (l : Lettered) → allOpen l (d .jobs) ≡ (letterIs isBegin l && eqb (length (openJobs d)) places)
 row-6 {d} s l =
     ap (λ b. letterIs isBegin l && b)
-    (by-test (member 0 (d .jobs)) (λ t. let h : length (openJobs d) < places = free-fewer (started-inv s) t in rw (t, ne-eqb (length (openJobs d)) 32 (λ e. omega arith)))
-    (λ f. rw (f, eq-eqb (length (openJobs d)) 32 (full-32 (started-inv s) f))))
+    (by-test (member 0 (d .jobs)) (λ t. let h : length (openJobs d) < places = free-fewer (started-inv s) t in rw (t, ne-eqb (length (openJobs d)) places (λ e. omega arith)))
+    (λ f. rw (f, eq-eqb (length (openJobs d)) places (full-32 (started-inv s) f))))
 
 -- row 3 of the table as printed: 0 never is open
 pub row-3 : {d : Desk} {h : History} → Started d h → notOpen (d .stat 0) ≡ true

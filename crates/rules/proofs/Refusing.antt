@@ -4,6 +4,7 @@ use Prim.Native.Nat.{ℕ, _≤_}
 use mathlib.Core.Path.{_≡_, refl, sym, ap, _∙_, subst}
 use mathlib.Core.Bool.{Bool, true}
 use mathlib.Core.List.{List, [], _∷_}
+use mathlib.Core.Option.{Option, none, some}
 use native.Mathlib.Omega.{arith}
 use Rattle.laws.specs.Choice.{by-test, not-both}
 use Rattle.terms.specs.declared.letters.Lettered.{Lettered}
@@ -16,8 +17,8 @@ use Rattle.rules.specs.declared.Answer.the-variants.{No}
 use Rattle.rules.specs.Desk.{Status, Desk, Request}
 use Rattle.rules.specs.Rules.{Outcome, refused}
 use Rattle.rules.specs.Step.{step, events, recordsOf, ownRecords, wakeRecords}
-use Rattle.rules.specs.Table.{holds, order, Verdict, refusal, nothing, firstOf, verdictBy, verdict, Due, NothingDue, Answers, goes, waits, goes-back, named}
-use Rattle.rules.proofs.Verdicts.{Meant, step-meant}
+use Rattle.rules.specs.Table.{holds, order, firstOf, dueBy, dueOf, Due, NothingDue, Answers, goes, waits, goes-back, named}
+use Rattle.rules.proofs.TableMeant.{Meant, step-meant}
 
 -- the answer that a refusal gives
 refused-said : (d : Desk) (why : Refusal) {o : Outcome} → o ≡ refused d why → o .said ≡ No why
@@ -34,11 +35,11 @@ same-refusal x y e = cc
 
 -- a refusal is given only where it is the first that is due
 pub refused-when : (d : Desk) (r : Request) (why : Refusal) → step d r .said ≡ No why → Due d r why
-refused-when d r why e = by-verdict (verdict d r) refl (step-meant d r)
+refused-when d r why e = by-due (dueOf d r) refl (step-meant d r)
   where
-    by-verdict : (v : Verdict) → verdict d r ≡ v → Meant d (named d r) v (step d r) → verdict d r ≡ refusal why
-    by-verdict (refusal x) q m = q ∙ ap refusal (same-refusal x why (sym (refused-said d x m) ∙ e))
-    by-verdict nothing q m = never why (named d r) (subst (λ x. Answers x (named d r)) e m)
+    by-due : (v : Option Refusal) → dueOf d r ≡ v → Meant d (named d r) v (step d r) → dueOf d r ≡ some why
+    by-due (some x) q m = q ∙ ap some (same-refusal x why (sym (refused-said d x m) ∙ e))
+    by-due none q m = never why (named d r) (subst (λ x. Answers x (named d r)) e m)
 
 -- and wherever it is: the desk is as it was, and nobody is woken
 pub due-refused : (d : Desk) (r : Request) (why : Refusal) → Due d r why → step d r ≡ refused d why
@@ -50,11 +51,11 @@ not-due d r e = subst (λ v. Meant d (named d r) v (step d r)) e (step-meant d r
 
 -- and only there
 pub answered-not-due : (d : Desk) (r : Request) (j : ℕ) → Answers (step d r .said) j → NothingDue d r
-answered-not-due d r j h = by-verdict (verdict d r) refl
+answered-not-due d r j h = by-due (dueOf d r) refl
   where
-    by-verdict : (v : Verdict) → verdict d r ≡ v → verdict d r ≡ nothing
-    by-verdict (refusal x) q = never x j (subst (λ y. Answers y j) (refused-said d x (due-refused d r x q)) h)
-    by-verdict nothing q = q
+    by-due : (v : Option Refusal) → dueOf d r ≡ v → dueOf d r ≡ none
+    by-due (some x) q = never x j (subst (λ y. Answers y j) (refused-said d x (due-refused d r x q)) h)
+    by-due none q = q
 
 -- so every answer names the request's job, or for begin the new one (01, Lines)
 pub answer-names : (d : Desk) (r : Request) (j : ℕ) → Answers (step d r .said) j → j ≡ named d r
@@ -66,18 +67,18 @@ answer-names d r j h = one-job h (not-due d r (answered-not-due d r j h))
     one-job (goes-back i) (goes-back _) = refl
 
 -- the first of a list whose test holds is one whose test holds
-first-holds : (f : Refusal → Bool) (xs : List Refusal) (x : Refusal) → firstOf f xs ≡ refusal x → f x ≡ true
+first-holds : (f : Refusal → Bool) (xs : List Refusal) (x : Refusal) → firstOf f xs ≡ some x → f x ≡ true
 unfolding firstOf
 first-holds f [] x e = let z : _≡_ {A = ℕ} 0 1 = cc in absurd (omega arith)
 first-holds f (y ∷ ys) x e =
-    by-test (f y) (λ t. let q : refusal y ≡ refusal x = rw t at e in subst (λ z. f z ≡ true) (same-row y x q) t) (λ g. first-holds f ys x (rw g at e))
+    by-test (f y) (λ t. let q : some y ≡ some x = rw t at e in subst (λ z. f z ≡ true) (same-row y x q) t) (λ g. first-holds f ys x (rw g at e))
   where
-    same-row : (y x : Refusal) → refusal y ≡ refusal x → y ≡ x
+    same-row : (y x : Refusal) → some y ≡ some x → y ≡ x
     same-row y x q = cc
 
 -- a refusal that is due is one whose row of the table holds
 pub due-holds : (d : Desk) (r : Request) (why : Refusal) → Due d r why → holds (letterOf (r .kind)) (d .stat (r .job)) (r .cell) d why ≡ true
-unfolding verdict verdictBy
+unfolding dueOf dueBy
 due-holds d r why e = first-holds (holds (letterOf (r .kind)) (d .stat (r .job)) (r .cell) d) (order (letterOf (r .kind))) why e
 
 -- after a refusal the desk holds what it held, nobody is woken and nothing is recorded

@@ -3,6 +3,7 @@ use Prim.Native.Nat.{ℕ}
 use mathlib.Core.Path.{_≡_}
 use mathlib.Core.Bool.{Bool, true, false, not, _&&_}
 use mathlib.Core.List.{List, [], _∷_}
+use mathlib.Core.Option.{Option, none, some}
 use lib.Dec.{ltb, leb}
 use Rattle.laws.specs.Choice.{pick}
 use Rattle.terms.specs.declared.letters.Letter.{Letter}
@@ -144,31 +145,26 @@ holds l s c d TooLong = false
 unfoldable pub order : Lettered → List Refusal
 order l = UnknownKind ∷ pick (letterIs isBegin l) (NoNumberLeft ∷ AllOpen ∷ []) (NotOpen ∷ Waiting ∷ SentBack ∷ Running ∷ CellAbove ∷ [])
 
--- a refusal, or none
-pub data Verdict : Type 0 where
-  refusal : Refusal → Verdict
-  nothing : Verdict
-
 -- the first refusal of the list whose row holds
-unfoldable pub firstOf : (Refusal → Bool) → List Refusal → Verdict
-firstOf f [] = nothing
-firstOf f (x ∷ xs) = pick (f x) (refusal x) (firstOf f xs)
+unfoldable pub firstOf : (Refusal → Bool) → List Refusal → Option Refusal
+firstOf f [] = none
+firstOf f (x ∷ xs) = pick (f x) (some x) (firstOf f xs)
 
 -- what the table says of a request by its letter, what its job is doing and its cell
-unfoldable pub verdictBy : Desk → Lettered → Status → ℕ → Verdict
-verdictBy d l s c = firstOf (holds l s c d) (order l)
+unfoldable pub dueBy : Desk → Lettered → Status → ℕ → Option Refusal
+dueBy d l s c = firstOf (holds l s c d) (order l)
 
 -- what the table says of a request to a desk
-unfoldable pub verdict : Desk → Request → Verdict
-verdict d r = verdictBy d (letterOf (r .kind)) (d .stat (r .job)) (r .cell)
+unfoldable pub dueOf : Desk → Request → Option Refusal
+dueOf d r = dueBy d (letterOf (r .kind)) (d .stat (r .job)) (r .cell)
 
 -- the refusal is due: it is the first whose row holds
 abbrev pub Due : Desk → Request → Refusal → Type 0
-Due d r why = verdict d r ≡ refusal why
+Due d r why = dueOf d r ≡ some why
 
 -- no refusal is due
 abbrev pub NothingDue : Desk → Request → Type 0
-NothingDue d r = verdict d r ≡ nothing
+NothingDue d r = dueOf d r ≡ none
 
 -- the answer is go, wait or back, with this job
 pub data Answers : Answer → ℕ → Type 0 where

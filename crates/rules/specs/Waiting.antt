@@ -1,5 +1,5 @@
 -- Waiting: who is in a waiter's way, chains of waits, what it is to wait on for the same request, and to be served (demand 3).
-use Prim.Native.Nat.{ℕ, _<_, _≤_, zero, suc, _+_}
+use Prim.Native.Nat.{ℕ, _<_, _≤_, zero, suc, _+_, _-_}
 use mathlib.Core.Path.{_≡_}
 use mathlib.Core.Logic.{_≢_}
 use mathlib.Core.Bool.{true, false}
@@ -9,7 +9,7 @@ use Rattle.terms.specs.declared.letters.Ask.{Ask}
 use Rattle.terms.specs.declared.letters.Letter.the-variants.{GiveUp}
 use Rattle.terms.specs.declared.letters.Lettered.the-variants.{Known}
 use Rattle.terms.specs.Letters.{letterOf}
-use Rattle.terms.specs.Limits.{cells}
+use Rattle.terms.specs.Limits.{cells, places}
 use Rattle.conflict.specs.declared.modes.Mode.{Mode}
 use Rattle.conflict.specs.Modes.{needed, covers, isFree}
 use Rattle.laws.specs.Lists.{member, distinct}
@@ -108,7 +108,7 @@ pub record ServedInTime (d : Desk) (c : ℕ) (w : Waiter) : Type 0 where
   pub waits : IsWaiting d c w
   -- those in its way are each in a run, and there are at most 31
   pub in-a-run : (i : ℕ) → InWay (d .row c) w i → isLive (d .stat i) ≡ true
-  pub at-most : AtMostInWay 31 (d .row c) w
+  pub at-most : AtMostInWay (places - 1) (d .row c) w
   -- whatever is requested from then on: if it does not give up while it waits, then once all those runs have ended, it was given its cell in the mode it asked for, at the latest in the step that ended the last of them
   pub served : (rs : List Request) → Patient d c w rs → AllEnd d c w rs → Served d c w rs
 
