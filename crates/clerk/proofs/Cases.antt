@@ -17,7 +17,8 @@ use Rattle.runs.specs.declared.View.{View}
 use Rattle.runs.specs.declared.View.the-variants.{Answers, History}
 use Rattle.rules.specs.Step.{recordsOf, ownRecords, wakeRecords}
 use Rattle.verdicts.specs.Written.{askBy, textOf}
-use Rattle.runs.specs.Run.{wordOf, numberBeside, answerLines, historyLines, wakeLines}
+use Rattle.rules.specs.AnswerWords.{wordOf, numberBeside}
+use Rattle.runs.specs.Run.{answerLines, historyLines, wakeLines}
 use Rattle.runs.specs.Work.{viewed, unended}
 use Rattle.clerk.specs.declared.records.Noted.{Noted}
 use Rattle.clerk.specs.declared.records.Noted.the-variants.{Nothing, Line}

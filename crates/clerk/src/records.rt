@@ -20,8 +20,8 @@ ghost use Rattle.terms.specs.Limits.{requestLines, lastNumber};
 ghost use Rattle.formats.specs.Records.{answerRecord, lineRecord};
 ghost use Rattle.formats.specs.Wrote.{Wrote};
 ghost use Rattle.formats.proofs.Length.{ofAnswers};
+ghost use Rattle.rules.specs.AnswerWords.{wordOf, numberBeside};
 ghost use Rattle.verdicts.specs.Written.{askBy};
-ghost use Rattle.runs.specs.Run.{wordOf, numberBeside};
 ghost use Rattle.runs.specs.Work.{viewed, unended, lineRoom};
 ghost use Rattle.clerk.specs.Parts.{Added, notedGo, noted, notedBytes, firstRecord, wakeRecord, wakeRecords, lineRecords};
 

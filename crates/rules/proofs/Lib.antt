@@ -18,6 +18,7 @@ pub mod KeptRun
 pub mod Kept
 pub mod Verdicts
 pub mod Refusing
+pub mod AnswerNumbers
 pub mod Starting
 pub mod OpenJobs
 pub mod Fields

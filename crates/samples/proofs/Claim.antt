@@ -20,7 +20,8 @@ use Rattle.verdicts.specs.Judged.{isOrderly, verdictBy, judged, insert, sorted,
 use Rattle.verdicts.specs.HistoryText.{faultOfGood, faultOf, lineFault, endedAfter, orLater, firstFaulty, eventOf, eventsIn, bare}
 use Rattle.verdicts.specs.Judgement.{filled, sayVerdict, sayLines, judgementOf, inNumbers}
 use Rattle.verdicts.specs.Written.{askBy, markLetter, eventLine, textOf}
-use Rattle.runs.specs.Run.{noRequest, answered, lineBy, runOf, wordOf, numberBeside, wakeLines, answerLines, historyLines, written}
+use Rattle.rules.specs.AnswerWords.{wordOf, numberBeside}
+use Rattle.runs.specs.Run.{noRequest, answered, lineBy, runOf, wakeLines, answerLines, historyLines, written}
 use Rattle.runs.specs.Programs.{onPaper, onBoard, runOn, answersOf, historyOf, tabbed, wordLine, sayLine, judgedLine, verdictOf as programs-verdictOf}
 use Rattle.samples.specs.Samples.{bytes, Sample, writes, samples}
 
