@@ -1,7 +1,7 @@
 -- Each of the paper's starred samples is what the definitions compute.
 -- Assumes nothing.
 use mathlib.Core.Path.{_≡_, refl}
-use mathlib.Core.List.{List, map}
+use mathlib.Core.List.{map}
 use Rattle.laws.specs.Lists.{member, distinct, pos, put}
 use Rattle.conflict.specs.Modes.{needed, recorded, covers, beside, grants, asked, lets, isFree, codeOf, modeOf}
 use Rattle.conflict.specs.Schedule.{agree, conflicts, keep, own, serial, touches, edge, names, path, knot}
