@@ -16,7 +16,7 @@ use Rattle.terms.specs.Limits.{lastNumber, requestLines}
 use Rattle.terms.specs.Words.{spelt}
 use Rattle.formats.specs.Decimal.{decimal, digitsIn}
 use Rattle.formats.specs.Lines.{lastCell}
-use Rattle.formats.specs.Records.{ofAnswers, field, answerRecord, lineRecord}
+use Rattle.formats.specs.Records.{ofAnswers, answerRecord, longestRecord, field, lineRecord}
 use Rattle.formats.proofs.DigitLaws.{digits-at-most}
 use Rattle.formats.proofs.FieldLaws.{field-at-most}
 
@@ -43,7 +43,7 @@ answer-word-at-most-4 Knot e = not-both e refl
 
 -- no answer record of the desk programs is longer than 24 bytes (01, Lines)
 pub answer-at-most-24 : (line : ℕ) (word : Word) (number : ℕ) → line ≤ requestLines → ofAnswers word ≡ true → number ≤ lastNumber →
-    length (answerRecord line word number) ≤ 24
+    length (answerRecord line word number) ≤ longestRecord
 answer-at-most-24 line word number h a g =
     omega (
       arith,
@@ -54,7 +54,7 @@ answer-at-most-24 line word number h a g =
     )
 
 -- and one is as long: line 1,000,000, a wake, and a job of ten digits (01, Lines)
-pub answer-24 : length (answerRecord requestLines Wake lastNumber) ≡ 24
+pub answer-24 : length (answerRecord requestLines Wake lastNumber) ≡ longestRecord
 unfolding answerRecord decimal digitsIn
 answer-24 = refl
 

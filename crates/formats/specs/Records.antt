@@ -29,6 +29,10 @@ ofAnswers Knot = false
 unfoldable pub answerRecord : ℕ → Word → ℕ → List ℕ
 answerRecord line word number = decimal line ++ tab ∷ spelt word ++ tab ∷ decimal number ++ newline ∷ []
 
+-- no answer record of the desk programs has more bytes, and one has as many: `answer-at-most-24`, `answer-24` (01, Lines: the longest is 24 bytes)
+abbrev pub longestRecord : ℕ
+longestRecord = 24
+
 -- a further field where there is one: a tab and the number
 unfoldable pub field : Bool → ℕ → List ℕ
 field there n = pick there (tab ∷ decimal n) []
