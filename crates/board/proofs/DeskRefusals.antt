@@ -1,6 +1,6 @@
 -- The refusals of the desk that runs are given exactly where the table says, read off the arrays (demand 1; 01, Refusals by number).
 -- Assumes nothing.
-use Prim.Native.Nat.{ℕ, _≤_}
+use Prim.Native.Nat.{ℕ}
 use mathlib.Core.Path.{_≡_, refl, sym, ap, _∙_, fun-ext}
 use mathlib.Core.Logic.{_↔_}
 use mathlib.Core.Bool.{true}
@@ -8,14 +8,13 @@ use Rattle.terms.specs.declared.letters.Lettered.{Lettered}
 use Rattle.terms.specs.declared.refusals.Refusal.{Refusal}
 use Rattle.terms.specs.declared.refusals.Refusal.the-variants.{UnknownKind, CellAbove, NotOpen, Waiting, SentBack, AllOpen, NoNumberLeft, Running, BadLine, StartedAtZero, TooManyLines, JobOutside, Ended, ShortOrder, NoRoom, TooLong}
 use Rattle.terms.specs.Letters.{letterOf}
-use Rattle.terms.specs.Refusals.{numberOf}
 use Rattle.conflict.specs.History.{History}
 use Rattle.rules.specs.declared.Answer.the-variants.{No}
 use Rattle.rules.specs.Desk.{Status}
 use Rattle.rules.specs.Rules.{refused}
 use Rattle.rules.specs.Table as table
 use Rattle.rules.specs.Table.{holds, order, firstOf, dueBy, Answers, named}
-use Rattle.rules.proofs.Refusing.{refused-when, due-refused, not-due, answered-not-due, answer-names, due-holds, one-to-eight}
+use Rattle.rules.proofs.Refusing.{refused-when, due-refused, not-due, answered-not-due, answer-names, due-holds}
 use Rattle.board.specs.declared.state.Desk.{Desk}
 use Rattle.board.specs.Steps.{stepOf}
 use Rattle.board.specs.Stands.{statusBy, Started}
@@ -93,8 +92,3 @@ module _ {d : Desk} {h : History} (s : Started d h) (kind job c : ℕ) where
   desk-answer-names j e =
       by-step s kind job c (λ D O. Answers (O .said) j → j ≡ table.namedBy D job (letterOf kind)) (λ D _. unfold named in answer-names D (request kind job c) j)
       (λ _ _ k. k e)
-
-  -- a step gives only the refusals 1 to 8
-  pub desk-one-to-eight : (why : Refusal) → stepOf d kind job c .said .answer ≡ No why → (1 ≤ numberOf why) × (numberOf why ≤ 8)
-  desk-one-to-eight why e =
-      by-step s kind job c (λ D O. O .said ≡ No why → (1 ≤ numberOf why) × (numberOf why ≤ 8)) (λ D _. one-to-eight D (request kind job c) why) (λ _ _ k. k e)

@@ -30,6 +30,7 @@ pub mod DeskSerial
 pub mod DeskRuns
 pub mod ExactRefusals
 pub mod DeskRefusals
+pub mod DeskAnswerNumbers
 pub mod DeskLimits
 pub mod DeskFields
 pub mod DeskInWay

@@ -12,7 +12,7 @@ use Rattle.terms.specs.Letters.{hasJob, hasCell}
 use Rattle.terms.specs.Limits.{lastNumber}
 use Rattle.formats.specs.declared.Written.{Written}
 use Rattle.formats.specs.declared.Written.the-variants.{Next, Refused}
-use Rattle.formats.specs.Records.{lineRecord, told, left}
+use Rattle.formats.specs.Records.{longestRecord, lineRecord, told, left}
 use Rattle.formats.specs.Wrote.{Wrote}
 use Rattle.formats.proofs.Length.{line-length}
 use Rattle.formats.proofs.FieldLaws.{field-at-most}
@@ -21,16 +21,16 @@ use Rattle.formats.proofs.WroteLaws.{wrote-none, wrote-then, wrote-as, wrote-le
 use Rattle.clerk.specs.Parts.{Added}
 
 -- no line of a letter with numbers of 32 bits is longer than 24 bytes
-pub line-at-most-24 : (l : Letter) (job cell : ℕ) → job ≤ lastNumber → cell ≤ lastNumber → length (lineRecord l job cell) ≤ 24
+pub line-at-most-24 : (l : Letter) (job cell : ℕ) → job ≤ lastNumber → cell ≤ lastNumber → length (lineRecord l job cell) ≤ longestRecord
 line-at-most-24 l job cell h g =
     omega (arith, line-length l job cell, field-at-most 9 (hasJob l) job (omega arith), field-at-most 9 (hasCell l) cell (omega arith))
 
 -- a record whose place was told was written
-pub added-next : {w : Written} {at n : ℕ} {bs b m : List ℕ} → w ≡ told b at bs → w ≡ Next n → m ≡ left b at bs → length bs ≤ 24 → Added 24 at n bs b m
+pub added-next : {w : Written} {at n : ℕ} {bs b m : List ℕ} → w ≡ told b at bs → w ≡ Next n → m ≡ left b at bs → length bs ≤ longestRecord → Added longestRecord at n bs b m
 added-next e f g h = record { wrote = next-wrote e f g; few = h }
 
 -- a record for which there is room is never refused
-pub never-refused : {P : Type 0} {w : Written} {why : Refusal} (b : List ℕ) (at : ℕ) (bs : List ℕ) → w ≡ told b at bs → w ≡ Refused why → length bs ≤ 24 → at + 24 ≤ length b → P
+pub never-refused : {P : Type 0} {w : Written} {why : Refusal} (b : List ℕ) (at : ℕ) (bs : List ℕ) → w ≡ told b at bs → w ≡ Refused why → length bs ≤ longestRecord → at + longestRecord ≤ length b → P
 never-refused b at bs e f h r = not-refused b at bs e f (omega arith)
 
 -- nothing was written

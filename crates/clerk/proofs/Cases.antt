@@ -1,8 +1,8 @@
 -- Each branch of the code against the definition by cases that it follows.
 -- Assumes nothing.
 use Prim.Native.Nat.{ℕ}
-use mathlib.Core.Path.{_≡_, refl, sym, ap, _∙_}
-use mathlib.Core.List.{List, [], _++_, append-nil}
+use mathlib.Core.Path.{_≡_, sym}
+use mathlib.Core.List.{[], append-nil}
 use Rattle.terms.specs.declared.letters.Letter.{Letter}
 use Rattle.terms.specs.declared.letters.Letter.the-variants.{Asks}
 use Rattle.terms.specs.declared.letters.Ask.{Ask}
@@ -17,7 +17,8 @@ use Rattle.runs.specs.declared.View.{View}
 use Rattle.runs.specs.declared.View.the-variants.{Answers, History}
 use Rattle.rules.specs.Step.{recordsOf, ownRecords, wakeRecords}
 use Rattle.verdicts.specs.Written.{askBy, textOf}
-use Rattle.runs.specs.Run.{wordOf, numberBeside, answerLines, historyLines, wakeLines}
+use Rattle.rules.specs.AnswerWords.{wordOf, numberBeside}
+use Rattle.runs.specs.Run.{answerLines, historyLines, wakeLines}
 use Rattle.runs.specs.Work.{viewed, unended}
 use Rattle.clerk.specs.declared.records.Noted.{Noted}
 use Rattle.clerk.specs.declared.records.Noted.the-variants.{Nothing, Line}

@@ -9,6 +9,7 @@ use lib.ListN.{length, take, getD, length-append}
 use lib.Seq.{take-suc, take-all}
 use Rattle.terms.specs.declared.letters.Letter.{Letter}
 use Rattle.conflict.specs.declared.action.Action.{Action}
+use Rattle.formats.specs.Records.{longestRecord}
 use Rattle.formats.specs.Wrote.{Wrote}
 use Rattle.formats.proofs.WroteLaws.{wrote-then, wrote-as}
 use Rattle.board.specs.declared.state.Said.{Said}
@@ -43,8 +44,8 @@ wakes-none view line ws h = added-none h
 
 -- one more is written behind the others
 pub wakes-more : (view : View) (line : ℕ) (ws : List Action) (i : ℕ) (d : Action) {at a e : ℕ} {b m p : List ℕ} → i < length ws →
-    Added (24 * i) at a (wakeRecords view line (take i ws)) b m → Added 24 a e (wakeRecord view line (getD ws i d)) m p →
-    Added (24 * (i + 1)) at e (wakeRecords view line (take (i + 1) ws)) b p
+    Added (longestRecord * i) at a (wakeRecords view line (take i ws)) b m → Added longestRecord a e (wakeRecord view line (getD ws i d)) m p →
+    Added (longestRecord * (i + 1)) at e (wakeRecords view line (take (i + 1) ws)) b p
 wakes-more view line ws i d h w v =
     added-as
     (record { wrote = wrote-then (w .wrote) (v .wrote); few = simp length-append (let f = w .few in let g = v .few in omega arith) })
@@ -62,12 +63,12 @@ wakes-told view line ws i count h g w = wrote-as (w .wrote) (let e : i ≡ count
 
 module _ (view : View) (line : ℕ) (l : Letter) (cell : ℕ) (said : Said) where
   -- where nobody wakes, the first record is all
-  pub records-quiet : {at e : ℕ} {b m : List ℕ} → said .count ≡ 0 → Added 24 at e (firstRecord view line l cell (said .answer)) b m → Wrote at e (lineRecords view line l cell said) b m
+  pub records-quiet : {at e : ℕ} {b m : List ℕ} → said .count ≡ 0 → Added longestRecord at e (firstRecord view line l cell (said .answer)) b m → Wrote at e (lineRecords view line l cell said) b m
   unfolding lineRecords wakeRecords
   records-quiet h w = wrote-as (w .wrote) (sym (append-nil _) ∙ rw h)
 
   -- and else the wakes stand behind it
-  pub records-woken : {at a e : ℕ} {b m p : List ℕ} → Added 24 at a (firstRecord view line l cell (said .answer)) b m →
+  pub records-woken : {at a e : ℕ} {b m p : List ℕ} → Added longestRecord at a (firstRecord view line l cell (said .answer)) b m →
       Wrote a e (wakeRecords view line (take (said .count) (said .wakes))) m p → Wrote at e (lineRecords view line l cell said) b p
   unfolding lineRecords
   records-woken w v = wrote-then (w .wrote) v

@@ -14,7 +14,7 @@ use Rattle.board.specs.declared.state.Said.{Said}
 use Rattle.runs.specs.declared.View.{View}
 use Rattle.runs.specs.declared.View.the-variants.{Answers, History}
 use Rattle.verdicts.specs.Written.{askBy}
-use Rattle.runs.specs.Run.{wordOf, numberBeside}
+use Rattle.rules.specs.AnswerWords.{wordOf, numberBeside}
 use Rattle.clerk.specs.declared.records.Noted.{Noted}
 use Rattle.clerk.specs.declared.records.Noted.the-variants.{Nothing, Line}
 

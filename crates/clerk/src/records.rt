@@ -17,12 +17,11 @@ ghost use mathlib.Core.Bool.{true};
 ghost use Prim.Native.Nat.{_+_, _≤_};
 ghost use lib.ListN.{length, take};
 ghost use Rattle.terms.specs.Limits.{requestLines, lastNumber};
-ghost use Rattle.formats.specs.Records.{answerRecord, lineRecord};
+ghost use Rattle.formats.specs.Records.{ofAnswers, answerRecord, longestRecord, lineRecord};
 ghost use Rattle.formats.specs.Wrote.{Wrote};
-ghost use Rattle.formats.proofs.Length.{ofAnswers};
+ghost use Rattle.rules.specs.AnswerWords.{wordOf, numberBeside};
 ghost use Rattle.verdicts.specs.Written.{askBy};
-ghost use Rattle.runs.specs.Run.{wordOf, numberBeside};
-ghost use Rattle.runs.specs.Work.{viewed, unended, lineRoom};
+ghost use Rattle.runs.specs.Work.{viewed, unended, wakesRoom, lineRoom};
 ghost use Rattle.clerk.specs.Parts.{Added, notedGo, noted, notedBytes, firstRecord, wakeRecord, wakeRecords, lineRecords};
 
 // What the history notes of a request, beside the wakes: one line of a letter, or nothing.
@@ -110,8 +109,8 @@ fn noted_of(letter: Letter, cell: u32, a: Answer) -> Noted
 
 // An answer record, for which there is room.
 fn put_answer(out: &mut [u8], at: usize, line: u64, word: Word, number: u64) -> usize
-    requires { ⌜ (line ≤ requestLines) × (ofAnswers word ≡ true) × (number ≤ lastNumber) × (at + 24 ≤ length (now out)) ⌝ }
-    ensures { λ r. ⌜ Added 24 at r (answerRecord line word number) (now (out .entry)) (now (out .exit)) ⌝ }
+    requires { ⌜ (line ≤ requestLines) × (ofAnswers word ≡ true) × (number ≤ lastNumber) × (at + longestRecord ≤ length (now out)) ⌝ }
+    ensures { λ r. ⌜ Added longestRecord at r (answerRecord line word number) (now (out .entry)) (now (out .exit)) ⌝ }
 {
     match write_answer(out, at, line, word, number) {
         Written::Next(next) => next,
@@ -121,8 +120,8 @@ fn put_answer(out: &mut [u8], at: usize, line: u64, word: Word, number: u64) -> 
 
 // The line of a letter, for which there is room.
 fn put_line(out: &mut [u8], at: usize, letter: Letter, job: u32, cell: u32) -> usize
-    requires { ⌜ at + 24 ≤ length (now out) ⌝ }
-    ensures { λ r. ⌜ Added 24 at r (lineRecord letter job cell) (now (out .entry)) (now (out .exit)) ⌝ }
+    requires { ⌜ at + longestRecord ≤ length (now out) ⌝ }
+    ensures { λ r. ⌜ Added longestRecord at r (lineRecord letter job cell) (now (out .entry)) (now (out .exit)) ⌝ }
 {
     match write_line(out, at, letter, job as u64, cell as u64) {
         Written::Next(next) => next,
@@ -132,8 +131,8 @@ fn put_line(out: &mut [u8], at: usize, letter: Letter, job: u32, cell: u32) -> u
 
 // What the history notes, if it notes anything.
 fn put_noted(out: &mut [u8], at: usize, n: Noted) -> usize
-    requires { ⌜ at + 24 ≤ length (now out) ⌝ }
-    ensures { λ r. ⌜ Added 24 at r (notedBytes n) (now (out .entry)) (now (out .exit)) ⌝ }
+    requires { ⌜ at + longestRecord ≤ length (now out) ⌝ }
+    ensures { λ r. ⌜ Added longestRecord at r (notedBytes n) (now (out .entry)) (now (out .exit)) ⌝ }
 {
     match n {
         Noted::Nothing => at,
@@ -151,8 +150,8 @@ fn put_first(
     cell: u32,
     a: Answer,
 ) -> usize
-    requires { ⌜ (line ≤ requestLines) × (at + 24 ≤ length (now out)) ⌝ }
-    ensures { λ r. ⌜ Added 24 at r (firstRecord view line letter cell a) (now (out .entry)) (now (out .exit)) ⌝ }
+    requires { ⌜ (line ≤ requestLines) × (at + longestRecord ≤ length (now out)) ⌝ }
+    ensures { λ r. ⌜ Added longestRecord at r (firstRecord view line letter cell a) (now (out .entry)) (now (out .exit)) ⌝ }
 {
     match view {
         View::Answers => put_answer(out, at, line, word_of(a), number_beside(a)),
@@ -162,8 +161,8 @@ fn put_first(
 
 // The record of a wake.
 fn put_wake(view: View, out: &mut [u8], at: usize, line: u64, a: Action) -> usize
-    requires { ⌜ (line ≤ requestLines) × (at + 24 ≤ length (now out)) ⌝ }
-    ensures { λ r. ⌜ Added 24 at r (wakeRecord view line a) (now (out .entry)) (now (out .exit)) ⌝ }
+    requires { ⌜ (line ≤ requestLines) × (at + longestRecord ≤ length (now out)) ⌝ }
+    ensures { λ r. ⌜ Added longestRecord at r (wakeRecord view line a) (now (out .entry)) (now (out .exit)) ⌝ }
 {
     match view {
         View::Answers => put_answer(out, at, line, Word::Wake, a.job as u64),
@@ -183,7 +182,7 @@ fn put_wakes(
     wakes: [Action; 32],
     count: usize,
 ) -> usize
-    requires { ⌜ (line ≤ requestLines) × (at + 768 ≤ length (now out)) ⌝ }
+    requires { ⌜ (line ≤ requestLines) × (at + wakesRoom ≤ length (now out)) ⌝ }
     ensures { λ r. ⌜ Wrote at r (wakeRecords view line (take count wakes)) (now (out .entry)) (now (out .exit)) ⌝ }
 {
     let mut next = at;

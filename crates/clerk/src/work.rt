@@ -10,6 +10,7 @@ use runs::Finished;
 use runs::View;
 use runs::Worked;
 use terms::letters::byte_of;
+use terms::limits::PLACES;
 use terms::limits::REQUEST_LINES;
 use text::reader::read_request;
 ghost use mathlib.Core.Path.{_≡_};
@@ -20,8 +21,10 @@ ghost use Rattle.formats.specs.Lines.{readLine};
 ghost use Rattle.formats.specs.Split.{Found, foundAt};
 ghost use Rattle.runs.specs.Work.{lineRoom, due, owing, workOf, finishOf};
 
-// No line has more bytes of records: its own record and at most 32 wakes, each of at most 24 bytes.
-pub const LINE_ROOM: usize = 792;
+// The longest record has so many bytes.
+const LONGEST_RECORD: usize = 24;
+// No line has more bytes of records: its own record, and one for each wake.
+pub const LINE_ROOM: usize = LONGEST_RECORD + LONGEST_RECORD * PLACES;
 
 // Whether there is room for the records of any line from a place on.
 fn has_room(room: usize, at: usize) -> bool

@@ -19,6 +19,7 @@ use Rattle.terms.proofs.Alphabet.{byte-of-letter}
 use Rattle.formats.specs.declared.Reading.{Reading}
 use Rattle.formats.specs.declared.Reading.the-variants.{Good, Bad}
 use Rattle.formats.specs.Records.{field, lineRecord}
+use Rattle.formats.specs.GoodLine.{GoodLine}
 use Rattle.formats.specs.Lines.{refusalOf, lastCell, ending, cellPart, jobPart, letterPart, readLine}
 use Rattle.formats.proofs.ReadBack.{reads-record}
 use Rattle.formats.proofs.WrittenFields.{NumberField, number-written, ending-written, not-bad}
@@ -107,11 +108,6 @@ unfolding jobPart
 fields-written l m job cell t e =
     by-test (hasJob l) (λ h. job-there l m job cell t h (number-written lastNumber t _ m job cell (rw h at e)))
     (λ h. job-not-there l m job cell t h (cell-written l m 0 job cell t (rw h at e)))
-
--- what a good line is: the record of a letter that such lines have, with fields that are not too large, and 0 for a field that the letter does not have
-abbrev pub GoodLine : (Letter → Bool) → List ℕ → Letter → ℕ → ℕ → Type 0
-GoodLine which bytes l job cell =
-    (bytes ≡ lineRecord l job cell) × (which l ≡ true) × (job ≤ lastNumber) × (cell ≤ lastCell) × (hasJob l ≡ false → job ≡ 0) × (hasCell l ≡ false → cell ≡ 0)
 
 -- the letter of a good line
 letter-written : (which : Letter → Bool) (b : ℕ) (t : List ℕ) (n : Lettered) (m : Letter) (job cell : ℕ) → letterOf b ≡ n → letterPart which n t ≡ Good m job cell → GoodLine which (b ∷ t) m job cell

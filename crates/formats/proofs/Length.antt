@@ -2,7 +2,7 @@
 -- Assumes nothing.
 use Prim.Native.Nat.{ℕ, _+_, _≤_}
 use mathlib.Core.Path.{_≡_, refl}
-use mathlib.Core.Bool.{Bool, true, false}
+use mathlib.Core.Bool.{true}
 use native.Mathlib.Omega.{arith}
 use lib.ListN.{length, length-append}
 use Rattle.laws.specs.Choice.{not-both}
@@ -16,7 +16,7 @@ use Rattle.terms.specs.Limits.{lastNumber, requestLines}
 use Rattle.terms.specs.Words.{spelt}
 use Rattle.formats.specs.Decimal.{decimal, digitsIn}
 use Rattle.formats.specs.Lines.{lastCell}
-use Rattle.formats.specs.Records.{field, answerRecord, lineRecord}
+use Rattle.formats.specs.Records.{ofAnswers, answerRecord, longestRecord, field, lineRecord}
 use Rattle.formats.proofs.DigitLaws.{digits-at-most}
 use Rattle.formats.proofs.FieldLaws.{field-at-most}
 
@@ -31,17 +31,7 @@ pub line-length : (l : Letter) (job cell : ℕ) → length (lineRecord l job cel
 unfolding lineRecord
 line-length l job cell = simp length-append (omega arith)
 
--- the words of answer records: go, wait, back, no and wake (01, Lines)
-abbrev pub ofAnswers : Word → Bool
-ofAnswers Go = true
-ofAnswers Wait = true
-ofAnswers Back = true
-ofAnswers No = true
-ofAnswers Wake = true
-ofAnswers Orderly = false
-ofAnswers Knot = false
-
--- such a word has at most four bytes
+-- a word of answer records has at most four bytes
 pub answer-word-at-most-4 : (w : Word) → ofAnswers w ≡ true → length (spelt w) ≤ 4
 answer-word-at-most-4 Go e = omega arith
 answer-word-at-most-4 Wait e = omega arith
@@ -53,7 +43,7 @@ answer-word-at-most-4 Knot e = not-both e refl
 
 -- no answer record of the desk programs is longer than 24 bytes (01, Lines)
 pub answer-at-most-24 : (line : ℕ) (word : Word) (number : ℕ) → line ≤ requestLines → ofAnswers word ≡ true → number ≤ lastNumber →
-    length (answerRecord line word number) ≤ 24
+    length (answerRecord line word number) ≤ longestRecord
 answer-at-most-24 line word number h a g =
     omega (
       arith,
@@ -64,7 +54,7 @@ answer-at-most-24 line word number h a g =
     )
 
 -- and one is as long: line 1,000,000, a wake, and a job of ten digits (01, Lines)
-pub answer-24 : length (answerRecord requestLines Wake lastNumber) ≡ 24
+pub answer-24 : length (answerRecord requestLines Wake lastNumber) ≡ longestRecord
 unfolding answerRecord decimal digitsIn
 answer-24 = refl
 

@@ -2,5 +2,6 @@ pub mod Decimal
 pub mod Wrote
 pub mod Records
 pub mod Lines
+pub mod GoodLine
 pub mod Fields
 pub mod Split

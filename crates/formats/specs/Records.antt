@@ -1,12 +1,13 @@
 -- The records, and what writing one into a lent buffer tells and leaves (01, Lines).
 use Prim.Native.Nat.{ℕ, _+_}
-use mathlib.Core.Bool.{Bool}
+use mathlib.Core.Bool.{Bool, true, false}
 use mathlib.Core.List.{List, [], _∷_, _++_}
 use lib.Dec.{leb}
 use lib.ListN.{length, take, drop}
 use Rattle.laws.specs.Choice.{pick}
 use Rattle.terms.specs.declared.letters.Letter.{Letter}
 use Rattle.terms.specs.declared.words.Word.{Word}
+use Rattle.terms.specs.declared.words.Word.the-variants.{Go, Wait, Back, No, Wake, Orderly, Knot}
 use Rattle.terms.specs.declared.refusals.Refusal.the-variants.{NoRoom}
 use Rattle.terms.specs.Letters.{byteOf, hasJob, hasCell}
 use Rattle.terms.specs.Words.{tab, newline, spelt}
@@ -14,9 +15,23 @@ use Rattle.formats.specs.declared.Written.{Written}
 use Rattle.formats.specs.declared.Written.the-variants.{Next, Refused}
 use Rattle.formats.specs.Decimal.{decimal}
 
+-- the words of answer records: go, wait, back, no and wake (01, Lines)
+abbrev pub ofAnswers : Word → Bool
+ofAnswers Go = true
+ofAnswers Wait = true
+ofAnswers Back = true
+ofAnswers No = true
+ofAnswers Wake = true
+ofAnswers Orderly = false
+ofAnswers Knot = false
+
 -- answer record: request line number, word, number (01, Lines)
 unfoldable pub answerRecord : ℕ → Word → ℕ → List ℕ
 answerRecord line word number = decimal line ++ tab ∷ spelt word ++ tab ∷ decimal number ++ newline ∷ []
+
+-- no answer record of the desk programs has more bytes, and one has as many: `answer-at-most-24`, `answer-24` (01, Lines: the longest is 24 bytes)
+abbrev pub longestRecord : ℕ
+longestRecord = 24
 
 -- a further field where there is one: a tab and the number
 unfoldable pub field : Bool → ℕ → List ℕ

@@ -32,19 +32,16 @@ use Rattle.text.proofs.WordLaws.{word-at-most-7}
 use Rattle.formats.proofs.WriterLaws.{told-next, left-text}
 use Rattle.verdicts.specs.Judged as judged
 use Rattle.verdicts.specs.Judged.{orderly, knotted}
-use Rattle.verdicts.specs.HistoryText.{Faulty, firstFaulty, eventsIn}
+use Rattle.verdicts.specs.HistoryText.{Faulty, firstFaulty, eventsIn, Tells}
 use Rattle.verdicts.specs.Judgement.{filled, sayVerdict, sayLines, judgementOf}
 use Rattle.verdicts.proofs.Deciding.{by-verdict}
 use Rattle.verdicts.proofs.FewJobs.{at-most-255, committed-within}
 use Rattle.verdicts.proofs.Histories.{jobs-committed, order-once, order-names, knot-shows}
-use Rattle.verdicts.proofs.LineFaults.{Tells, finds-fault}
+use Rattle.verdicts.proofs.LineFaults.{finds-fault}
 use Rattle.judge.proofs.FewLines.{number-few}
 use Rattle.runs.specs.Programs.{tabbed, wordLine, sayLine, judgedLine, verdictOf}
+use Rattle.runs.specs.VerdictLine.{lineLimit}
 use Rattle.reporter.proofs.WordLines.{word-line-length, two-numbers-length}
-
--- seven bytes of the longest word, four for each of 255 jobs, and the newline
-abbrev pub lineLimit : ℕ
-lineLimit = 1_028
 
 -- jobs of at most three digits have at most four bytes each, the tab among them
 tabbed-at-most : (js : List ℕ) → ((j : ℕ) → member j js ≡ true → j ≤ judgedJobs) → length (tabbed js) ≤ 4 * length js

@@ -9,13 +9,13 @@ use Rattle.laws.proofs.Lists.{same-refl}
 use Rattle.rules.specs.declared.Answer.{Answer}
 use Rattle.rules.specs.declared.Answer.the-variants.{Go, Wait, Back, No}
 
--- a number for the word of an answer
-abbrev pub wordOf : Answer → ℕ
-wordOf (Go j) = 0
-wordOf (Wait j) = 1
-wordOf (Back j) = 2
-wordOf (No why) = 3
+-- a number for the case of an answer
+abbrev pub caseOf : Answer → ℕ
+caseOf (Go j) = 0
+caseOf (Wait j) = 1
+caseOf (Back j) = 2
+caseOf (No why) = 3
 
 -- an answer has one word
-pub other-answer : {P : Type 0} {x y : Answer} → x ≡ y → same (wordOf x) (wordOf y) ≡ false → P
-other-answer {y = y} e n = not-both (rw e (same-refl (wordOf y))) n
+pub other-answer : {P : Type 0} {x y : Answer} → x ≡ y → same (caseOf x) (caseOf y) ≡ false → P
+other-answer {y = y} e n = not-both (rw e (same-refl (caseOf y))) n

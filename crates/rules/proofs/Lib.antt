@@ -17,6 +17,7 @@ pub mod KeptRun
 pub mod Kept
 pub mod TableMeant
 pub mod Refusing
+pub mod AnswerNumbers
 pub mod Starting
 pub mod OpenJobs
 pub mod Fields

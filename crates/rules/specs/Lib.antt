@@ -1,3 +1,4 @@
+pub mod AnswerWords
 pub mod Desk
 pub mod Locks
 pub mod Rules

@@ -1,13 +1,11 @@
 -- However a caller goes about it, he has written out the records of the run: chunks, buffers and the times of writing out do not matter.
 -- Assumes nothing.
-use Prim.Native.Nat.{ℕ, _+_, _≤_, _<_}
-use mathlib.Core.Path.{_≡_, refl, sym, ap, ap₂, _∙_, subst}
+use Prim.Native.Nat.{ℕ, _+_, _≤_}
+use mathlib.Core.Path.{_≡_, refl, sym, ap, ap₂, _∙_}
 use mathlib.Core.Bool.{Bool, true, false}
 use mathlib.Core.List.{List, [], _∷_, _++_, append-assoc, append-nil}
 use native.Mathlib.Omega.{arith}
 use lib.ListN.{length, take}
-use borrow.Author.Tests.{leb-true}
-use lib.Dec.{leb}
 use Rattle.laws.specs.Choice.{pick, by-test}
 use Rattle.formats.specs.declared.splitter.Splitter.{Splitter}
 use Rattle.formats.specs.Split.{following, fresh, linesOf, joined, afterAll, foundIn, foundLast, foundOver, numberedOn}
@@ -16,20 +14,15 @@ use Rattle.formats.proofs.TextLines.{lines-one}
 use Rattle.board.specs.Steps.{emptyDesk}
 use Rattle.runs.specs.declared.Clerk.{Clerk}
 use Rattle.runs.specs.declared.View.{View}
-use Rattle.runs.specs.Run.{Told, runOf, written}
-use Rattle.runs.specs.Programs.{onBoard, firstNumber}
-use Rattle.runs.specs.Work.{startedClerk, viewed, roomy, lineRoom, put, unended, owing, workOf, finishOf}
-use Rattle.runs.specs.Callers.{portion, Course, starts, works, empties}
-use Rattle.runs.proofs.Tellings.{tellings, deskAfter, tellings-append, tellings-run}
-use Rattle.runs.proofs.Records.{clerkAfter, recordsIn, written-append, clerk-append, records-append, clerk-none, records-none}
-use Rattle.runs.proofs.OneCall.{Did, did-none, did-more, called, put-take}
+use Rattle.runs.specs.Run.{Told, written}
+use Rattle.runs.specs.Programs.{onBoard, firstNumber, boardRun}
+use Rattle.runs.specs.Work.{startedClerk, viewed, roomy, unended, owing, workOf, finishOf}
+use Rattle.runs.specs.Callers.{portion, Course, starts, works, empties, Standing}
+use Rattle.runs.specs.Tellings.{tellings, deskAfter, clerkAfter, recordsIn}
+use Rattle.runs.proofs.Tellings.{tellings-append, tellings-run}
+use Rattle.runs.proofs.Records.{written-append, clerk-append, records-append, clerk-none, records-none}
+use Rattle.runs.proofs.OneCall.{Did, called, put-take}
 use Rattle.runs.proofs.LastLine.{open-always, last-told}
-
--- where a course has come to
-pub record Standing (view : View) (text sent : List ℕ) (c : Clerk) (out : List ℕ) (at : ℕ) : Type 0 where
-  pub clerk : c ≡ clerkAfter startedClerk text
-  pub said : sent ++ take at out ≡ recordsIn view startedClerk text
-  pub within : at ≤ length out
 
 -- one call, whatever the chunk and the place
 pub call-did : (view : View) (c : Clerk) (chunk : List ℕ) (from : ℕ) (out : List ℕ) (at : ℕ) → at ≤ length out →
@@ -59,10 +52,6 @@ pub course-stands : {view : View} {text sent : List ℕ} {c : Clerk} {out : List
 course-stands {view} (starts out) = record { clerk = sym (clerk-none startedClerk); said = sym (records-none view startedClerk); within = omega arith }
 course-stands {view} (works {c = c} {out = out} {at = at} k chunk from) = did-stands (course-stands k) (call-did view c chunk from out at (course-stands k .within))
 course-stands (empties k next) = empty-stands (course-stands k) next
-
--- the run of a text on the desk that runs
-unfoldable pub boardRun : List ℕ → List Told
-boardRun text = runOf onBoard (emptyDesk firstNumber) 1 (linesOf text)
 
 -- the lines that are found in a text and at its end are those of the text as one chunk
 one-chunk : (text : List ℕ) → foundIn fresh text ++ foundLast (afterAll fresh text) ≡ numberedOn 1 (linesOf text)

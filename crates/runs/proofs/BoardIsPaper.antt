@@ -22,8 +22,7 @@ use Rattle.board.specs.Stands.{Stands, wakesTold}
 use Rattle.board.proofs.StepTied.{tie}
 use Rattle.board.proofs.FreshStands.{fresh-stands}
 use Rattle.runs.specs.Run.{Told, Lined, answered, lineBy, runOf}
-use Rattle.runs.specs.Programs.{onPaper, onBoard, firstNumber, runOn}
-use Rattle.runs.proofs.AnyCourse.{boardRun}
+use Rattle.runs.specs.Programs.{onPaper, onBoard, firstNumber, runOn, boardRun}
 
 -- the arrays stand for a paper's desk of which that holds which holds of every started one
 record Same (d : board.Desk) (D : Desk) : Type 0 where

@@ -1,27 +1,27 @@
 -- After line 1,000,000 nothing more is written, whatever follows: a program may stop reading there (01, Lines).
 -- Assumes nothing.
 use Prim.Native.Nat.{ℕ, _+_, _-_, _^_, _≤_, _<_}
-use mathlib.Core.Path.{_≡_, refl, sym, ap, ap₂, _∙_}
-use mathlib.Core.Bool.{Bool, true, false, not, _&&_}
-use mathlib.Core.List.{List, [], _∷_, _++_, append-assoc, append-nil}
+use mathlib.Core.Path.{_≡_, refl, sym, ap, _∙_}
+use mathlib.Core.Bool.{true, false}
+use mathlib.Core.List.{List, [], _∷_, _++_, append-nil}
 use native.Mathlib.Omega.{arith}
-use lib.Dec.{leb, ltb}
+use lib.Dec.{ltb}
 use lib.ListN.{take}
 use borrow.Author.Tests.{leb-true, ltb-true, ltb-false, le-leb, lt-ltb, lt-leb}
-use Rattle.laws.specs.Choice.{pick, by-test, not-both}
+use Rattle.laws.specs.Choice.{pick, by-test}
 use Rattle.terms.specs.Limits.{requestLines}
 use Rattle.formats.specs.declared.splitter.Splitter.{Splitter}
 use Rattle.formats.specs.Split.{kept, following, fresh, taken, afterAll, Found, foundAt, foundNow, foundIn}
 use Rattle.formats.proofs.Chunks.{after-append}
 use Rattle.runs.specs.declared.Clerk.{Clerk}
 use Rattle.runs.specs.declared.View.{View}
-use Rattle.runs.specs.Run.{Stepping, Told, written}
-use Rattle.runs.specs.Programs.{onBoard}
+use Rattle.runs.specs.Run.{Stepping, written}
+use Rattle.runs.specs.Programs.{onBoard, boardRun}
 use Rattle.runs.specs.Work.{startedClerk, viewed, unended, owing, allRead}
 use Rattle.runs.specs.Callers.{Course}
-use Rattle.runs.proofs.Tellings.{tellings}
-use Rattle.runs.proofs.Records.{clerkAfter, recordsIn, records-append}
-use Rattle.runs.proofs.AnyCourse.{boardRun, last-records, course-stands, seen-splitter}
+use Rattle.runs.specs.Tellings.{tellings, clerkAfter, recordsIn}
+use Rattle.runs.proofs.Records.{records-append}
+use Rattle.runs.proofs.AnyCourse.{last-records, course-stands, seen-splitter}
 
 -- the number of the next line is past 1,000,000 where that of this one has come to it
 past-next : (n : ℕ) → requestLines ≤ n → requestLines < following n

@@ -1,13 +1,13 @@
 -- A line that lacks its newline is a bad line, and so it is answered as the end of the input answers it (01, Lines).
 -- Assumes nothing.
-use Prim.Native.Nat.{ℕ, suc, _+_, _≤_, _<_}
+use Prim.Native.Nat.{ℕ, _+_, _<_}
 use mathlib.Core.Path.{_≡_, refl, sym, ap, _∙_}
-use mathlib.Core.Bool.{Bool, true, false, not, _&&_}
+use mathlib.Core.Bool.{Bool, true, false}
 use mathlib.Core.List.{List, [], _∷_, _++_}
 use native.Mathlib.Omega.{arith}
 use native.Mathlib.Numerals.{add-one}
 use lib.Dec.{eqb, ltb, leb}
-use lib.ListN.{length, take, set}
+use lib.ListN.{take, set}
 use lib.Seq.{take-suc-set}
 use borrow.Author.Tests.{ltb-true}
 use Rattle.laws.specs.Choice.{pick, by-test, not-both}
@@ -20,13 +20,13 @@ use Rattle.formats.specs.declared.Reading.the-variants.{Good, Bad}
 use Rattle.formats.specs.declared.splitter.Splitter.{Splitter}
 use Rattle.formats.specs.Lines.{readLine}
 use Rattle.formats.specs.Records.{field, lineRecord}
-use Rattle.formats.specs.Split.{kept, fresh, taken, afterAll, Sized, Found, foundAt, foundLast, hasNewline}
+use Rattle.formats.specs.Split.{kept, fresh, taken, afterAll, Sized, foundAt, foundLast, hasNewline}
 use Rattle.formats.proofs.Cuts.{taken-ended}
 use Rattle.formats.proofs.Held.{fresh-sized, taken-sized}
 use Rattle.formats.proofs.GoodLine.{good-is-record}
-use Rattle.runs.specs.Run.{Stepping, Told, answered, lineBy}
+use Rattle.runs.specs.Run.{Stepping, answered, lineBy}
 use Rattle.runs.specs.Work.{unended, owing}
-use Rattle.runs.proofs.Tellings.{telling, tellings}
+use Rattle.runs.specs.Tellings.{telling, tellings}
 
 -- what ends in a byte ends in a newline where that byte is one
 last-byte : (l : List ℕ) (b : ℕ) → hasNewline (l ++ b ∷ []) ≡ eqb b newline

@@ -11,18 +11,18 @@ use lib.Seq.{length-take-le, take-at}
 use borrow.Author.Tests.{ltb-true}
 use Rattle.laws.specs.Choice.{by-test}
 use Rattle.formats.specs.declared.splitter.Splitter.{Splitter}
-use Rattle.formats.specs.Split.{cutOf, afterAll, Found, foundAt, foundNow, foundIn}
+use Rattle.formats.specs.Split.{cutOf, foundAt, foundNow}
 use Rattle.formats.proofs.Cuts.{cut-ahead}
 use Rattle.board.specs.declared.state.Desk.{Desk}
 use Rattle.runs.specs.declared.Clerk.{Clerk}
 use Rattle.runs.specs.declared.View.{View}
 use Rattle.runs.specs.Run.{Told, Lined, written}
 use Rattle.runs.specs.Programs.{onBoard}
-use Rattle.runs.specs.Work.{viewed, roomy, put, due, Turn, answering, turning, cutting, Working, stopped, workBy, workOf}
+use Rattle.runs.specs.Work.{viewed, roomy, put, due, answering, turning, cutting, Working, stopped, workBy}
 use Rattle.runs.specs.Callers.{portion}
-use Rattle.runs.proofs.Tellings.{telling, tellings, deskAfter}
+use Rattle.runs.specs.Tellings.{telling, tellings, deskAfter, clerkAfter, recordsIn}
 use Rattle.runs.proofs.Portions.{portion-none, portion-split, cut-leads, cut-finds}
-use Rattle.runs.proofs.Records.{clerkAfter, recordsIn, clerk-append, records-append, clerk-none, records-none, due-told, due-desk, not-due-told, not-due-desk}
+use Rattle.runs.proofs.Records.{clerk-append, records-append, clerk-none, records-none, due-told, due-desk, not-due-told, not-due-desk}
 
 -- what bytes put into a buffer leave in front of the place after them
 pub put-take : (out : List ℕ) (at : ℕ) (bytes : List ℕ) → at ≤ length out → take (at + length bytes) (put out at bytes) ≡ take at out ++ bytes

@@ -5,24 +5,19 @@ use mathlib.Core.Path.{_≡_, refl, sym, ap, _∙_}
 use mathlib.Core.Bool.{true}
 use mathlib.Core.List.{List, [], _++_}
 use lib.ListN.{length}
-use Rattle.formats.specs.Split.{fresh, joined, afterAll}
+use Rattle.formats.specs.Split.{joined}
 use Rattle.runs.specs.declared.View.{View}
 use Rattle.runs.specs.declared.View.the-variants.{Answers, History}
 use Rattle.runs.specs.Run.{written}
-use Rattle.runs.specs.Programs.{runOn, answersOf, historyOf}
+use Rattle.runs.specs.Programs.{runOn, answersOf, historyOf, programOf}
 use Rattle.runs.specs.Work.{startedClerk, viewed, lineRoom, allRead}
 use Rattle.runs.specs.Callers.{callsOver, sentOver}
-use Rattle.runs.proofs.AnyCourse.{boardRun, course-stands, seen-splitter}
+use Rattle.runs.proofs.AnyCourse.{course-stands, seen-splitter}
 use Rattle.runs.proofs.WholeProgram.{caller-course, whole-program}
 use Rattle.runs.proofs.EarlyStop.{nothing-after}
 use Rattle.runs.proofs.BoardIsPaper.{text-run}
 
--- what the program of a view writes, from text to text
-unfoldable pub programOf : View → List ℕ → List ℕ
-programOf Answers text = answersOf text
-programOf History text = historyOf text
-
--- it is what is written of the run in that view
+-- what a program writes is what is written of the run in its view
 program-is : (view : View) (text : List ℕ) → written (viewed view) (runOn text) ≡ programOf view text
 unfolding programOf answersOf historyOf viewed
 program-is Answers text = refl

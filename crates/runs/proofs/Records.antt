@@ -1,16 +1,14 @@
 -- What a clerk leaves and writes after some bytes: the lines that end in them are answered, one after another.
 -- Assumes nothing.
-use Prim.Native.Nat.{ℕ, _+_, _≤_, _<_}
-use mathlib.Core.Path.{_≡_, refl, sym, ap, ap₂, _∙_}
-use mathlib.Core.Bool.{Bool, true, false, _&&_}
-use mathlib.Core.List.{List, [], _∷_, _++_, append-assoc, append-nil}
-use native.Mathlib.Omega.{arith}
+use Prim.Native.Nat.{ℕ, _+_}
+use mathlib.Core.Path.{_≡_, refl, sym, ap, _∙_}
+use mathlib.Core.Bool.{true, false}
+use mathlib.Core.List.{List, [], _∷_, _++_, append-assoc}
 use lib.Dec.{leb}
-use lib.ListN.{length}
 use Rattle.laws.specs.Choice.{by-test, not-both}
 use Rattle.terms.specs.Limits.{requestLines}
 use Rattle.formats.specs.declared.splitter.Splitter.{Splitter}
-use Rattle.formats.specs.Split.{afterAll, Found, foundAt, foundNow, foundIn}
+use Rattle.formats.specs.Split.{afterAll, foundAt, foundNow, foundIn}
 use Rattle.formats.proofs.Chunks.{after-append, found-append}
 use Rattle.board.specs.declared.state.Desk.{Desk}
 use Rattle.runs.specs.declared.Clerk.{Clerk}
@@ -18,15 +16,8 @@ use Rattle.runs.specs.declared.View.{View}
 use Rattle.runs.specs.Run.{Told, written}
 use Rattle.runs.specs.Programs.{onBoard}
 use Rattle.runs.specs.Work.{viewed, due}
-use Rattle.runs.proofs.Tellings.{telling, tellings, deskAfter, desk-append, tellings-append}
-
--- the clerk after some bytes
-unfoldable pub clerkAfter : Clerk → List ℕ → Clerk
-clerkAfter c bytes = record { desk = deskAfter onBoard (c .desk) (foundIn (c .splitter) bytes); splitter = afterAll (c .splitter) bytes }
-
--- the records of the lines that end in them
-unfoldable pub recordsIn : View → Clerk → List ℕ → List ℕ
-recordsIn view c bytes = written (viewed view) (tellings onBoard (c .desk) (foundIn (c .splitter) bytes))
+use Rattle.runs.specs.Tellings.{telling, tellings, deskAfter, clerkAfter, recordsIn}
+use Rattle.runs.proofs.Tellings.{desk-append, tellings-append}
 
 -- what is written of some lines and then of others
 pub written-append : (v : Told → List ℕ) (ts us : List Told) → written v (ts ++ us) ≡ written v ts ++ written v us

@@ -2,7 +2,7 @@
 -- Assumes nothing.
 use Prim.Native.Nat.{ℕ, _+_, _≤_}
 use mathlib.Core.Path.{_≡_, refl, sym, ap, _∙_, subst}
-use mathlib.Core.Bool.{true, false}
+use mathlib.Core.Bool.{true}
 use mathlib.Core.List.{List, [], _∷_, _++_, append-assoc, append-nil}
 use native.Mathlib.Omega.{arith}
 use lib.Dec.{ltb}
@@ -17,7 +17,7 @@ use Rattle.formats.specs.Lines.{readLine}
 use Rattle.formats.specs.Split.{linesOf}
 use Rattle.terms.specs.declared.refusals.Refusal.the-variants.{BadLine}
 use Rattle.rules.specs.declared.Answer.the-variants.{No}
-use Rattle.rules.specs.Desk.{Desk, Request, freshDesk}
+use Rattle.rules.specs.Desk.{Desk, freshDesk}
 use Rattle.rules.specs.Step.{ownRecords, wakeRecords, recordsOf, events, Started, fresh, after}
 use Rattle.rules.specs.Runs.{numberIn, givenBy}
 use Rattle.rules.proofs.Numbers.{Gives, none-given, one-given, step-gives}
@@ -26,11 +26,7 @@ use Rattle.runs.specs.Run.{Told, noRequest, answered, lineBy, runOf}
 use Rattle.runs.specs.Programs.{onPaper, firstNumber, runOn}
 use Rattle.runs.specs.Shown.{historyOfRun, givenIn, historyOn}
 
--- a desk that has been started and has written this history
-abbrev pub Wrote : History → Type 0
-Wrote h = (D : Desk) × Started D h
-
--- such a desk, and its next number
+-- a desk that has been started and has written this history, and its next number
 abbrev WroteTo : History → ℕ → Type 0
 WroteTo h next = (D : Desk) × Started D h × (D .next ≡ next)
 
@@ -80,7 +76,7 @@ unfolding runOn
 text-started text = unfold freshDesk in run-started (fresh firstNumber (omega arith) (omega arith)) 1 (linesOf text)
 
 -- THE HISTORY IS A STARTED DESK'S: what the history program writes is the history of a started desk; that this desk was started at 1 is `history-from-one`
-pub history-started : (text : List ℕ) → Wrote (historyOn text)
+pub history-started : (text : List ℕ) → (D : Desk) × Started D (historyOn text)
 history-started text = (text-started text .0, text-started text .1)
 
 -- its jobs are numbered from 1 on, one for each begin that goes: so no number is above how many they are

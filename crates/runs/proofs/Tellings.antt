@@ -1,53 +1,40 @@
 -- What is told of the lines that a splitter finds, one after another, is the run over the lines of the text.
 -- Assumes nothing.
 use Prim.Native.Nat.{ℕ, _+_, _-_, _^_, _≤_, _<_}
-use mathlib.Core.Path.{_≡_, refl, sym, ap, ap₂, _∙_}
+use mathlib.Core.Path.{_≡_, refl, ap, _∙_}
 use mathlib.Core.Bool.{Bool, true, false, _&&_}
 use mathlib.Core.List.{List, [], _∷_, _++_}
 use native.Mathlib.Omega.{arith}
 use lib.Dec.{leb, ltb}
 use lib.ListN.{take}
-use borrow.Author.Tests.{leb-true, leb-false, ltb-true, ltb-false, le-leb, lt-leb, lt-ltb, le-ltb}
-use Rattle.laws.specs.Choice.{pick, by-test, not-both}
+use borrow.Author.Tests.{ltb-true, ltb-false, le-leb, lt-leb, lt-ltb}
+use Rattle.laws.specs.Choice.{by-test, not-both}
 use Rattle.terms.specs.Letters.{ofRequests}
 use Rattle.terms.specs.Limits.{requestLines}
 use Rattle.formats.specs.Split.{kept, following, oneLine, every, Found, numberedOn}
 use Rattle.formats.proofs.ShortLines.{short-reads}
-use Rattle.runs.specs.Run.{Stepping, Told, Lined, answered, lineBy, runOf, written}
+use Rattle.runs.specs.Run.{Stepping, answered, lineBy, runOf}
+use Rattle.runs.specs.Tellings.{telling, tellings, deskAfter}
 
 module _ {S : Type 0} (step : Stepping S) where
-  -- a line that was found, answered
-  unfoldable pub telling : S → Found → Lined S
-  telling d f = lineBy step d (f .number) (f .bytes)
-
-  -- what is told of lines that were found; of those after the 1,000,000th nothing (01, Lines)
-  unfoldable pub tellings : S → List Found → List Told
-  tellings d [] = []
-  tellings d (f ∷ fs) = pick (leb (f .number) requestLines) (telling d f .told ∷ tellings (telling d f .desk) fs) (tellings d fs)
-
-  -- the desk after them
-  unfoldable pub deskAfter : S → List Found → S
-  deskAfter d [] = d
-  deskAfter d (f ∷ fs) = pick (leb (f .number) requestLines) (deskAfter (telling d f .desk) fs) (deskAfter d fs)
-
   -- the desk after some lines and then others
-  pub desk-append : (d : S) (fs gs : List Found) → deskAfter d (fs ++ gs) ≡ deskAfter (deskAfter d fs) gs
+  pub desk-append : (d : S) (fs gs : List Found) → deskAfter step d (fs ++ gs) ≡ deskAfter step (deskAfter step d fs) gs
   unfolding deskAfter
   desk-append d [] gs = refl
   desk-append d (f ∷ fs) gs =
-      by-test (leb (f .number) requestLines) (λ e. rw e (desk-append (telling d f .desk) fs gs)) (λ e. rw e (desk-append d fs gs))
+      by-test (leb (f .number) requestLines) (λ e. rw e (desk-append (telling step d f .desk) fs gs)) (λ e. rw e (desk-append d fs gs))
 
   -- what is told of some lines and then of others
-  pub tellings-append : (d : S) (fs gs : List Found) → tellings d (fs ++ gs) ≡ tellings d fs ++ tellings (deskAfter d fs) gs
+  pub tellings-append : (d : S) (fs gs : List Found) → tellings step d (fs ++ gs) ≡ tellings step d fs ++ tellings step (deskAfter step d fs) gs
   unfolding tellings deskAfter
   tellings-append d [] gs = refl
   tellings-append d (f ∷ fs) gs =
       by-test (leb (f .number) requestLines)
-      (λ e. rw e (ap (λ ts. telling d f .told ∷ ts) (tellings-append (telling d f .desk) fs gs)))
+      (λ e. rw e (ap (λ ts. telling step d f .told ∷ ts) (tellings-append (telling step d f .desk) fs gs)))
       (λ e. rw e (tellings-append d fs gs))
 
   -- after line 1,000,000 nothing is told
-  tellings-past : (d : S) (n : ℕ) (ls : List (List ℕ)) → requestLines < n → tellings d (numberedOn n ls) ≡ []
+  tellings-past : (d : S) (n : ℕ) (ls : List (List ℕ)) → requestLines < n → tellings step d (numberedOn n ls) ≡ []
   unfolding tellings numberedOn following
   tellings-past d n [] h = refl
   tellings-past d n (l ∷ ls) h =
@@ -73,12 +60,12 @@ module _ {S : Type 0} (step : Stepping S) where
 
   -- the first line is told, and then the others
   tellings-first : (d : S) (n : ℕ) (l : List ℕ) (ls : List (List ℕ)) → oneLine l ≡ true → n ≤ requestLines →
-      tellings d (numberedOn n (l ∷ ls)) ≡ lineBy step d n l .told ∷ tellings (lineBy step d n l .desk) (numberedOn (n + 1) ls)
+      tellings step d (numberedOn n (l ∷ ls)) ≡ lineBy step d n l .told ∷ tellings step (lineBy step d n l .desk) (numberedOn (n + 1) ls)
   unfolding tellings telling numberedOn
   tellings-first d n l ls o h = rw (le-leb n requestLines h, line-told d n l o, next-number n h)
 
   -- what is told of the lines of a text is the run over them
-  pub tellings-run : (d : S) (n : ℕ) (ls : List (List ℕ)) → every oneLine ls ≡ true → tellings d (numberedOn n ls) ≡ runOf step d n ls
+  pub tellings-run : (d : S) (n : ℕ) (ls : List (List ℕ)) → every oneLine ls ≡ true → tellings step d (numberedOn n ls) ≡ runOf step d n ls
   unfolding runOf
   tellings-run d n [] o = unfold tellings numberedOn in refl
   tellings-run d n (l ∷ ls) o =

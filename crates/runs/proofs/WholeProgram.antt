@@ -1,8 +1,8 @@
 -- The programs' caller uses up every chunk, and all that he has written out is what is written of the run of the text: chunks and buffers do not matter.
 -- Assumes nothing.
 use Prim.Native.Nat.{ℕ, zero, suc, _+_, _-_, _≤_, _<_}
-use mathlib.Core.Path.{_≡_, refl, sym, ap, _∙_, subst}
-use mathlib.Core.Bool.{Bool, true, false}
+use mathlib.Core.Path.{_≡_, sym, ap, _∙_, subst}
+use mathlib.Core.Bool.{true, false}
 use mathlib.Core.List.{List, [], _∷_, _++_, append-assoc, append-nil}
 use native.Mathlib.Omega.{arith}
 use lib.ListN.{length, take, drop, take-append-drop}
@@ -10,14 +10,14 @@ use lib.Seq.{drop-drop}
 use borrow.Author.Tests.{le-leb}
 use Rattle.laws.specs.Choice.{by-test}
 use Rattle.formats.specs.Split.{joined}
-use Rattle.runs.specs.declared.Clerk.{Clerk}
 use Rattle.runs.specs.declared.View.{View}
 use Rattle.runs.specs.Run.{written}
 use Rattle.runs.specs.Work.{startedClerk, viewed, lineRoom, roomy, workOf}
 use Rattle.runs.specs.Callers.{portion, Course, starts, works, empties, Calling, callsOn, callsOver, sentOver}
+use Rattle.runs.specs.Programs.{boardRun}
 use Rattle.runs.proofs.Portions.{portion-all}
 use Rattle.runs.proofs.Progress.{call-forward, call-used, call-moved, call-left}
-use Rattle.runs.proofs.AnyCourse.{boardRun, call-did, course-stands, course-finishes}
+use Rattle.runs.proofs.AnyCourse.{call-did, course-finishes}
 
 -- there is room in an empty buffer that is long enough
 roomy-empty : (out : List ℕ) → lineRoom ≤ length out → roomy out 0 ≡ true

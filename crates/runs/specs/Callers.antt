@@ -1,11 +1,13 @@
 -- Who calls the clerk, and what has been written out in all: any course of calls, and the one that the programs take (01, Lines).
-use Prim.Native.Nat.{ℕ, zero, suc, _-_}
+use Prim.Native.Nat.{ℕ, zero, suc, _-_, _≤_}
+use mathlib.Core.Path.{_≡_}
 use mathlib.Core.List.{List, [], _∷_, _++_}
 use lib.ListN.{length, take, drop}
 use Rattle.laws.specs.Choice.{pick}
 use Rattle.runs.specs.declared.Clerk.{Clerk}
 use Rattle.runs.specs.declared.View.{View}
 use Rattle.runs.specs.Work.{startedClerk, workOf, finishOf}
+use Rattle.runs.specs.Tellings.{clerkAfter, recordsIn}
 
 -- the bytes of a chunk from one place up to another
 unfoldable pub portion : List ℕ → ℕ → ℕ → List ℕ
@@ -23,6 +25,12 @@ pub data Course (view : View) : List ℕ → List ℕ → Clerk → List ℕ →
       (workOf view c chunk from out at .worked .at)
   -- and at any time he may write out what stands in the buffer, and go on with any buffer
   empties : {text sent : List ℕ} {c : Clerk} {out : List ℕ} {at : ℕ} → Course view text sent c out at → (next : List ℕ) → Course view text (sent ++ take at out) c next 0
+
+-- where a course has come to: the clerk has seen all bytes, and what has been written out and what still stands in the buffer are the records of the lines that have ended
+pub record Standing (view : View) (text sent : List ℕ) (c : Clerk) (out : List ℕ) (at : ℕ) : Type 0 where
+  pub clerk : c ≡ clerkAfter startedClerk text
+  pub said : sent ++ take at out ≡ recordsIn view startedClerk text
+  pub within : at ≤ length out
 
 -- the programs' caller between two calls: the clerk, what has been written out, and the buffer
 pub record Calling : Type 0 where

@@ -19,6 +19,8 @@ use Rattle.board.specs.Steps.{emptyDesk, stepOf}
 use Rattle.verdicts.specs.declared.verdict.Verdict.{Verdict}
 use Rattle.verdicts.specs.declared.verdict.Verdict.the-variants.{Orderly as is-orderly, Knot as is-knot, No as is-refused}
 use Rattle.verdicts.specs.Judgement.{Judgement, judgementOf}
+use Rattle.runs.specs.declared.View.{View}
+use Rattle.runs.specs.declared.View.the-variants.{Answers, History}
 use Rattle.runs.specs.Run.{Stepped, Stepping, Told, runOf, answerLines, historyLines, written}
 
 -- the paper's desk, a step at a time
@@ -39,6 +41,10 @@ firstNumber = 1
 unfoldable pub runOn : List ℕ → List Told
 runOn text = runOf onPaper (freshDesk firstNumber) 1 (linesOf text)
 
+-- the run of a text on the desk that runs
+unfoldable pub boardRun : List ℕ → List Told
+boardRun text = runOf onBoard (emptyDesk firstNumber) 1 (linesOf text)
+
 -- the program `answers`
 unfoldable pub answersOf : List ℕ → List ℕ
 answersOf text = written answerLines (runOn text)
@@ -46,6 +52,11 @@ answersOf text = written answerLines (runOn text)
 -- the program `history`
 unfoldable pub historyOf : List ℕ → List ℕ
 historyOf text = written historyLines (runOn text)
+
+-- what the program of a view writes, from text to text
+unfoldable pub programOf : View → List ℕ → List ℕ
+programOf Answers text = answersOf text
+programOf History text = historyOf text
 
 -- numbers, a tab before each
 unfoldable pub tabbed : List ℕ → List ℕ

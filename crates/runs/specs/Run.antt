@@ -4,11 +4,9 @@ use mathlib.Core.List.{List, [], _∷_, _++_}
 use mathlib.Core.Option.{Option, none, some}
 use lib.Dec.{ltb}
 use Rattle.laws.specs.Choice.{pick}
-use Rattle.terms.specs.declared.words.Word.{Word}
-use Rattle.terms.specs.declared.words.Word.the-variants.{Go, Wait, Back, No, Wake}
+use Rattle.terms.specs.declared.words.Word.the-variants.{Wake}
 use Rattle.terms.specs.declared.refusals.Refusal.{Refusal}
 use Rattle.terms.specs.Letters.{byteOf, ofRequests}
-use Rattle.terms.specs.Refusals.{numberOf}
 use Rattle.terms.specs.Limits.{requestLines}
 use Rattle.conflict.specs.declared.action.Action.{Action}
 use Rattle.formats.specs.declared.Reading.{Reading}
@@ -16,7 +14,8 @@ use Rattle.formats.specs.declared.Reading.the-variants.{Good, Bad}
 use Rattle.formats.specs.Lines.{refusalOf, readLine}
 use Rattle.formats.specs.Records.{answerRecord}
 use Rattle.rules.specs.declared.Answer.{Answer}
-use Rattle.rules.specs.declared.Answer.the-variants.{Go as goes, Wait as waits, Back as back, No as refuses}
+use Rattle.rules.specs.declared.Answer.the-variants.{No}
+use Rattle.rules.specs.AnswerWords.{wordOf, numberBeside}
 use Rattle.rules.specs.Desk.{Request}
 use Rattle.rules.specs.Step.{recordsOf}
 use Rattle.verdicts.specs.Written.{textOf}
@@ -54,7 +53,7 @@ requestIn (Good l job cell) = record { kind = byteOf l; job = job; cell = cell }
 
 -- a line that the reader refuses is answered by that refusal, and the desk does not see it; any other is a step
 abbrev pub answeredBy : {S : Type 0} → Stepping S → S → ℕ → Request → Option Refusal → Lined S
-answeredBy step d n r (some why) = record { desk = d; told = record { line = n; request = r; said = refuses why; wakes = [] } }
+answeredBy step d n r (some why) = record { desk = d; told = record { line = n; request = r; said = No why; wakes = [] } }
 answeredBy step d n r none = let o = step d r in record { desk = o .desk; told = record { line = n; request = r; said = o .said; wakes = o .wakes } }
 
 -- a line is answered as it reads: refusal 9 where it is bad, and else a step
@@ -72,20 +71,6 @@ runOf step d n (l ∷ ls) =
     let o = lineBy step d n l in
     let rest = runOf step (o .desk) (n + 1) ls in
     pick (ltb requestLines n) [] (o .told ∷ rest)
-
--- the word of an answer
-unfoldable pub wordOf : Answer → Word
-wordOf (goes j) = Go
-wordOf (waits j) = Wait
-wordOf (back j) = Back
-wordOf (refuses why) = No
-
--- the number beside it: the job, or the refusal's number (01, Lines)
-unfoldable pub numberBeside : Answer → ℕ
-numberBeside (goes j) = j
-numberBeside (waits j) = j
-numberBeside (back j) = j
-numberBeside (refuses why) = numberOf why
 
 -- one wake record for each wake (01, Lines)
 unfoldable pub wakeLines : ℕ → List Action → List ℕ

@@ -1,13 +1,14 @@
 -- A clerk's work: from a place of a chunk on, line after line, as long as there is a byte left and room for a line's records (01, Lines).
-use Prim.Native.Nat.{ℕ, zero, suc, _+_}
+use Prim.Native.Nat.{ℕ, zero, suc, _+_, _*_}
 use mathlib.Core.Bool.{Bool, true, false, not, _&&_}
 use mathlib.Core.List.{List, [], _∷_, _++_}
 use lib.Dec.{ltb, leb}
 use lib.ListN.{length, take, drop}
 use Rattle.laws.specs.Choice.{pick}
 use Rattle.terms.specs.declared.refusals.Refusal.the-variants.{BadLine}
-use Rattle.terms.specs.Limits.{requestLines}
+use Rattle.terms.specs.Limits.{places, requestLines}
 use Rattle.formats.specs.declared.splitter.Splitter.{Splitter}
+use Rattle.formats.specs.Records.{longestRecord}
 use Rattle.formats.specs.Split.{fresh, cutOf, Found, foundAt}
 use Rattle.rules.specs.declared.Answer.the-variants.{No}
 use Rattle.board.specs.Steps.{emptyDesk}
@@ -29,9 +30,13 @@ unfoldable pub viewed : View → Told → List ℕ
 viewed Answers t = answerLines t
 viewed History t = historyLines t
 
--- no line has more bytes of records: its own record and at most 32 wakes, each of at most 24 bytes
+-- no more bytes of wake records follow: no more jobs wake than there are places for open ones (01, What is delivered), each with one record
+abbrev pub wakesRoom : ℕ
+wakesRoom = longestRecord * places
+
+-- no line has more bytes of records: its own record, and those of its wakes
 abbrev pub lineRoom : ℕ
-lineRoom = 792
+lineRoom = longestRecord + wakesRoom
 
 -- there is room for the records of any line from the place on
 unfoldable pub roomy : List ℕ → ℕ → Bool

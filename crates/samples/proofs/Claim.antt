@@ -1,7 +1,7 @@
 -- Each of the paper's starred samples is what the definitions compute.
 -- Assumes nothing.
 use mathlib.Core.Path.{_≡_, refl}
-use mathlib.Core.List.{List, map}
+use mathlib.Core.List.{map}
 use Rattle.laws.specs.Lists.{member, distinct, pos, put}
 use Rattle.conflict.specs.Modes.{needed, recorded, covers, beside, grants, asked, lets, isFree, codeOf, modeOf}
 use Rattle.conflict.specs.Schedule.{agree, conflicts, keep, own, serial, touches, edge, names, path, knot}
@@ -20,7 +20,8 @@ use Rattle.verdicts.specs.Judged.{isOrderly, verdictBy, judged, insert, sorted,
 use Rattle.verdicts.specs.HistoryText.{faultOfGood, faultOf, lineFault, endedAfter, orLater, firstFaulty, eventOf, eventsIn, bare}
 use Rattle.verdicts.specs.Judgement.{filled, sayVerdict, sayLines, judgementOf, inNumbers}
 use Rattle.verdicts.specs.Written.{askBy, markLetter, eventLine, textOf}
-use Rattle.runs.specs.Run.{noRequest, answered, lineBy, runOf, wordOf, numberBeside, wakeLines, answerLines, historyLines, written}
+use Rattle.rules.specs.AnswerWords.{wordOf, numberBeside}
+use Rattle.runs.specs.Run.{noRequest, answered, lineBy, runOf, wakeLines, answerLines, historyLines, written}
 use Rattle.runs.specs.Programs.{onPaper, onBoard, runOn, answersOf, historyOf, tabbed, wordLine, sayLine, judgedLine, verdictOf as programs-verdictOf}
 use Rattle.samples.specs.Samples.{bytes, Sample, writes, samples}
 

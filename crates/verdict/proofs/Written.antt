@@ -10,7 +10,8 @@ use Rattle.formats.specs.declared.Written.{Written}
 use Rattle.formats.specs.declared.Written.the-variants.{Next, Refused}
 use Rattle.formats.specs.Records.{told, left}
 use Rattle.runs.specs.Programs.{verdictOf}
-use Rattle.reporter.proofs.LineLength.{lineLimit, verdict-at-most, verdict-told, verdict-left}
+use Rattle.runs.specs.VerdictLine.{lineLimit}
+use Rattle.reporter.proofs.LineLength.{verdict-at-most, verdict-told, verdict-left}
 
 module _ (b text : List ℕ) (w : Written) (room : lineLimit ≤ length b) (said : w ≡ told b 0 (verdictOf text)) where
   -- the place told is the line's length

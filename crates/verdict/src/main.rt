@@ -8,7 +8,7 @@ ghost use mathlib.Core.Path.{_≡_};
 ghost use Prim.Native.Nat.{_≤_};
 ghost use lib.ListN.{length, take};
 ghost use Rattle.runs.specs.Programs.{verdictOf};
-ghost use Rattle.reporter.proofs.LineLength.{lineLimit};
+ghost use Rattle.runs.specs.VerdictLine.{lineLimit};
 
 // One byte more than a text may have is enough of a longer one.
 const READ: usize = JUDGED_BYTES + 1;

@@ -17,13 +17,13 @@ use Rattle.formats.specs.Split.{linesOf}
 use Rattle.verdicts.specs.Judged.{Verdict, orderly, knotted, jobsOf, verdictOf}
 use Rattle.verdicts.specs.Meant.{Knotted, Says}
 use Rattle.verdicts.specs.Meant.Says.{says-order, says-cycle}
-use Rattle.verdicts.specs.HistoryText.{Faulty, firstFaulty, eventsIn, bare}
+use Rattle.verdicts.specs.HistoryText.{Faulty, firstFaulty, eventsIn, bare, Tells}
 use Rattle.verdicts.specs.Judgement.{filled, sayVerdict, sayLines, judgementOf}
 use Rattle.verdicts.specs.LineTable.{AllFaultless}
 use Rattle.verdicts.specs.Answers.{Stands, Fills, InOrder, InKnot, Answers}
 use Rattle.verdicts.specs.Answers.Answers.{short, faulty, in-order, in-knot}
 use Rattle.verdicts.proofs.Histories.{jobs-committed, order-serial, order-once, order-names, order-smallest, knot-shows, verdict-exactly}
-use Rattle.verdicts.proofs.LineFaults.{Tells, finds-fault}
+use Rattle.verdicts.proofs.LineFaults.{finds-fault}
 use Rattle.verdicts.proofs.LineBack.{bare-stands}
 use Rattle.verdicts.proofs.FewJobs.{at-most-255, committed-within}
 

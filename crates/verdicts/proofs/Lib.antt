@@ -21,6 +21,7 @@ pub mod FewJobs
 pub mod Answering
 pub mod OneAnswer
 pub mod Refusing
+pub mod VerdictNumbers
 pub mod JudgedTexts
 pub mod RecordLines
 pub mod RecordsSay

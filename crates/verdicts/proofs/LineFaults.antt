@@ -22,8 +22,8 @@ use Rattle.terms.specs.Limits.{judgedJobs, judgedLines}
 use Rattle.formats.specs.declared.Reading.{Reading}
 use Rattle.formats.specs.declared.Reading.the-variants.{Good, Bad}
 use Rattle.formats.specs.Lines.{readLine}
-use Rattle.verdicts.specs.HistoryText.{faultOfGood, faultOf, lineFault, endedAfter, Faulty, orLater, firstFaulty}
-use Rattle.verdicts.specs.LineTable.{lineAt, linesBefore, ends, endedIn, holds, order, firstOf, tableSays, Faultless, FirstFault, AllFaultless}
+use Rattle.verdicts.specs.HistoryText.{faultOfGood, faultOf, lineFault, endedAfter, Faulty, orLater, firstFaulty, Tells}
+use Rattle.verdicts.specs.LineTable.{lineAt, linesBefore, ends, endedIn, holds, order, firstOf, tableSays, Faultless}
 
 -- the jobs kept as ended are those with a c or an a on the lines before
 abbrev pub Keeps : List ℕ → List (List ℕ) → Type 0
@@ -93,11 +93,6 @@ unfolding lineFault
 few-lines n ended line e =
     by-test (ltb judgedLines n) (λ t. let q : some TooManyLines ≡ none = rw t at e in let z : _≡_ {A = ℕ} 0 1 = cc in absurd (omega arith))
     (λ f. ltb-false judgedLines n f)
-
--- what is said of the lines: the first faulty one with its bytes, or that there is none
-abbrev pub Tells : List (List ℕ) → Option Faulty → Type 0
-Tells ls none = AllFaultless ls
-Tells ls (some f) = FirstFault ls (f .number) (f .why) × (f .bytes ≡ lineAt ls (f .number))
 
 -- the table speaks of line n by the lines before it and by its bytes, whatever follows
 said-of : (before : List (List ℕ)) (line : List ℕ) (after : List (List ℕ)) → let n : ℕ = suc (length before) in

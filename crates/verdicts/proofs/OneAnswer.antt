@@ -17,13 +17,13 @@ use Rattle.formats.specs.Split.{linesOf}
 use Rattle.verdicts.specs.declared.verdict.Verdict.the-variants.{Orderly, Knot, No}
 use Rattle.verdicts.specs.Judged.{orderly, knotted, verdictOf}
 use Rattle.verdicts.specs.Meant.Says.{says-order, says-cycle}
-use Rattle.verdicts.specs.HistoryText.{Faulty, firstFaulty, eventsIn, bare}
+use Rattle.verdicts.specs.HistoryText.{Faulty, firstFaulty, eventsIn, bare, Tells}
 use Rattle.verdicts.specs.Judgement.{Judgement, filled, sayVerdict, sayLines, judgementOf}
 use Rattle.verdicts.specs.LineTable.{lineAt, Faultless, Due, FirstFault, AllFaultless}
 use Rattle.verdicts.specs.Answers.{Fills, Answers}
 use Rattle.verdicts.specs.Answers.Answers.{short, faulty, in-order, in-knot}
 use Rattle.verdicts.proofs.Histories.{verdict-exactly}
-use Rattle.verdicts.proofs.LineFaults.{Tells, finds-fault}
+use Rattle.verdicts.proofs.LineFaults.{finds-fault}
 use Rattle.verdicts.proofs.LineBack.{stands-only}
 use Rattle.verdicts.proofs.Answering.{answers}
 

@@ -1,6 +1,7 @@
 -- A history as text: its lines, the first faulty one with its refusal, and the events that a faultless text says (01, Refusals by number; 01, Lines).
 use Prim.Native.Nat.{ℕ, suc, _+_}
-use mathlib.Core.Bool.{Bool, true, false, not, _&&_, _||_}
+use mathlib.Core.Path.{_≡_}
+use mathlib.Core.Bool.{_&&_, _||_}
 use mathlib.Core.List.{List, [], _∷_, _++_}
 use mathlib.Core.Option.{Option, none, some}
 use lib.Dec.{eqb, ltb, leb}
@@ -14,14 +15,13 @@ use Rattle.terms.specs.Letters.{ofHistories, hasCell}
 use Rattle.terms.specs.Limits.{cells, judgedJobs, judgedLines}
 use Rattle.terms.specs.Words.{newline}
 use Rattle.conflict.specs.declared.action.Mark.the-variants.{Commit as commits, GiveUp as gives-up, Back as goes-back}
-use Rattle.conflict.specs.declared.action.Event.{Event}
 use Rattle.conflict.specs.declared.action.Event.the-variants.{Does, Ends}
 use Rattle.conflict.specs.Modes.{recorded}
 use Rattle.conflict.specs.History.{History}
 use Rattle.formats.specs.declared.Reading.{Reading}
 use Rattle.formats.specs.declared.Reading.the-variants.{Good, Bad}
 use Rattle.formats.specs.Lines.{refusalOf, readLine}
-use Rattle.formats.specs.Split.{linesOf}
+use Rattle.verdicts.specs.LineTable.{lineAt, FirstFault, AllFaultless}
 
 -- the fault of a good line, given the jobs that have committed or given up: 12, then 2, then 13 (01, Refusals by number)
 unfoldable pub faultOfGood : List ℕ → Letter → ℕ → ℕ → Option Refusal
@@ -85,3 +85,8 @@ eventsIn (l ∷ ls) = eventOf (readLine ofHistories l) ++ eventsIn ls
 unfoldable pub bare : List ℕ → List ℕ
 bare [] = []
 bare (b ∷ l) = pick (eqb b newline) [] (b ∷ bare l)
+
+-- what is said of the lines is so by the table: the first faulty one with its bytes, or that there is none
+abbrev pub Tells : List (List ℕ) → Option Faulty → Type 0
+Tells ls none = AllFaultless ls
+Tells ls (some f) = FirstFault ls (f .number) (f .why) × (f .bytes ≡ lineAt ls (f .number))

@@ -1,7 +1,7 @@
 -- `clerk::records::number_beside` meets its contract: the job, or the refusal's number.
 -- Assumes nothing.
 use borrow.Author.Needs.{needs}
-use Rattle.runs.specs.Run.{numberBeside}
+use Rattle.rules.specs.AnswerWords.{numberBeside}
 use Rattle.clerk.proofs.records.number_beside.Statement.{statement}
 use Rattle.clerk.proofs.records.number_beside.Tie as tie
 use Rattle.terms.proofs.refusals.number_of.Reads as number-of-reads

@@ -6,6 +6,7 @@ use borrow.Author.Needs.{needs}
 use lib.ListN.{take, length}
 use mathlib.Core.Path.{_≡_}
 use Rattle.conflict.specs.declared.action.Kind.the-variants.{Read}
+use Rattle.formats.specs.Records.{longestRecord}
 use Rattle.clerk.specs.Parts.{Added, wakeRecords}
 use Rattle.clerk.proofs.Adding.{added-end, added-length}
 use Rattle.clerk.proofs.Waking.{wakes-none, wakes-more, wakes-all, wakes-told}
@@ -14,7 +15,7 @@ use Rattle.clerk.proofs.records.put_wakes.Tie as tie
 
 abbrev Inv-loop : tie.InvT-loop
 Inv-loop view out₀ at line count wakes next₀ i₀ out next i =
-    (i ≤ 32) × (i ≤ count) × (Added (24 * i) at next (wakeRecords view line (take i wakes)) out₀ out)
+    (i ≤ 32) × (i ≤ count) × (Added (longestRecord * i) at next (wakeRecords view line (take i wakes)) out₀ out)
 
 abbrev μ-loop : tie.MeasureT-loop
 μ-loop view out₀ at line count wakes next₀ i₀ out next i = 32 - i

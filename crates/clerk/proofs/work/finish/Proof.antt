@@ -8,7 +8,7 @@ use borrow.Author.Tests.{leb-true, not-true, not-false}
 use lib.Dec.{leb}
 use lib.ListN.{length}
 use Rattle.laws.specs.Choice.{was-true, was-false}
-use Rattle.runs.specs.Work.{roomy}
+use Rattle.runs.specs.Work.{lineRoom, roomy}
 use Rattle.runs.proofs.Ends.{ends-none, ends-full, ends-put, owing-line}
 use Rattle.clerk.proofs.work.finish.Statement.{statement}
 use Rattle.clerk.proofs.work.finish.Tie as tie
@@ -36,8 +36,8 @@ returns-2 c =
 put-bad-requires : tie.Need-put-bad-requires
 put-bad-requires c κs =
     let a = c .before .before .before .before .before .before .before .args in
-    let r : leb (a .at + 792) (length (a .out .now)) ≡ true = search tests in
-    (owing-line (a .c .splitter) (search tests), leb-true (a .at + 792) (length (a .out .now)) r)
+    let r : leb (a .at + lineRoom) (length (a .out .now)) ≡ true = search tests in
+    (owing-line (a .c .splitter) (search tests), leb-true (a .at + lineRoom) (length (a .out .now)) r)
 
 same-length : tie.Need-same-length
 same-length c = search needs
