@@ -1,7 +1,7 @@
 -- The rules as a relation: one move to a rule, with what the rule tests and what it leaves written out (01, The desk's rules; 01, Refusals by number).
 use Prim.Native.Nat.{ℕ, suc, _≤_}
 use mathlib.Core.Path.{_≡_}
-use mathlib.Core.Bool.{true, false, _&&_}
+use mathlib.Core.Bool.{Bool, true, false, _&&_}
 use mathlib.Core.List.{List, [], _∷_, _++_}
 use Rattle.laws.specs.Lists.{member}
 use Rattle.terms.specs.declared.letters.Ask.{Ask}
@@ -36,23 +36,54 @@ standing d j c a q =
       wakes = [];
     }
 
+-- the mode that the job holds on the cell that it asks for
+abbrev pub holding : Desk → Request → Mode
+holding d r = d .row (r .cell) .held (r .job)
+
+-- nobody else holds that cell
+abbrev pub noOther : Desk → Request → Bool
+noOther d r = alone (d .jobs) (d .row (r .cell) .held) (r .job)
+
+-- the job is older than every other holder of that cell
+abbrev pub eldest : Desk → Request → Bool
+eldest d r = olderThanHolders (d .jobs) (d .row (r .cell) .held) (r .job)
+
+-- the mode that is needed agrees with every other holder of that cell
+abbrev pub fitsIn : Desk → Request → Ask → Bool
+fitsIn d r a = agrees (d .jobs) (d .row (r .cell) .held) (r .job) (needed a)
+
+-- the job and what it asks for, as it stands in a queue
+abbrev pub asker : Request → Ask → Waiter
+asker r a = record { job = r .job; ask = a }
+
 -- the moves, each outcome written out: not by the names under which the rules are defined, so that a rule which does something else is no move
 pub data Moved (d : Desk) (r : Request) : Outcome → Type 0 where
   -- a refusal that the table says is due
   refuses : (why : Refusal) → Due d r why → Moved d r (refused d why)
-  begins : letterOf (r .kind) ≡ Known Begin → d .next ≤ lastNumber → member 0 (d .jobs) ≡ true → Moved d r (goes (record { next = suc (d .next); jobs = seated (d .next) (d .jobs); stat = at (d .stat) (d .next) running; row = d .row }) (d .next))
+  -- begin gives the next number to a running job that holds nothing
+  begins : letterOf (r .kind) ≡ Known Begin → d .next ≤ lastNumber → member 0 (d .jobs) ≡ true →
+      Moved d r (goes (record { next = suc (d .next); jobs = seated (d .next) (d .jobs); stat = at (d .stat) (d .next) running; row = d .row }) (d .next))
   -- rule 4: commit and give-up close the job
-  commits : letterOf (r .kind) ≡ Known Commit → d .stat (r .job) ≡ running → Moved d r (rule4 d (r .job) closed (vacated (r .job) (d .jobs)) (Go (r .job)))
-  gives-up : letterOf (r .kind) ≡ Known GiveUp → isOpen (d .stat (r .job)) ≡ true → Moved d r (rule4 d (r .job) closed (vacated (r .job) (d .jobs)) (Go (r .job)))
-  -- rule 5
+  commits : letterOf (r .kind) ≡ Known Commit → d .stat (r .job) ≡ running →
+      Moved d r (rule4 d (r .job) closed (vacated (r .job) (d .jobs)) (Go (r .job)))
+  gives-up : letterOf (r .kind) ≡ Known GiveUp → isOpen (d .stat (r .job)) ≡ true →
+      Moved d r (rule4 d (r .job) closed (vacated (r .job) (d .jobs)) (Go (r .job)))
+  -- rule 5: retry makes a sent back job running again
   retries : letterOf (r .kind) ≡ Known Retry → d .stat (r .job) ≡ sentback → Moved d r (goes (withStatus d (r .job) running) (r .job))
-  -- rule 1
-  has-it : (a : Ask) → Asking d r a → covers (d .row (r .cell) .held (r .job)) (needed a) ≡ true → Moved d r (goes d (r .job))
-  -- rule 2
-  promotes : (a : Ask) → Asking d r a → covers (d .row (r .cell) .held (r .job)) (needed a) ≡ false → isFree (d .row (r .cell) .held (r .job)) ≡ false → alone (d .jobs) (d .row (r .cell) .held) (r .job) ≡ true → Moved d r (taking d (r .job) (r .cell) (asked (d .row (r .cell) .held (r .job)) (needed a)))
-  waits-in-front : (a : Ask) → Asking d r a → covers (d .row (r .cell) .held (r .job)) (needed a) ≡ false → isFree (d .row (r .cell) .held (r .job)) ≡ false → alone (d .jobs) (d .row (r .cell) .held) (r .job) ≡ false → olderThanHolders (d .jobs) (d .row (r .cell) .held) (r .job) ≡ true → Moved d r (standing d (r .job) (r .cell) a (record { job = r .job; ask = a } ∷ d .row (r .cell) .queue))
-  -- rule 3
-  enters : (a : Ask) → Asking d r a → isFree (d .row (r .cell) .held (r .job)) ≡ true → isEmpty (d .row (r .cell) .queue) ≡ true → agrees (d .jobs) (d .row (r .cell) .held) (r .job) (needed a) ≡ true → Moved d r (taking d (r .job) (r .cell) (needed a))
-  waits-last : (a : Ask) → Asking d r a → isFree (d .row (r .cell) .held (r .job)) ≡ true → (isEmpty (d .row (r .cell) .queue) && agrees (d .jobs) (d .row (r .cell) .held) (r .job) (needed a)) ≡ false → olderThanHolders (d .jobs) (d .row (r .cell) .held) (r .job) ≡ true → olderThanWaiters (d .row (r .cell) .queue) (r .job) ≡ true → Moved d r (standing d (r .job) (r .cell) a (d .row (r .cell) .queue ++ record { job = r .job; ask = a } ∷ []))
+  -- rule 1: the job holds a covering mode, and nothing changes
+  has-it : (a : Ask) → Asking d r a → covers (holding d r) (needed a) ≡ true → Moved d r (goes d (r .job))
+  -- rule 2: a promotion without another holder goes
+  promotes : (a : Ask) → Asking d r a → covers (holding d r) (needed a) ≡ false → isFree (holding d r) ≡ false → noOther d r ≡ true →
+      Moved d r (taking d (r .job) (r .cell) (asked (holding d r) (needed a)))
+  -- rule 2: older than every other holder it waits at the front
+  waits-in-front : (a : Ask) → Asking d r a → covers (holding d r) (needed a) ≡ false → isFree (holding d r) ≡ false → noOther d r ≡ false → eldest d r ≡ true →
+      Moved d r (standing d (r .job) (r .cell) a (asker r a ∷ d .row (r .cell) .queue))
+  -- rule 3: a newcomer goes where the queue is empty and its mode agrees with every holder
+  enters : (a : Ask) → Asking d r a → isFree (holding d r) ≡ true → isEmpty (d .row (r .cell) .queue) ≡ true → fitsIn d r a ≡ true →
+      Moved d r (taking d (r .job) (r .cell) (needed a))
+  -- rule 3: older than every holder and every waiter it waits at the end
+  waits-last : (a : Ask) → Asking d r a → isFree (holding d r) ≡ true → (isEmpty (d .row (r .cell) .queue) && fitsIn d r a) ≡ false →
+      eldest d r ≡ true → olderThanWaiters (d .row (r .cell) .queue) (r .job) ≡ true →
+      Moved d r (standing d (r .job) (r .cell) a (d .row (r .cell) .queue ++ asker r a ∷ []))
   -- rules 2 and 3, otherwise: sent back by rule 4
   goes-back : (a : Ask) → Asking d r a → Elder d (r .job) (r .cell) → Moved d r (rule4 d (r .job) sentback (d .jobs) (Back (r .job)))

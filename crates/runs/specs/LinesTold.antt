@@ -20,7 +20,8 @@ use Rattle.runs.specs.Run.{Told, requestIn}
 pub data LinesTold : ℕ → List (List ℕ) → List Told → Type 0 where
   no-line : {n : ℕ} → LinesTold n [] []
   no-more : {n : ℕ} {ls : List (List ℕ)} → requestLines < n → LinesTold n ls []
-  a-line : {n : ℕ} {l : List ℕ} {ls : List (List ℕ)} {t : Told} {ts : List Told} → n ≤ requestLines → t .line ≡ n → (t .said ≡ No BadLine) ↔ (refusalOf (readLine ofRequests l) ≡ some BadLine) → LinesTold (n + 1) ls ts → LinesTold n (l ∷ ls) (t ∷ ts)
+  a-line : {n : ℕ} {l : List ℕ} {ls : List (List ℕ)} {t : Told} {ts : List Told} → n ≤ requestLines → t .line ≡ n →
+      (t .said ≡ No BadLine) ↔ (refusalOf (readLine ofRequests l) ≡ some BadLine) → LinesTold (n + 1) ls ts → LinesTold n (l ∷ ls) (t ∷ ts)
 
 -- the request that a line says; a bad line says none
 unfoldable pub requestOf : Reading → List Request
