@@ -17,7 +17,7 @@ use Rattle.rules.specs.Desk.{closed, running, waiting, sentback, isOpen,
 use Rattle.rules.specs.Locks.{agrees, alone, olderThanHolders, olderThanWaiters, isEmpty}
 use Rattle.rules.specs.Rules.{Outcome, refused, withRow, withStatus, rule4}
 use Rattle.rules.specs.Table.{Due}
-use Rattle.rules.specs.Asked.{Asking, Elder}
+use Rattle.rules.specs.Asked.{Asking, Elder, heldThere, queueThere}
 
 -- go: this desk, and nobody is woken
 abbrev pub goes : Desk → ℕ → Outcome
@@ -38,19 +38,19 @@ standing d j c a q =
 
 -- the mode that the job holds on the cell that it asks for
 abbrev pub holding : Desk → Request → Mode
-holding d r = d .row (r .cell) .held (r .job)
+holding d r = heldThere d r (r .job)
 
 -- nobody else holds that cell
 abbrev pub noOther : Desk → Request → Bool
-noOther d r = alone (d .jobs) (d .row (r .cell) .held) (r .job)
+noOther d r = alone (d .jobs) (heldThere d r) (r .job)
 
 -- the job is older than every other holder of that cell
 abbrev pub eldest : Desk → Request → Bool
-eldest d r = olderThanHolders (d .jobs) (d .row (r .cell) .held) (r .job)
+eldest d r = olderThanHolders (d .jobs) (heldThere d r) (r .job)
 
 -- the mode that is needed agrees with every other holder of that cell
 abbrev pub fitsIn : Desk → Request → Ask → Bool
-fitsIn d r a = agrees (d .jobs) (d .row (r .cell) .held) (r .job) (needed a)
+fitsIn d r a = agrees (d .jobs) (heldThere d r) (r .job) (needed a)
 
 -- the job and what it asks for, as it stands in a queue
 abbrev pub asker : Request → Ask → Waiter
@@ -77,13 +77,13 @@ pub data Moved (d : Desk) (r : Request) : Outcome → Type 0 where
       Moved d r (taking d (r .job) (r .cell) (asked (holding d r) (needed a)))
   -- rule 2: older than every other holder it waits at the front
   waits-in-front : (a : Ask) → Asking d r a → covers (holding d r) (needed a) ≡ false → isFree (holding d r) ≡ false → noOther d r ≡ false → eldest d r ≡ true →
-      Moved d r (standing d (r .job) (r .cell) a (asker r a ∷ d .row (r .cell) .queue))
+      Moved d r (standing d (r .job) (r .cell) a (asker r a ∷ queueThere d r))
   -- rule 3: a newcomer goes where the queue is empty and its mode agrees with every holder
-  enters : (a : Ask) → Asking d r a → isFree (holding d r) ≡ true → isEmpty (d .row (r .cell) .queue) ≡ true → fitsIn d r a ≡ true →
+  enters : (a : Ask) → Asking d r a → isFree (holding d r) ≡ true → isEmpty (queueThere d r) ≡ true → fitsIn d r a ≡ true →
       Moved d r (taking d (r .job) (r .cell) (needed a))
   -- rule 3: older than every holder and every waiter it waits at the end
-  waits-last : (a : Ask) → Asking d r a → isFree (holding d r) ≡ true → (isEmpty (d .row (r .cell) .queue) && fitsIn d r a) ≡ false →
-      eldest d r ≡ true → olderThanWaiters (d .row (r .cell) .queue) (r .job) ≡ true →
-      Moved d r (standing d (r .job) (r .cell) a (d .row (r .cell) .queue ++ asker r a ∷ []))
+  waits-last : (a : Ask) → Asking d r a → isFree (holding d r) ≡ true → (isEmpty (queueThere d r) && fitsIn d r a) ≡ false →
+      eldest d r ≡ true → olderThanWaiters (queueThere d r) (r .job) ≡ true →
+      Moved d r (standing d (r .job) (r .cell) a (queueThere d r ++ asker r a ∷ []))
   -- rules 2 and 3, otherwise: sent back by rule 4
   goes-back : (a : Ask) → Asking d r a → Elder d (r .job) (r .cell) → Moved d r (rule4 d (r .job) sentback (d .jobs) (Back (r .job)))
