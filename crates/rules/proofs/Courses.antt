@@ -30,7 +30,7 @@ use Rattle.rules.specs.Asked.{Asking, Elder}
 use Rattle.rules.specs.Moves.{standing, Moved, refuses, begins, commits, gives-up, retries, has-it, promotes, waits-in-front, enters, waits-last, goes-back}
 use Rattle.rules.specs.Effects.{Joined, promotion, newcomer}
 use Rattle.rules.proofs.Answers.{other-answer}
-use Rattle.rules.proofs.Moved.{step-moved}
+use Rattle.rules.proofs.Moved.{step-moved, elder-of}
 
 -- what an answer tells: of which job it is, the rule's outcome, and what held before
 pub record Course (d : Desk) (r : Request) (i j : ℕ) (o : Outcome) (P : Type 0) : Type 0 where
@@ -149,7 +149,7 @@ held-up (promotes b k c f z) e = not-both refl e
 held-up (waits-in-front b k c f z w) e = waits b _ k (promotion f)
 held-up (enters b k f z w) e = not-both refl e
 held-up (waits-last b k f z w v) e = waits b _ k (newcomer f)
-held-up (goes-back b k x) e = leaves b k x
+held-up (goes-back b k x) e = leaves b k (elder-of x)
 
 -- of which job a wait is, what was asked, and the queue that the job joined
 pub record Waited (d : Desk) (r : Request) (j : ℕ) : Type 0 where

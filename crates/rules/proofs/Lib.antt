@@ -63,3 +63,4 @@ pub mod RunEnded
 pub mod WakesTold
 pub mod FourKinds
 pub mod OthersLocks
+pub mod OneMove

@@ -23,8 +23,8 @@ use Rattle.rules.specs.Locks.{agrees, alone, olderThanHolders, olderThan
 use Rattle.rules.specs.Rules.{Outcome, refused, close, sendBack, grant, queued, rule1, rule2, rule3, ask, retry, begin}
 use Rattle.rules.specs.Step.{stepCommit, stepGiveUp, stepRetry, stepAsk, stepBegin, stepBy, step}
 use Rattle.rules.specs.Table.{holds, order, firstOf, dueBy, dueOf}
-use Rattle.rules.specs.Asked.{Asking, holder, waiter}
-use Rattle.rules.specs.Moves.{Moved, refuses, begins, commits, gives-up, retries, has-it, promotes, waits-in-front, enters, waits-last, goes-back}
+use Rattle.rules.specs.Asked.{Asking, Elder, holder, waiter}
+use Rattle.rules.specs.Moves.{Otherwise, no-promotion, no-entry, Moved, refuses, begins, commits, gives-up, retries, has-it, promotes, waits-in-front, enters, waits-last, goes-back}
 
 -- one of two moves, by a test that picks it
 either : {d : Desk} {r : Request} (b : Bool) {x y : Outcome} → (b ≡ true → Moved d r x) → (b ≡ false → Moved d r y) → Moved d r (pick b x y)
@@ -40,6 +40,11 @@ one-fails : {P : Type 0} (a b : Bool) → (a && b) ≡ false → (a ≡ false �
 one-fails true b e f g = g e
 one-fails false b e f g = f refl
 
+-- where rules 2 and 3 say "otherwise", somebody older stands in the job's way
+pub elder-of : {d : Desk} {r : Request} {a : Ask} → Otherwise d r a → Elder d (r .job) (r .cell)
+elder-of (no-promotion c f z h) = holder h
+elder-of (no-entry f e o) = one-fails _ _ o holder (waiter f)
+
 -- a running job that asks moves by rule 1, 2 or 3
 ask-moved : (d : Desk) (r : Request) (a : Ask) → Asking d r a → Moved d r (ask d (r .job) (r .cell) a)
 unfolding ask rule1 rule2 rule3 grant queued sendBack
@@ -50,9 +55,9 @@ ask-moved d r a k =
     (λ e. let p = both _ _ e in enters a k f (p .0) (p .1))
     (λ e. either (olderThanHolders (d .jobs) (d .row (r .cell) .held) (r .job) && olderThanWaiters (d .row (r .cell) .queue) (r .job))
     (λ o. let p = both _ _ o in waits-last a k f e (p .0) (p .1))
-    (λ o. one-fails _ _ o (λ h. goes-back a k (holder h)) (λ w. goes-back a k (waiter f w)))))
+    (λ o. goes-back a k (no-entry f e o))))
     (λ f. either (alone (d .jobs) (d .row (r .cell) .held) (r .job)) (promotes a k n f)
-    (λ e. either (olderThanHolders (d .jobs) (d .row (r .cell) .held) (r .job)) (waits-in-front a k n f e) (λ h. goes-back a k (holder h)))))
+    (λ e. either (olderThanHolders (d .jobs) (d .row (r .cell) .held) (r .job)) (waits-in-front a k n f e) (λ h. goes-back a k (no-promotion n f e h)))))
 
 -- a cell that is none of the 64 is above 63
 cell-above : (c : ℕ) → ltb c cells ≡ false → leb cells c ≡ true

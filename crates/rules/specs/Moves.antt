@@ -17,7 +17,7 @@ use Rattle.rules.specs.Desk.{closed, running, waiting, sentback, isOpen,
 use Rattle.rules.specs.Locks.{agrees, alone, olderThanHolders, olderThanWaiters, isEmpty}
 use Rattle.rules.specs.Rules.{Outcome, refused, withRow, withStatus, rule4}
 use Rattle.rules.specs.Table.{Due}
-use Rattle.rules.specs.Asked.{Asking, Elder, heldThere, queueThere}
+use Rattle.rules.specs.Asked.{Asking, heldThere, queueThere}
 
 -- go: this desk, and nobody is woken
 abbrev pub goes : Desk → ℕ → Outcome
@@ -56,6 +56,14 @@ fitsIn d r a = agrees (d .jobs) (heldThere d r) (r .job) (needed a)
 abbrev pub asker : Request → Ask → Waiter
 asker r a = record { job = r .job; ask = a }
 
+-- neither to go nor to wait: what is left of rules 2 and 3 where they say "otherwise"
+pub data Otherwise (d : Desk) (r : Request) (a : Ask) : Type 0 where
+  -- rule 2: a promotion, another job holds the cell, and the job is not older than every other holder
+  no-promotion : covers (holding d r) (needed a) ≡ false → isFree (holding d r) ≡ false → noOther d r ≡ false → eldest d r ≡ false → Otherwise d r a
+  -- rule 3: a newcomer, the queue is not empty or the mode disagrees with a holder, and the job is not older than every holder and every waiter
+  no-entry : isFree (holding d r) ≡ true → (isEmpty (queueThere d r) && fitsIn d r a) ≡ false →
+      (eldest d r && olderThanWaiters (queueThere d r) (r .job)) ≡ false → Otherwise d r a
+
 -- the moves, each outcome written out: not by the names under which the rules are defined, so that a rule which does something else is no move
 pub data Moved (d : Desk) (r : Request) : Outcome → Type 0 where
   -- a refusal that the table says is due
@@ -86,4 +94,4 @@ pub data Moved (d : Desk) (r : Request) : Outcome → Type 0 where
       eldest d r ≡ true → olderThanWaiters (queueThere d r) (r .job) ≡ true →
       Moved d r (standing d (r .job) (r .cell) a (queueThere d r ++ asker r a ∷ []))
   -- rules 2 and 3, otherwise: sent back by rule 4
-  goes-back : (a : Ask) → Asking d r a → Elder d (r .job) (r .cell) → Moved d r (rule4 d (r .job) sentback (d .jobs) (Back (r .job)))
+  goes-back : (a : Ask) → Asking d r a → Otherwise d r a → Moved d r (rule4 d (r .job) sentback (d .jobs) (Back (r .job)))
