@@ -14,13 +14,14 @@ use Rattle.conflict.specs.Modes.{needed, covers}
 use Rattle.conflict.specs.History.{History}
 use Rattle.rules.specs.declared.Answer.the-variants.{Go}
 use Rattle.rules.specs.Desk.{Status, closed, running, waiting, sentback}
+use Rattle.rules.specs.Asked.{Asking}
 use Rattle.board.specs.declared.state.Desk.{Desk}
 use Rattle.board.specs.declared.state.Outcome.{Outcome}
 use Rattle.board.specs.Codes.{freeCode, waitingCode, sentBackCode}
 use Rattle.board.specs.Places.{modeAt}
 use Rattle.board.specs.Steps.{quiet, placeOf, statusOf, decided, carried, asking, ifRunning, stepFor, stepOf}
-use Rattle.board.specs.Stands.{statusFor, statusAt, statusBy, modeBy, Started}
-use Rattle.board.specs.Asked.{Asking}
+use Rattle.board.specs.Stands.{statusFor, statusAt, statusBy, modeBy}
+use Rattle.board.specs.Running.{view, Started}
 use Rattle.board.proofs.ByNumber.{seat-has, has-seat}
 use Rattle.board.proofs.StepTied.{status-code}
 use Rattle.board.proofs.StartedStands.{stands-for-paper}
@@ -37,7 +38,7 @@ running-goes d code c a o e =
     (λ f. by-test (eqb code waitingCode) (λ t. let q : waiting c a ≡ running = rw (f, t) at e in let z : _≡_ {A = ℕ} 0 1 = cc in absurd (omega arith))
     (λ g. by-test (eqb code sentBackCode) (λ t. let q : sentback ≡ running = rw (f, g, t) at e in let z : _≡_ {A = ℕ} 0 1 = cc in absurd (omega arith)) (λ k. rw (f, g, k))))
 
-module _ {d : Desk} {h : History} (s : Started d h) (kind job c : ℕ) (a : Ask) (k : Asking d kind job c a) where
+module _ {d : Desk} {h : History} (s : Started d h) (kind job c : ℕ) (a : Ask) (k : Asking (view d) (record { kind = kind; job = job; cell = c }) a) where
   -- a running job has a place, where its modes stand
   place-mode : modeBy d c job ≡ modeAt (d .held) c (placeOf d job)
   unfolding statusBy modeBy

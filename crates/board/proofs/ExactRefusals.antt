@@ -16,7 +16,6 @@ use Rattle.terms.specs.Letters.{letterOf}
 use Rattle.terms.specs.Limits.{places, cells, lastNumber}
 use Rattle.rules.specs.declared.Answer.{Answer}
 use Rattle.rules.specs.declared.Answer.the-variants.{Go, Back, No}
-use Rattle.rules.specs.Step.{recordsOf, ownRecords, wakeRecords}
 use Rattle.rules.specs.Table.{Answers, goes, waits, goes-back}
 use Rattle.board.specs.declared.state.Desk.{Desk}
 use Rattle.board.specs.declared.state.Outcome.{Outcome}
@@ -24,8 +23,6 @@ use Rattle.board.specs.declared.state.Decision.{Decision}
 use Rattle.board.specs.declared.state.Decision.the-variants.{Keep, Take, Stay, Away}
 use Rattle.board.specs.Codes.{freeCode, waitingCode, sentBackCode}
 use Rattle.board.specs.Steps.{quiet, refusing, placeOf, statusOf, decided, ending, carried, asking, beginning, ifRunning, givingUp, retrying, stepFor, stepOf}
-use Rattle.board.specs.Stands.{wakesTold, recordsTold}
-use Rattle.board.specs.Runs.{request}
 
 -- a step of arrays refuses, and does nothing else, or answers go, wait or back
 data Ruled (d : Desk) : Outcome → Type 0 where
@@ -101,9 +98,3 @@ desk-refusal-kept d kind job c why e = ap (λ o. o .desk) (exactly-refused d kin
 pub desk-refusal-quiet : (d : Desk) (kind job c : ℕ) (why : Refusal) → stepOf d kind job c .said .answer ≡ No why → stepOf d kind job c .said .count ≡ 0
 unfolding refusing quiet
 desk-refusal-quiet d kind job c why e = ap (λ o. o .said .count) (exactly-refused d kind job c why e)
-
--- and writes nothing (01, Lines)
-pub desk-refusal-records : (d : Desk) (kind job c : ℕ) (why : Refusal) → stepOf d kind job c .said .answer ≡ No why → recordsTold d kind job c ≡ []
-unfolding recordsTold refusing quiet wakesTold recordsOf ownRecords wakeRecords
-desk-refusal-records d kind job c why e =
-    ap (λ o. recordsOf (request kind job c) (o .said .answer) (wakesTold (o .said))) (exactly-refused d kind job c why e)

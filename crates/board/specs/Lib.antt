@@ -3,9 +3,4 @@ pub mod Places
 pub mod Settling
 pub mod Steps
 pub mod Stands
-pub mod Runs
-pub mod Due
-pub mod Waiting
-pub mod WakeOrder
-pub mod Effects
-pub mod Asked
+pub mod Running

@@ -1,28 +1,26 @@
--- The paper's desk as the arrays hold it, by numbers; what it is for arrays to stand for a paper's desk; and started arrays with their history.
+-- The paper's desk as the arrays hold it, by numbers; what it is for arrays to stand for a paper's desk.
 use Prim.Native.Nat.{ℕ, _<_, _≤_, _-_, _*_}
 use mathlib.Core.Path.{_≡_}
 use mathlib.Core.Bool.{Bool, not, _&&_}
-use mathlib.Core.List.{List, [], _++_}
+use mathlib.Core.List.{List}
 use lib.Dec.{eqb}
 use lib.ListN.{length, getD, take}
 use Rattle.laws.specs.Choice.{pick}
 use Rattle.laws.specs.Lists.{member, pos}
 use Rattle.terms.specs.declared.letters.Ask.{Ask}
-use Rattle.terms.specs.Limits.{places, lastNumber, cells}
+use Rattle.terms.specs.Limits.{places, cells}
 use Rattle.conflict.specs.declared.modes.Mode.{Mode}
 use Rattle.conflict.specs.declared.modes.Mode.the-variants.{Free}
 use Rattle.conflict.specs.declared.action.Action.{Action}
-use Rattle.conflict.specs.History.{History}
 use Rattle.rules.specs.Desk as paper
 use Rattle.rules.specs.Desk.{Status, closed, running, waiting, sentback}
 use Rattle.rules.specs.Rules as rules
-use Rattle.rules.specs.Step.{recordsOf}
 use Rattle.board.specs.declared.state.Desk.{Desk}
 use Rattle.board.specs.declared.state.Said.{Said}
 use Rattle.board.specs.declared.state.Outcome.{Outcome}
 use Rattle.board.specs.Codes.{freeCode, waitingCode, sentBackCode, askOf}
 use Rattle.board.specs.Places.{modeAt}
-use Rattle.board.specs.Steps.{noAction, emptyDesk, stepOf}
+use Rattle.board.specs.Steps.{noAction}
 
 -- whether a job has a place: 0 is nobody's number, it marks a free place
 unfoldable pub isSeated : List ℕ → ℕ → Bool
@@ -80,14 +78,3 @@ pub record Tied (o : Outcome) (O : rules.Outcome) : Type 0 where
   pub few : o .said .count ≤ places - 1
   pub size : length (o .said .wakes) ≡ places
   pub rest : (q : ℕ) → o .said .count ≤ q → getD (o .said .wakes) q noAction ≡ noAction
-
--- the history records of a step of the arrays, by the rules' one definition (01, Lines)
-unfoldable pub recordsTold : Desk → ℕ → ℕ → ℕ → History
-recordsTold d kind job c =
-    let o = stepOf d kind job c in
-    recordsOf (record { kind = kind; job = job; cell = c }) (o .said .answer) (wakesTold (o .said))
-
--- started arrays and the history they have written: fresh at a number from 1 to 4,294,967,295, or one step from started ones (01, How much a contract says)
-pub data Started : Desk → History → Type 0 where
-  fresh : (n : ℕ) → 0 < n → n ≤ lastNumber → Started (emptyDesk n) []
-  after : {d : Desk} {h : History} → Started d h → (kind job c : ℕ) → Started (stepOf d kind job c .desk) (h ++ recordsTold d kind job c)

@@ -9,7 +9,7 @@ use Rattle.terms.specs.Letters.{letterOf}
 use Rattle.rules.specs.declared.Answer.{Answer}
 use Rattle.rules.specs.declared.Answer.the-variants.{Go, Wait, Back as sent-back, No}
 use Rattle.rules.specs.Desk.{Desk, Request}
-use Rattle.rules.specs.Step.{stepCommit, stepGiveUp, stepRetry, stepAsk, stepBy, step, wentBy, ownRecords, recordsOf, events}
+use Rattle.rules.specs.Step.{recordsBy, stepCommit, stepGiveUp, stepRetry, stepAsk, stepBy, step, wentBy, ownRecords, recordsOf, events}
 use Rattle.rules.specs.Asked.{Alike}
 
 -- requests that are alike to a letter have the same outcome under it
@@ -49,5 +49,5 @@ unread d r s k e = step-alike d r s (letterOf (r .kind)) e ∙ ap (λ b. stepBy 
 
 -- and the same records
 pub unread-records : (d : Desk) (r s : Request) → r .kind ≡ s .kind → Alike (letterOf (r .kind)) r s → events d r ≡ events d s
-unfolding events recordsOf
+unfolding recordsBy recordsOf
 unread-records d r s k e = rw (unread d r s k e, records-alike r s (step d s .said) k e)

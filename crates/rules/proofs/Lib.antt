@@ -15,6 +15,7 @@ pub mod KeptQueue
 pub mod KeptAsk
 pub mod KeptRun
 pub mod Kept
+pub mod SeenDesk
 pub mod TableMeant
 pub mod Refusing
 pub mod AnswerNumbers
@@ -64,3 +65,5 @@ pub mod WakesTold
 pub mod FourKinds
 pub mod OthersLocks
 pub mod OneMove
+pub mod OneCourse
+pub mod Promised

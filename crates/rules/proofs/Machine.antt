@@ -15,7 +15,7 @@ use Rattle.conflict.proofs.ModeLaws.{covers-lets}
 use Rattle.rules.specs.Desk.{Desk, Request, freshDesk, idle, In, first, later}
 use Rattle.rules.specs.Rules.{Outcome, wake, rowsAfter, rule4}
 use Rattle.rules.specs.Step.{step, wakeRecords, events, Started}
-use Rattle.rules.specs.Step.Started.{fresh, after}
+use Rattle.rules.specs.Step.StartedOn.{fresh, after}
 use Rattle.rules.specs.Invariant.{Inv}
 use Rattle.rules.proofs.Release.{woken-covers}
 use Rattle.rules.proofs.RunEnd.{row-releases, wakesAfter}

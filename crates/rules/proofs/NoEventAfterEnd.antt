@@ -18,7 +18,7 @@ use Rattle.conflict.proofs.Appended.{line-append, marked-append, ends-append}
 use Rattle.rules.specs.Desk.{closed, isOpen, Desk, Request, freshDesk}
 use Rattle.rules.specs.Rules.{Outcome, rule4}
 use Rattle.rules.specs.Step.{step, wakeRecords, events, Started}
-use Rattle.rules.specs.Step.Started.{fresh, after}
+use Rattle.rules.specs.Step.StartedOn.{fresh, after}
 use Rattle.rules.specs.Invariant.{Inv}
 use Rattle.rules.proofs.Statuses.{running-open, waiting-open, closed-not-open}
 use Rattle.rules.proofs.RunEnd.{wakesAfter, woken-waited, self-not-woken, self-after}

@@ -13,7 +13,8 @@ use Rattle.conflict.proofs.Appended.{ended-append}
 use Rattle.rules.specs.Desk.{Waiter, Desk, Request}
 use Rattle.rules.specs.Locks.{wants}
 use Rattle.rules.specs.Step.{step, events, Started}
-use Rattle.rules.specs.Runs.{deskAfter, historyOf}
+use Rattle.rules.specs.Runs.{writes, deskAfter, historyOf}
+use Rattle.rules.specs.Course.{from}
 use Rattle.rules.specs.Waiting.{InWay, IsWaiting, Waits, GivesUp, AllEnd, Granted}
 use Rattle.rules.specs.Invariant.{Inv}
 use Rattle.rules.proofs.Kept.{step-inv, started-inv}
@@ -32,25 +33,23 @@ ended-neither i g h p q = ended-append i g h ∙ rw (p, q)
 
 module _ (c : ℕ) (w : Waiter) where
   -- who waits through requests waits before them
-  pub waits-now : (d : Desk) (rs : List Request) → Waits d c w rs → IsWaiting d c w
+  pub waits-now : (d : Desk) (rs : List Request) → Waits (deskAfter d) c w rs → IsWaiting d c w
   waits-now d [] k = k
   waits-now d (r ∷ rs) k = k .0
 
   -- and after them
-  waits-end : (d : Desk) (rs : List Request) → Waits d c w rs → IsWaiting (deskAfter d rs) c w
-  unfolding deskAfter
+  waits-end : (d : Desk) (rs : List Request) → Waits (deskAfter d) c w rs → IsWaiting (deskAfter d rs) c w
   waits-end d [] k = k
   waits-end d (r ∷ rs) k = waits-end (step d r .desk) rs (k .1)
 
   -- its lock on the cell stays as it was
-  hold-through : {d : Desk} → Inv d → (rs : List Request) → Waits d c w rs → deskAfter d rs .row c .held (w .job) ≡ d .row c .held (w .job)
-  unfolding deskAfter
+  hold-through : {d : Desk} → Inv d → (rs : List Request) → Waits (deskAfter d) c w rs → deskAfter d rs .row c .held (w .job) ≡ d .row c .held (w .job)
   hold-through v [] k = refl
   hold-through {d} v (r ∷ rs) (k, l) = hold-through (step-inv v r) rs l ∙ step-undisturbed v r c w k (waits-now (step d r .desk) rs l) .hold
 
   -- whoever is in its way after them was so before them, and has not ended a run in them
-  ways-through : {d : Desk} → Inv d → (rs : List Request) → Waits d c w rs → (i : ℕ) → InWay (deskAfter d rs .row c) w i → InWay (d .row c) w i × (ended i (historyOf d rs) ≡ false)
-  unfolding deskAfter historyOf
+  ways-through : {d : Desk} → Inv d → (rs : List Request) → Waits (deskAfter d) c w rs → (i : ℕ) → InWay (deskAfter d rs .row c) w i → InWay (d .row c) w i × (ended i (historyOf d rs) ≡ false)
+  unfolding writes
   ways-through v [] k i way = (way, ended-none i)
   ways-through {d} v (r ∷ rs) (k, l) i way =
       let (p, q) = ways-through (step-inv v r) rs l i way in
@@ -58,25 +57,25 @@ module _ (c : ℕ) (w : Waiter) where
 
 module _ {d : Desk} {h : History} (s : Started d h) (c : ℕ) (w : Waiter) (rs : List Request) where
   -- as long as it waits, somebody who was in its way when it began is still in its way and has not ended the run it was in
-  pub still-in-way : Waits d c w rs → (i : ℕ) × InWay (d .row c) w i × (ended i (historyOf d rs) ≡ false) × InWay (deskAfter d rs .row c) w i
+  pub still-in-way : Waits (deskAfter d) c w rs → (i : ℕ) × InWay (d .row c) w i × (ended i (historyOf d rs) ≡ false) × InWay (deskAfter d rs .row c) w i
   still-in-way k =
       let (i, way) = way-some (started-inv (run-started s rs)) c w (waits-end c w d rs k) in
       let (p, q) = ways-through c w (started-inv s) rs k i way in
       (i, p, q, way)
 
   -- so once all who were in its way have ended the runs they were in, it no longer waits for that request
-  pub not-forgotten : AllEnd d c w rs → Waits d c w rs → ⊥
+  pub not-forgotten : AllEnd (from d) c w rs → Waits (deskAfter d) c w rs → ⊥
   not-forgotten all k = let (i, p, q, way) = still-in-way k in not-both (all i p) q
 
   -- a step that is not its give-up leaves it waiting or grants it its cell in the mode it asked for
-  pub waits-or-granted : Waits d c w rs → (r : Request) → (GivesUp (w .job) r → ⊥) → IsWaiting (step (deskAfter d rs) r .desk) c w ⊎ Granted (step (deskAfter d rs) r) c w (wants (d .row c .held) w)
+  pub waits-or-granted : Waits (deskAfter d) c w rs → (r : Request) → (GivesUp (w .job) r → ⊥) → IsWaiting (step (deskAfter d rs) r .desk) c w ⊎ Granted (step (deskAfter d rs) r) c w (wants (d .row c .held) w)
   waits-or-granted k r n =
       subst (λ m. IsWaiting (step (deskAfter d rs) r .desk) c w ⊎ Granted (step (deskAfter d rs) r) c w m)
       (wants-same (deskAfter d rs .row c .held) (d .row c .held) w (hold-through c w (started-inv s) rs k))
       (step-on (started-inv (run-started s rs)) r c w (waits-end c w d rs k) n)
 
   -- so when it stops waiting in a step that is not its give-up, that step woke it and gave it its cell in the mode it asked for
-  pub granted-at-last : Waits d c w rs → (r : Request) → (GivesUp (w .job) r → ⊥) → (IsWaiting (step (deskAfter d rs) r .desk) c w → ⊥) → Granted (step (deskAfter d rs) r) c w (wants (d .row c .held) w)
+  pub granted-at-last : Waits (deskAfter d) c w rs → (r : Request) → (GivesUp (w .job) r → ⊥) → (IsWaiting (step (deskAfter d rs) r .desk) c w → ⊥) → Granted (step (deskAfter d rs) r) c w (wants (d .row c .held) w)
   granted-at-last k r n stops = by-side (waits-or-granted k r n)
     where
       by-side : IsWaiting (step (deskAfter d rs) r .desk) c w ⊎ Granted (step (deskAfter d rs) r) c w (wants (d .row c .held) w) → Granted (step (deskAfter d rs) r) c w (wants (d .row c .held) w)

@@ -22,7 +22,7 @@ use Rattle.rules.specs.Desk.{Desk, Request}
 use Rattle.rules.specs.Rules.{Outcome, refused, withRow, withStatus, rule4, begin}
 use Rattle.rules.specs.Step.{step}
 use Rattle.rules.specs.Table.{isBegin, letterIs}
-use Rattle.rules.specs.Runs.{deskAfter, numberIn, givenBy, given, Rising}
+use Rattle.rules.specs.Runs.{gives, deskAfter, numberIn, givenBy, given, Rising}
 use Rattle.rules.specs.Moves.{Moved, refuses, begins, commits, gives-up, retries, has-it, promotes, waits-in-front, enters, waits-last, goes-back}
 use Rattle.rules.proofs.Courses.{begin-went}
 use Rattle.rules.proofs.Moved.{step-moved}
@@ -76,7 +76,6 @@ next-rises d r = by-gives (step-gives d r)
 
 -- nor over several requests
 pub next-rises-on : (d : Desk) (rs : List Request) → d .next ≤ deskAfter d rs .next
-unfolding deskAfter
 next-rises-on d [] = omega arith
 next-rises-on d (r ∷ rs) =
     let a : d .next ≤ step d r .desk .next = next-rises d r in
@@ -89,7 +88,7 @@ begin-gives d r j e g = let c = begin-went d r j e g in (c .job, unfold begin in
 
 -- a number given by the requests is not below the next number before them, below the next number after them, and not above 4,294,967,295
 pub given-within : (d : Desk) (rs : List Request) (m : ℕ) → member m (given d rs) ≡ true → (d .next ≤ m) × (m < deskAfter d rs .next) × (m ≤ lastNumber)
-unfolding given deskAfter
+unfolding gives
 given-within d [] m h = unfold member in not-both h refl
 given-within d (r ∷ rs) m h = by-gives (step-gives d r) (given-within (step d r .desk) rs m)
   where
@@ -105,7 +104,7 @@ given-within d (r ∷ rs) m h = by-gives (step-gives d r) (given-within (step d 
 
 -- and every number between the two was given
 pub given-all : (d : Desk) (rs : List Request) (m : ℕ) → d .next ≤ m → m < deskAfter d rs .next → member m (given d rs) ≡ true
-unfolding given deskAfter
+unfolding gives
 given-all d [] m l u = absurd (omega arith)
 given-all d (r ∷ rs) m l u = by-gives (step-gives d r) (λ k. given-all (step d r .desk) rs m k u)
   where
@@ -120,7 +119,7 @@ given-all d (r ∷ rs) m l u = by-gives (step-gives d r) (λ k. given-all (step 
 
 -- over any list of requests the numbers given rise
 pub given-rises : (d : Desk) (rs : List Request) → Rising (given d rs)
-unfolding given
+unfolding gives
 given-rises d [] = tt
 given-rises d (r ∷ rs) = by-gives (step-gives d r) (given-rises (step d r .desk) rs)
   where

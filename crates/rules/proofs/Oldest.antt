@@ -66,7 +66,6 @@ not-open-closed sentback h = not-both refl h
 
 -- a closed job whose number was given stays closed, whatever is requested
 closed-through : {d : Desk} → Inv d → (rs : List Request) (i : ℕ) → i < d .next → d .stat i ≡ closed → deskAfter d rs .stat i ≡ closed
-unfolding deskAfter
 closed-through v [] i l e = e
 closed-through {d} v (r ∷ rs) i l e = closed-through (step-inv v r) rs i (omega (arith, next-rises d r)) (closed-stays v r i l e)
 

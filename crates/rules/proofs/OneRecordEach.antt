@@ -24,7 +24,7 @@ use Rattle.rules.specs.declared.Answer.the-variants.{Go, Wait, Back, No}
 use Rattle.rules.specs.Desk.{Status, Waiter, Row, Desk, Request, at, idle, freshDesk}
 use Rattle.rules.specs.Locks.{without, agrees, wants, woke, settle, released}
 use Rattle.rules.specs.Rules.{Outcome, refused, withRow, withStatus, wakesAt, wakesOf, rowsAfter, rule4}
-use Rattle.rules.specs.Step.{step, wentBy, ownRecords, wakeRecords, recordsOf, events}
+use Rattle.rules.specs.Step.{recordsBy, step, wentBy, ownRecords, wakeRecords, recordsOf, events}
 use Rattle.rules.specs.Moves.{Moved, refuses, begins, commits, gives-up, retries, has-it, promotes, waits-in-front, enters, waits-last, goes-back, taking, standing}
 use Rattle.rules.specs.Waiting.{standingIn, waitersOf}
 use Rattle.rules.proofs.Moved.{step-moved}
@@ -159,5 +159,5 @@ module _ (d : Desk) (r : Request) where
 
   -- the records of a step and those who wait after it are together at most one more than those who waited before
   pub one-record-each : length (events d r) + waitersOf (step d r .desk) ≤ suc (waitersOf d)
-  unfolding events
+  unfolding recordsBy
   one-record-each = by-move (step-moved d r)

@@ -79,7 +79,7 @@ woken-locks {d} s r x m c n = by-side (wakes-only-rule-4 d r)
     left : Ran d r → (b : ℕ) (u : Waiter) → In u (rowsAfter d (r .job) b .woken) → (y : Action) → y ≡ wake b u → c ≢ y .cell → step d r .desk .row c .held (y .job) ≡ d .row c .held (y .job)
     left t b u k y e q = rw (e, t .row c) (kept b u k (rw e at q))
 
-    by-side : (step d r .wakes ≡ []) ⊎ RunEnds d r → step d r .desk .row c .held (x .job) ≡ d .row c .held (x .job)
+    by-side : (step d r .wakes ≡ []) ⊎ RunEnds (step d r .said) r → step d r .desk .row c .held (x .job) ≡ d .row c .held (x .job)
     by-side (inl e) = in-none (subst (In x) e m)
     by-side (inr b) =
         let g = search-order (rowsAfter d (r .job)) cells .granted (subst (In x) (ran d r b .wakes) m) in

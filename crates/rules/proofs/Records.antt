@@ -18,7 +18,7 @@ use Rattle.rules.specs.declared.Answer.{Answer}
 use Rattle.rules.specs.declared.Answer.the-variants.{Go, Wait, Back as sent-back, No}
 use Rattle.rules.specs.Desk.{Desk, Request}
 use Rattle.rules.specs.Rules.{grant, queued, rule1, retry, begin}
-use Rattle.rules.specs.Step.{step, wentBy, ownRecords, wakeRecords, recordsOf, events}
+use Rattle.rules.specs.Step.{recordsBy, step, wentBy, ownRecords, wakeRecords, recordsOf, events}
 use Rattle.rules.specs.Histories.{onlyActions, MarkFirst, no-mark, mark}
 use Rattle.rules.proofs.Courses.{AskWent, had, got, begin-went, retry-went, ask-went, ask-waited}
 
@@ -30,7 +30,7 @@ records r said wakes h e = ap (λ x. x ++ wakeRecords wakes) e
 module _ (d : Desk) (r : Request) where
   -- the records of a request that goes
   went : (l : Lettered) (j : ℕ) → letterOf (r .kind) ≡ l → step d r .said ≡ Go j → events d r ≡ wentBy r j l ++ wakeRecords (step d r .wakes)
-  unfolding events
+  unfolding recordsBy
   went l j e g = records r (step d r .said) (step d r .wakes) (wentBy r j l) (ap (ownRecords r) g ∙ (unfold ownRecords in ap (wentBy r j) e))
 
   -- a commit that goes writes c, and then its wakes
@@ -45,7 +45,7 @@ module _ (d : Desk) (r : Request) where
 
   -- a sending back writes k, and then its wakes
   pub back-records : (j : ℕ) → step d r .said ≡ sent-back j → events d r ≡ Ends Back j ∷ wakeRecords (step d r .wakes)
-  unfolding events
+  unfolding recordsBy
   back-records j g = records r (step d r .said) (step d r .wakes) (Ends Back j ∷ []) (unfold ownRecords in ap (ownRecords r) g)
 
   -- a begin that goes writes nothing
@@ -70,7 +70,7 @@ module _ (d : Desk) (r : Request) where
 
   -- a wait writes nothing
   pub wait-records : (j : ℕ) → step d r .said ≡ Wait j → events d r ≡ []
-  unfolding events wakeRecords queued
+  unfolding recordsBy wakeRecords queued
   wait-records j g =
       records r (step d r .said) (step d r .wakes) [] (unfold ownRecords in ap (ownRecords r) g) ∙ ap (λ o. wakeRecords (o .wakes)) (ask-waited d r j g .outcome)
 
@@ -82,7 +82,7 @@ wakes-actions (a ∷ rest) = wakes-actions rest
 
 -- c, a and k stand before the wakes of their step, and no other step writes a mark
 pub mark-first : (d : Desk) (r : Request) → MarkFirst (events d r)
-unfolding events recordsOf
+unfolding recordsBy recordsOf
 mark-first d r = by-answer (step d r .said) (step d r .wakes)
   where
     by-letter : (j : ℕ) (wakes : List Action) (l : Lettered) → MarkFirst (wentBy r j l ++ wakeRecords wakes)

@@ -16,7 +16,7 @@ use Rattle.rules.specs.declared.Answer.{Answer}
 use Rattle.rules.specs.declared.Answer.the-variants.{No}
 use Rattle.rules.specs.Desk.{Status, Desk, Request}
 use Rattle.rules.specs.Rules.{Outcome, refused}
-use Rattle.rules.specs.Step.{step, events, recordsOf, ownRecords, wakeRecords}
+use Rattle.rules.specs.Step.{recordsBy, step, events, recordsOf, ownRecords, wakeRecords}
 use Rattle.rules.specs.Table.{holds, order, firstOf, dueBy, dueOf, Due, NothingDue, Answers, goes, waits, goes-back, named}
 use Rattle.rules.proofs.TableMeant.{Meant, step-meant}
 
@@ -83,7 +83,7 @@ due-holds d r why e = first-holds (holds (letterOf (r .kind)) (d .stat (r .job))
 
 -- after a refusal the desk holds what it held, nobody is woken and nothing is recorded
 pub refusal-kept : (d : Desk) (r : Request) (why : Refusal) → step d r .said ≡ No why → (step d r .desk ≡ d) × (step d r .wakes ≡ []) × (events d r ≡ [])
-unfolding refused events recordsOf ownRecords wakeRecords
+unfolding refused recordsBy recordsOf ownRecords wakeRecords
 refusal-kept d r why e =
     let q : step d r ≡ refused d why = due-refused d r why (refused-when d r why e) in
     (ap (λ o. o .desk) q, ap (λ o. o .wakes) q, ap (λ o. recordsOf r (o .said) (o .wakes)) q)

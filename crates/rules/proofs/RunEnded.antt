@@ -18,14 +18,14 @@ pub record Ran (d : Desk) (r : Request) : Type 0 where
   pub row : (c : ℕ) → step d r .desk .row c ≡ rowsAfter d (r .job) c .row
 
 -- and every commit, give-up and sending back is such a step
-pub ran : (d : Desk) (r : Request) → RunEnds d r → Ran d r
+pub ran : (d : Desk) (r : Request) → RunEnds (step d r .said) r → Ran d r
 unfolding close sendBack rule4
 ran d r (by-commit l g) = let e = commit-went d r (r .job) l g .outcome in record { wakes = ap (λ o. o .wakes) e; row = λ c. ap (λ o. o .desk .row c) e }
 ran d r (by-give-up l g) = let e = give-up-went d r (r .job) l g .outcome in record { wakes = ap (λ o. o .wakes) e; row = λ c. ap (λ o. o .desk .row c) e }
 ran d r (by-back g) = let e = ask-back d r (r .job) g .outcome in record { wakes = ap (λ o. o .wakes) e; row = λ c. ap (λ o. o .desk .row c) e }
 
 -- RULE 4: where a run ends, at each cell the job's lock and its place in the queue are dropped, those granted stood at the front, each holds what it wanted, everybody else what they held, and the first one left is hindered (01, rule 4)
-pub rule-4 : {d : Desk} {h : History} → Started d h → (r : Request) → RunEnds d r → AllReleased d r
+pub rule-4 : {d : Desk} {h : History} → Started d h → (r : Request) → RunEnds (step d r .said) r → AllReleased d (step d r) r
 rule-4 {d} s r e =
     let k = ran d r e in
     record { settled = rowsAfter d (r .job); rows = k .row; wakes = k .wakes; releases = row-releases (started-inv s) (r .job) }

@@ -15,7 +15,8 @@ use Rattle.rules.specs.declared.Answer.the-variants.{Wait}
 use Rattle.rules.specs.Desk.{Waiter, Desk, Request}
 use Rattle.rules.specs.Locks.{wants}
 use Rattle.rules.specs.Step.{step, events, Started, after}
-use Rattle.rules.specs.Runs.{deskAfter, historyOf}
+use Rattle.rules.specs.Runs.{writes, deskAfter, historyOf}
+use Rattle.rules.specs.Course.{from}
 use Rattle.rules.specs.Waiting.{InWay, asker, IsWaiting, Waits, Patient, AllEnd, Granted, Served, ServedInTime}
 use Rattle.rules.specs.Invariant.{Inv}
 use Rattle.rules.proofs.Kept.{step-inv, started-inv}
@@ -28,8 +29,8 @@ use Rattle.rules.proofs.JustAsked.{asker-waits}
 
 module _ {d : Desk} (v : Inv d) (r : Request) (rs : List Request) (c : ℕ) (w : Waiter) (k : IsWaiting d c w) where
   -- it is served in the first of the requests
-  served-now : Granted (step d r) c w (wants (d .row c .held) w) → Served d c w (r ∷ rs)
-  unfolding deskAfter historyOf
+  served-now : Granted (step d r) c w (wants (d .row c .held) w) → Served (from d) c w (r ∷ rs)
+  unfolding writes
   served-now g = let (i, way) = way-some v c w k in record {
     before = [];
     request = r;
@@ -41,8 +42,8 @@ module _ {d : Desk} (v : Inv d) (r : Request) (rs : List Request) (c : ℕ) (w :
   }
 
   -- it waits on in the first, and is served in the rest
-  served-later : IsWaiting (step d r .desk) c w → Served (step d r .desk) c w rs → Served d c w (r ∷ rs)
-  unfolding deskAfter historyOf
+  served-later : IsWaiting (step d r .desk) c w → Served (from (step d r .desk)) c w rs → Served (from d) c w (r ∷ rs)
+  unfolding writes
   served-later h s = record {
     before = r ∷ s .before;
     request = s .request;
@@ -59,39 +60,39 @@ module _ {d : Desk} (v : Inv d) (r : Request) (rs : List Request) (c : ℕ) (w :
           (i, step-undisturbed v r c w k h .ways i way, ended-neither i (events d r) (historyOf (step d r .desk) (s .before)) (step-not-ended v r c w k i way) e)
 
   -- one request more, where what is claimed of the rest is known
-  one-more : Patient d c w (r ∷ rs) → (IsWaiting (step d r .desk) c w → Patient (step d r .desk) c w rs → Waits (step d r .desk) c w rs ⊎ Served (step d r .desk) c w rs) → Waits d c w (r ∷ rs) ⊎ Served d c w (r ∷ rs)
+  one-more : Patient (from d) c w (r ∷ rs) → (IsWaiting (step d r .desk) c w → Patient (from (step d r .desk)) c w rs → Waits (deskAfter (step d r .desk)) c w rs ⊎ Served (from (step d r .desk)) c w rs) → Waits (deskAfter d) c w (r ∷ rs) ⊎ Served (from d) c w (r ∷ rs)
   one-more p more = by-side (step-on v r c w k (p [] r rs refl k))
     where
-      patient : Patient (step d r .desk) c w rs
+      patient : Patient (from (step d r .desk)) c w rs
       patient before x rest e l = p (r ∷ before) x rest (ap (λ l. r ∷ l) e) (k, l)
 
-      in-rest : IsWaiting (step d r .desk) c w → Waits (step d r .desk) c w rs ⊎ Served (step d r .desk) c w rs → Waits d c w (r ∷ rs) ⊎ Served d c w (r ∷ rs)
+      in-rest : IsWaiting (step d r .desk) c w → Waits (deskAfter (step d r .desk)) c w rs ⊎ Served (from (step d r .desk)) c w rs → Waits (deskAfter d) c w (r ∷ rs) ⊎ Served (from d) c w (r ∷ rs)
       in-rest h (inl l) = inl (k, l)
       in-rest h (inr s) = inr (served-later h s)
 
-      by-side : IsWaiting (step d r .desk) c w ⊎ Granted (step d r) c w (wants (d .row c .held) w) → Waits d c w (r ∷ rs) ⊎ Served d c w (r ∷ rs)
+      by-side : IsWaiting (step d r .desk) c w ⊎ Granted (step d r) c w (wants (d .row c .held) w) → Waits (deskAfter d) c w (r ∷ rs) ⊎ Served (from d) c w (r ∷ rs)
       by-side (inl h) = in-rest h (more h patient)
       by-side (inr g) = inr (served-now g)
 
 -- after any requests in which it does not give up while it waits, it still waits or has been served
-waits-on : {d : Desk} → Inv d → (c : ℕ) (w : Waiter) (rs : List Request) → IsWaiting d c w → Patient d c w rs → Waits d c w rs ⊎ Served d c w rs
+waits-on : {d : Desk} → Inv d → (c : ℕ) (w : Waiter) (rs : List Request) → IsWaiting d c w → Patient (from d) c w rs → Waits (deskAfter d) c w rs ⊎ Served (from d) c w rs
 waits-on v c w [] k p = inl k
 waits-on v c w (r ∷ rs) k p = one-more v r rs c w k p (waits-on (step-inv v r) c w rs)
 
 -- so through any requests a waiter that does not give up still waits, or has been served
-pub waits-or-served : {d : Desk} {h : History} → Started d h → (c : ℕ) (w : Waiter) → IsWaiting d c w → (rs : List Request) → Patient d c w rs → Waits d c w rs ⊎ Served d c w rs
+pub waits-or-served : {d : Desk} {h : History} → Started d h → (c : ℕ) (w : Waiter) → IsWaiting d c w → (rs : List Request) → Patient (from d) c w rs → Waits (deskAfter d) c w rs ⊎ Served (from d) c w rs
 waits-or-served s c w k rs p = waits-on (started-inv s) c w rs k p
 
 -- and once all runs that were in its way have ended, it has been served
-pub waiter-served : {d : Desk} {h : History} → Started d h → (c : ℕ) (w : Waiter) → IsWaiting d c w → (rs : List Request) → Patient d c w rs → AllEnd d c w rs → Served d c w rs
+pub waiter-served : {d : Desk} {h : History} → Started d h → (c : ℕ) (w : Waiter) → IsWaiting d c w → (rs : List Request) → Patient (from d) c w rs → AllEnd (from d) c w rs → Served (from d) c w rs
 waiter-served {d} s c w k rs p all = by-side (waits-or-served s c w k rs p)
   where
-    by-side : Waits d c w rs ⊎ Served d c w rs → Served d c w rs
+    by-side : Waits (deskAfter d) c w rs ⊎ Served (from d) c w rs → Served (from d) c w rs
     by-side (inl l) = absurd (not-forgotten s c w rs all l)
     by-side (inr g) = g
 
 -- a job that asks and is answered wait is served in time (demand 3)
-pub served-in-time : {d : Desk} {h : History} → Started d h → (r : Request) (a : Ask) → letterOf (r .kind) ≡ Known (Asks a) → step d r .said ≡ Wait (r .job) → ServedInTime (step d r .desk) (r .cell) (asker r a)
+pub served-in-time : {d : Desk} {h : History} → Started d h → (r : Request) (a : Ask) → letterOf (r .kind) ≡ Known (Asks a) → step d r .said ≡ Wait (r .job) → ServedInTime (from (step d r .desk)) (r .cell) (asker r a)
 served-in-time {d} s r a l e = record {
   waits = waits;
   in-a-run = in-way-live (after s r) (r .cell) (asker r a) waits;

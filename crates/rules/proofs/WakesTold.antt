@@ -47,7 +47,7 @@ searched-sooner v j (granted-ahead c u w e k a) = stood-ahead c u w e k (granted
 pub wakes-in-order : {d : Desk} {h : History} → Started d h → (r : Request) (x y : Action) → Before x y (step d r .wakes) → Sooner d x y
 wakes-in-order {d} s r x y b = by-side (wakes-only-rule-4 d r)
   where
-    by-side : (step d r .wakes ≡ []) ⊎ RunEnds d r → Sooner d x y
+    by-side : (step d r .wakes ≡ []) ⊎ RunEnds (step d r .said) r → Sooner d x y
     by-side (inl e) = before-none (subst (Before x y) e b)
     by-side (inr k) = searched-sooner (started-inv s) (r .job) (search-order (rowsAfter d (r .job)) cells .ordered (subst (Before x y) (ran d r k .wakes) b))
 
@@ -75,7 +75,7 @@ wakes-exactly {d} s r x m a k = by-side (wakes-only-rule-4 d r)
     left : (c : ℕ) (w : Waiter) → In w (rowsAfter d (r .job) c .woken) → Ran d r → (y : Action) → y ≡ wake c w → d .stat (y .job) ≡ waiting (y .cell) a → WokenWith (d .row (y .cell) .held (y .job)) (step d r .desk .row (y .cell) .held (y .job)) a
     left c w i t y e q = rw (e, t .row c) (granted-exactly (started-inv s) (r .job) c w i a (rw e at q))
 
-    by-side : (step d r .wakes ≡ []) ⊎ RunEnds d r → WokenWith (d .row (x .cell) .held (x .job)) (step d r .desk .row (x .cell) .held (x .job)) a
+    by-side : (step d r .wakes ≡ []) ⊎ RunEnds (step d r .said) r → WokenWith (d .row (x .cell) .held (x .job)) (step d r .desk .row (x .cell) .held (x .job)) a
     by-side (inl e) = in-none (subst (In x) e m)
     by-side (inr b) =
         let g = search-order (rowsAfter d (r .job)) cells .granted (subst (In x) (ran d r b .wakes) m) in

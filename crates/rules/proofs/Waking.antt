@@ -24,10 +24,10 @@ use Rattle.rules.proofs.RunEnd.{wakesAfter, row-releases, granted-woken
 use Rattle.rules.proofs.Queue.{in-none}
 
 -- nobody is woken but by a commit, a give-up or a sending back
-pub wakes-only-rule-4 : (d : Desk) (r : Request) → (step d r .wakes ≡ []) ⊎ RunEnds d r
+pub wakes-only-rule-4 : (d : Desk) (r : Request) → (step d r .wakes ≡ []) ⊎ RunEnds (step d r .said) r
 wakes-only-rule-4 d r = by-move (step-moved d r) refl
   where
-    by-move : {o : Outcome} → Moved d r o → step d r ≡ o → (step d r .wakes ≡ []) ⊎ RunEnds d r
+    by-move : {o : Outcome} → Moved d r o → step d r ≡ o → (step d r .wakes ≡ []) ⊎ RunEnds (step d r .said) r
     by-move (refuses why _) h = inl (unfold refused in ap (λ o. o .wakes) h)
     by-move (begins l n m) h = inl (ap (λ o. o .wakes) h)
     by-move (commits l s) h = inr (by-commit l (unfold rule4 in ap (λ o. o .said) h))

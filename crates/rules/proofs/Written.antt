@@ -22,7 +22,7 @@ use Rattle.rules.specs.declared.Answer.{Answer}
 use Rattle.rules.specs.declared.Answer.the-variants.{Go, Back as sent-back}
 use Rattle.rules.specs.Desk.{Status, closed, sentback, isOpen, Desk, Request, Waiter, Row, at, vacated}
 use Rattle.rules.specs.Rules.{Outcome, refused, withRow, withStatus, wakesOf, rowsAfter, rule4, grant}
-use Rattle.rules.specs.Step.{step, wentBy, ownRecords, wakeRecords, recordsOf, events}
+use Rattle.rules.specs.Step.{recordsBy, step, wentBy, ownRecords, wakeRecords, recordsOf, events}
 use Rattle.rules.specs.Asked.{Asking}
 use Rattle.rules.specs.Moves.{Moved}
 use Rattle.rules.specs.Moves.Moved.{refuses, begins, commits, gives-up, retries, has-it, promotes, waits-in-front, enters, waits-last, goes-back}
@@ -111,5 +111,5 @@ module _ (d : Desk) (r : Request) (v : Inv d) where
 
   -- every step, by what it writes
   pub step-wrote : Wrote d r (step d r) (events d r)
-  unfolding events
+  unfolding recordsBy
   step-wrote = moved-wrote (step-moved d r)

@@ -14,9 +14,9 @@ use Rattle.conflict.specs.declared.modes.Mode.{Mode}
 use Rattle.conflict.specs.declared.modes.Mode.the-variants.{Free, X}
 use Rattle.conflict.specs.declared.action.Action.{Action}
 use Rattle.conflict.specs.Modes.{needed, recorded, covers, isFree}
+use Rattle.rules.specs.declared.Answer.{Answer}
 use Rattle.rules.specs.declared.Answer.the-variants.{Go, Back}
 use Rattle.rules.specs.Desk.{closed, running, waiting, sentback, In, Waiter, Desk, Request}
-use Rattle.rules.specs.Step.{step}
 use Rattle.rules.specs.Asked.{Asking}
 
 -- the job holds nothing in any cell and stands in no queue
@@ -101,11 +101,11 @@ pub record StartsToWait (d e : Desk) (r : Request) (a : Ask) (j : ℕ) : Type 0 
   pub places : e .jobs ≡ d .jobs
   pub next : e .next ≡ d .next
 
--- the step is a commit, a give-up or a sending back of the request's job
-pub data RunEnds (d : Desk) (r : Request) : Type 0 where
-  by-commit : letterOf (r .kind) ≡ Known Commit → step d r .said ≡ Go (r .job) → RunEnds d r
-  by-give-up : letterOf (r .kind) ≡ Known GiveUp → step d r .said ≡ Go (r .job) → RunEnds d r
-  by-back : step d r .said ≡ Back (r .job) → RunEnds d r
+-- the step that gives this answer is a commit, a give-up or a sending back of the request's job
+pub data RunEnds (said : Answer) (r : Request) : Type 0 where
+  by-commit : letterOf (r .kind) ≡ Known Commit → said ≡ Go (r .job) → RunEnds said r
+  by-give-up : letterOf (r .kind) ≡ Known GiveUp → said ≡ Go (r .job) → RunEnds said r
+  by-back : said ≡ Back (r .job) → RunEnds said r
 
 -- from desk d to desk e the wake a: what was asked, that it waited for that, and what it is and holds now
 pub record Woken (d e : Desk) (a : Action) : Type 0 where

@@ -11,8 +11,7 @@ use Rattle.conflict.specs.Modes.{covers, beside, isFree}
 use Rattle.rules.specs.Desk.{In, Waiter, Row, Desk, Request}
 use Rattle.rules.specs.Locks.{without, Settled, wants}
 use Rattle.rules.specs.Invariant.{Falling, FirstBlocked}
-use Rattle.rules.specs.Rules.{wakesOf}
-use Rattle.rules.specs.Step.{step}
+use Rattle.rules.specs.Rules.{Outcome, wakesOf}
 use Rattle.terms.specs.Limits.{cells}
 
 -- every holder is among the jobs listed
@@ -47,8 +46,8 @@ pub record Releases (js : List ℕ) (j : ℕ) (r : Row) (s : Settled) : Type 0 w
   pub blocked : FirstBlocked (s .row .held) (s .row .queue)
 
 -- the step carries rule 4 out for the request's job: every cell is released, and those granted there, cell by cell from 0 to 63, are the step's wakes (01, rule 4)
-pub record AllReleased (d : Desk) (r : Request) : Type 0 where
+pub record AllReleased (d : Desk) (o : Outcome) (r : Request) : Type 0 where
   pub settled : ℕ → Settled
-  pub rows : (c : ℕ) → step d r .desk .row c ≡ settled c .row
-  pub wakes : step d r .wakes ≡ wakesOf settled cells
+  pub rows : (c : ℕ) → o .desk .row c ≡ settled c .row
+  pub wakes : o .wakes ≡ wakesOf settled cells
   pub releases : (c : ℕ) → Releases (d .jobs) (r .job) (d .row c) (settled c)

@@ -13,13 +13,12 @@ use Rattle.laws.specs.Lists.{same}
 use Rattle.rules.specs.declared.Answer.{Answer}
 use Rattle.rules.specs.declared.Answer.the-variants.{Go, Wait, Back, No}
 use Rattle.rules.specs.Desk.{Status, running, waiting, sentback, closed, Waiter, Row, Desk, at, seated, vacated}
+use Rattle.rules.specs.Stepping.{Stepped}
 use Rattle.rules.specs.Locks.{agrees, alone, olderThanHolders, olderThanWaiters, isEmpty, Settled, released}
 
--- what a step leaves and tells: the desk, the answer, and the wakes in their order
-pub record Outcome : Type 0 where
-  pub desk : Desk
-  pub said : Answer
-  pub wakes : List Action
+-- what a step of the paper's desk leaves and tells
+abbrev pub Outcome : Type 0
+Outcome = Stepped Desk
 
 -- a refusal changes nothing and wakes nobody (01, Refusals by number)
 unfoldable pub refused : Desk → Refusal → Outcome

@@ -11,13 +11,13 @@ use Rattle.conflict.specs.History.{History}
 use Rattle.rules.specs.declared.Answer.{Answer}
 use Rattle.rules.specs.declared.Answer.the-variants.{Go, Wait, Back as sent-back, No}
 use Rattle.rules.specs.Desk.{Desk, Request, freshDesk}
-use Rattle.rules.specs.Step.{step, events}
+use Rattle.rules.specs.Stepping.{Stepping, through}
+use Rattle.rules.specs.Step.{step, recordsBy}
 use Rattle.rules.specs.Table.{isBegin, letterIs}
 
 -- the desk after the requests, in their order
-unfoldable pub deskAfter : Desk → List Request → Desk
-deskAfter d [] = d
-deskAfter d (r ∷ rs) = deskAfter (step d r .desk) rs
+abbrev pub deskAfter : Desk → List Request → Desk
+deskAfter = through step
 
 -- the number in an answer go
 unfoldable pub numberIn : Answer → List ℕ
@@ -30,26 +30,38 @@ numberIn (No why) = []
 unfoldable pub givenBy : Request → Answer → List ℕ
 givenBy r said = pick (letterIs isBegin (letterOf (r .kind))) (numberIn said) []
 
--- the numbers that the requests give, in their order
-unfoldable pub given : Desk → List Request → List ℕ
-given d [] = []
-given d (r ∷ rs) = givenBy r (step d r .said) ++ given (step d r .desk) rs
+-- the numbers that the requests give on any desk, in their order
+unfoldable pub gives : {S : Type 0} → Stepping S → S → List Request → List ℕ
+gives step d [] = []
+gives step d (r ∷ rs) = givenBy r (step d r .said) ++ gives step (step d r .desk) rs
+
+-- on the paper's desk
+abbrev pub given : Desk → List Request → List ℕ
+given = gives step
 
 -- strictly increasing: each number is smaller than all that come after it
 abbrev pub Rising : List ℕ → Type 0
 Rising [] = Unit {0}
 Rising (n ∷ ns) = ((m : ℕ) → member m ns ≡ true → n < m) × Rising ns
 
--- the history that the requests write, in their order
-unfoldable pub historyOf : Desk → List Request → History
-historyOf d [] = []
-historyOf d (r ∷ rs) = events d r ++ historyOf (step d r .desk) rs
+-- the history that the requests write on any desk, in their order
+unfoldable pub writes : {S : Type 0} → Stepping S → S → List Request → History
+writes step d [] = []
+writes step d (r ∷ rs) = recordsBy step d r ++ writes step (step d r .desk) rs
 
--- a desk and a history that requests from a fresh desk lead to
-pub record Reached (d : Desk) (h : History) : Type 0 where
+-- on the paper's desk
+abbrev pub historyOf : Desk → List Request → History
+historyOf = writes step
+
+-- a desk and a history that requests from a fresh one lead to
+pub record ReachedOn {S : Type 0} (step : Stepping S) (new : ℕ → S) (d : S) (h : History) : Type 0 where
   pub first : ℕ
   pub least : 0 < first
   pub most : first ≤ lastNumber
   pub requests : List Request
-  pub desk : d ≡ deskAfter (freshDesk first) requests
-  pub history : h ≡ historyOf (freshDesk first) requests
+  pub desk : d ≡ through step (new first) requests
+  pub history : h ≡ writes step (new first) requests
+
+-- on the paper's desk
+abbrev pub Reached : Desk → History → Type 0
+Reached = ReachedOn step freshDesk

@@ -23,6 +23,7 @@ use Rattle.conflict.specs.History.{History}
 use Rattle.rules.specs.declared.Answer.{Answer}
 use Rattle.rules.specs.declared.Answer.the-variants.{Go, Wait, Back as sent-back, No}
 use Rattle.rules.specs.Desk.{Status, closed, running, waiting, sentback, Desk, Request, freshDesk}
+use Rattle.rules.specs.Stepping.{Stepping}
 use Rattle.rules.specs.Rules.{Outcome, refused, close, ask, retry, begin}
 
 -- commit, by what the job is doing: 3 where it is not open, 4 where it waits, 5 where it was sent back
@@ -97,11 +98,19 @@ wakeRecords (a ∷ rest) = Does a ∷ wakeRecords rest
 unfoldable pub recordsOf : Request → Answer → List Action → History
 recordsOf r said wakes = ownRecords r said ++ wakeRecords wakes
 
--- the history records of a step on a desk
-unfoldable pub events : Desk → Request → History
-events d r = recordsOf r (step d r .said) (step d r .wakes)
+-- the history records of a step on any desk
+unfoldable pub recordsBy : {S : Type 0} → Stepping S → S → Request → History
+recordsBy step d r = recordsOf r (step d r .said) (step d r .wakes)
+
+-- the history records of a step on the paper's desk
+abbrev pub events : Desk → Request → History
+events = recordsBy step
 
 -- a started desk and the history it has written: fresh at a number from 1 to 4,294,967,295, or one step from a started desk (01, How much a contract says)
-pub data Started : Desk → History → Type 0 where
-  fresh : (n : ℕ) → 0 < n → n ≤ lastNumber → Started (freshDesk n) []
-  after : {d : Desk} {h : History} → Started d h → (r : Request) → Started (step d r .desk) (h ++ events d r)
+pub data StartedOn {S : Type 0} (step : Stepping S) (new : ℕ → S) : S → History → Type 0 where
+  fresh : (n : ℕ) → 0 < n → n ≤ lastNumber → StartedOn step new (new n) []
+  after : {d : S} {h : History} → StartedOn step new d h → (r : Request) → StartedOn step new (step d r .desk) (h ++ recordsBy step d r)
+
+-- a started desk of the paper
+abbrev pub Started : Desk → History → Type 0
+Started = StartedOn step freshDesk

@@ -17,8 +17,7 @@ use Rattle.conflict.specs.Runs.{ended}
 use Rattle.rules.specs.Desk.{running, waiting, Waiter, Row, Desk, Request, isOpen, isLive, In}
 use Rattle.rules.specs.Locks.{wants}
 use Rattle.rules.specs.Rules.{Outcome, wake}
-use Rattle.rules.specs.Step.{step}
-use Rattle.rules.specs.Runs.{deskAfter, historyOf}
+use Rattle.rules.specs.Course.{Course, now}
 
 -- v stands ahead of w in the queue
 pub data Ahead (v w : Waiter) : List Waiter → Type 0 where
@@ -63,22 +62,22 @@ OldestLive d j = (i : ℕ) → i ≢ j → isLive (d .stat i) ≡ true → j < i
 abbrev pub OldestOpen : Desk → ℕ → Type 0
 OldestOpen d j = (i : ℕ) → i ≢ j → isOpen (d .stat i) ≡ true → j < i
 
--- the waiter waits for one and the same request on desk d and after each of the requests: a waiting job is refused all but give-up, so it asks nothing in between
-abbrev pub Waits : Desk → ℕ → Waiter → List Request → Type 0
-Waits d c w [] = IsWaiting d c w
-Waits d c w (r ∷ rs) = IsWaiting d c w × Waits (step d r .desk) c w rs
+-- the waiter waits for one and the same request on the desk that is seen now and after each of the requests: a waiting job is refused all but give-up, so it asks nothing in between
+abbrev pub Waits : (List Request → Desk) → ℕ → Waiter → List Request → Type 0
+Waits seen c w [] = IsWaiting (seen []) c w
+Waits seen c w (r ∷ rs) = IsWaiting (seen []) c w × Waits (λ more. seen (r ∷ more)) c w rs
 
 -- the request is the job's give-up
 abbrev pub GivesUp : ℕ → Request → Type 0
 GivesUp j r = (letterOf (r .kind) ≡ Known GiveUp) × (r .job ≡ j)
 
 -- the waiter does not give up as long as it waits for that request
-abbrev pub Patient : Desk → ℕ → Waiter → List Request → Type 0
-Patient d c w rs = (before : List Request) (r : Request) (rest : List Request) → rs ≡ before ++ r ∷ rest → Waits d c w before → GivesUp (w .job) r → ⊥
+abbrev pub Patient : Course → ℕ → Waiter → List Request → Type 0
+Patient k c w rs = (before : List Request) (r : Request) (rest : List Request) → rs ≡ before ++ r ∷ rest → Waits (k .seen) c w before → GivesUp (w .job) r → ⊥
 
--- every run that was in the waiter's way on desk d ends in the requests: its job gets a c, an a or a k in what they write
-abbrev pub AllEnd : Desk → ℕ → Waiter → List Request → Type 0
-AllEnd d c w rs = (i : ℕ) → InWay (d .row c) w i → ended i (historyOf d rs) ≡ true
+-- every run that was in the waiter's way now ends in the requests: its job gets a c, an a or a k in what they write
+abbrev pub AllEnd : Course → ℕ → Waiter → List Request → Type 0
+AllEnd k c w rs = (i : ℕ) → InWay (now k .row c) w i → ended i (k .wrote [] rs) ≡ true
 
 -- the step gives the waiter the cell in this mode: it is among the wakes for the cell with what it asked, it runs, and it holds the mode, which covers what it needs
 pub record Granted (o : Outcome) (c : ℕ) (w : Waiter) (m : Mode) : Type 0 where
@@ -88,29 +87,29 @@ pub record Granted (o : Outcome) (c : ℕ) (w : Waiter) (m : Mode) : Type 0 wher
   pub enough : covers m (needed (w .ask)) ≡ true
 
 -- one of the requests gives the waiter its cell in the mode it asked for
-pub record Served (d : Desk) (c : ℕ) (w : Waiter) (rs : List Request) : Type 0 where
+pub record Served (k : Course) (c : ℕ) (w : Waiter) (rs : List Request) : Type 0 where
   pub before : List Request
   pub request : Request
   pub rest : List Request
   pub split : rs ≡ before ++ request ∷ rest
   -- until then it waited for that request
-  pub waited : Waits d c w before
+  pub waited : Waits (k .seen) c w before
   -- some run that was in its way had not ended before this step: so this is at the latest the step that ends the last of them
-  pub in-time : (i : ℕ) × InWay (d .row c) w i × (ended i (historyOf d before) ≡ false)
-  pub granted : Granted (step (deskAfter d before) request) c w (wants (d .row c .held) w)
+  pub in-time : (i : ℕ) × InWay (now k .row c) w i × (ended i (k .wrote [] before) ≡ false)
+  pub granted : Granted (k .does before request) c w (wants (now k .row c .held) w)
 
 -- at most n jobs are in the waiter's way: a list of such jobs that names none twice has at most n
 abbrev pub AtMostInWay : ℕ → Row → Waiter → Type 0
 AtMostInWay n r w = (is : List ℕ) → distinct is ≡ true → ((i : ℕ) → member i is ≡ true → InWay r w i) → length is ≤ n
 
--- the second sentence of demand 3 of a waiter, from desk d on, the desk right after it asked
-pub record ServedInTime (d : Desk) (c : ℕ) (w : Waiter) : Type 0 where
-  pub waits : IsWaiting d c w
+-- the second sentence of demand 3 of a waiter, from right after it asked on
+pub record ServedInTime (k : Course) (c : ℕ) (w : Waiter) : Type 0 where
+  pub waits : IsWaiting (now k) c w
   -- those in its way are each in a run, and there are at most 31
-  pub in-a-run : (i : ℕ) → InWay (d .row c) w i → isLive (d .stat i) ≡ true
-  pub at-most : AtMostInWay (places - 1) (d .row c) w
+  pub in-a-run : (i : ℕ) → InWay (now k .row c) w i → isLive (now k .stat i) ≡ true
+  pub at-most : AtMostInWay (places - 1) (now k .row c) w
   -- whatever is requested from then on: if it does not give up while it waits, then once all those runs have ended, it was given its cell in the mode it asked for, at the latest in the step that ended the last of them
-  pub served : (rs : List Request) → Patient d c w rs → AllEnd d c w rs → Served d c w rs
+  pub served : (rs : List Request) → Patient k c w rs → AllEnd k c w rs → Served k c w rs
 
 -- how many stand in the queues of the first n cells
 unfoldable pub standingIn : (ℕ → Row) → ℕ → ℕ

@@ -14,7 +14,7 @@ use Rattle.formats.specs.declared.Reading.the-variants.{Good, Bad}
 use Rattle.formats.specs.Lines.{readLine}
 use Rattle.formats.specs.Split.{linesOf}
 use Rattle.rules.specs.Desk.{Desk, freshDesk}
-use Rattle.rules.specs.Step.{events}
+use Rattle.rules.specs.Step.{recordsBy, events}
 use Rattle.rules.specs.Waiting.{waitersOf}
 use Rattle.rules.proofs.OneRecordEach.{none-standing, one-record-each}
 use Rattle.runs.specs.Run.{answered, lineBy, runOf}
@@ -24,7 +24,7 @@ use Rattle.runs.proofs.StartedRun.{recorded, bad-records}
 
 -- the records of a line and those who wait after it are at most one more than those who waited before
 line-few : (D : Desk) (n : ℕ) (r : Reading) → length (recorded (answered onPaper D n r .told)) + waitersOf (answered onPaper D n r .desk) ≤ suc (waitersOf D)
-unfolding answered onPaper events
+unfolding answered onPaper recordsBy
 line-few D n Bad = omega (arith, ap length bad-records)
 line-few D n (Good l job cell) = one-record-each D (record { kind = byteOf l; job = job; cell = cell })
 

@@ -18,7 +18,7 @@ use Rattle.formats.specs.Split.{linesOf}
 use Rattle.terms.specs.declared.refusals.Refusal.the-variants.{BadLine}
 use Rattle.rules.specs.declared.Answer.the-variants.{No}
 use Rattle.rules.specs.Desk.{Desk, freshDesk}
-use Rattle.rules.specs.Step.{ownRecords, wakeRecords, recordsOf, events, Started, fresh, after}
+use Rattle.rules.specs.Step.{ownRecords, wakeRecords, recordsOf, recordsBy, events, Started, fresh, after}
 use Rattle.rules.specs.Runs.{numberIn, givenBy}
 use Rattle.rules.proofs.Numbers.{Gives, none-given, one-given, step-gives}
 use Rattle.rules.proofs.NoEventAfterEnd.{started-over}
@@ -41,7 +41,7 @@ bad-records = refl
 
 -- one line: a bad one changes nothing, and a good one is a step
 line-started : {D : Desk} {h : History} → Started D h → (n : ℕ) (r : Reading) → Started (answered onPaper D n r .desk) (h ++ recorded (answered onPaper D n r .told))
-unfolding answered onPaper events
+unfolding answered onPaper recordsBy
 line-started {D} {h} s n Bad = subst (Started D) (sym (append-nil h) ∙ ap (λ k. h ++ k) (sym bad-records)) s
 line-started s n (Good l job cell) = after s (record { kind = byteOf l; job = job; cell = cell })
 

@@ -1,0 +1,21 @@
+-- What is promised of the history: its committed part is conflict-equivalent to its jobs in the order of their commits (demand 2).
+use Prim.Native.Nat.{ℕ}
+use mathlib.Core.Path.{_≡_}
+use mathlib.Core.Bool.{true}
+use mathlib.Core.List.{List}
+use Rattle.laws.specs.Lists.{distinct}
+use Rattle.conflict.specs.Schedule.{Equivalent, serial, ConflictSerializable, edge, knot}
+use Rattle.conflict.specs.History.{History, committedPart, commitOrder, committed, strict, endsForGood}
+
+pub record OrderlyHistory (h : History) : Type 0 where
+  -- the committed part is conflict-equivalent to its jobs one after another in the order of their commits, which names no job twice (demand 2)
+  pub serial-by-commits : Equivalent (committedPart h) (serial (commitOrder h) (committedPart h))
+  pub commits-once : distinct (commitOrder h) ≡ true
+  -- so it is conflict-serializable as the book has it, and has no knot (000, 18.2; 01, The judge's rules)
+  pub serializable : ConflictSerializable (committedPart h)
+  pub never-a-knot : (js : List ℕ) → knot (edge (committedPart h)) js ≡ true → ⊥
+  -- from each action to the end of its run nothing of another job conflicts with it (01, The desk's rules)
+  pub history-strict : strict h ≡ true
+  -- no event of a job follows its c or a, and the committed part is as the paper words it (01, refusals 3 and 13)
+  pub no-event-after-end : endsForGood h ≡ true
+  pub committed-as-worded : committedPart h ≡ committed h
