@@ -7,7 +7,7 @@ use lib.ListN.{replicate, length-replicate}
 use Rattle.terms.specs.Limits.{places, cells}
 use Rattle.conflict.specs.declared.modes.Mode.the-variants.{Free}
 use Rattle.conflict.specs.Modes.{modeOf}
-use Rattle.conflict.proofs.CodeLaws.{mode-zero}
+use Rattle.conflict.proofs.ModeCodes.{mode-zero}
 use Rattle.rules.specs.Desk.{closed, idle, freshDesk}
 use Rattle.rules.proofs.Places.{free-nobody}
 use Rattle.board.specs.Codes.{freeCode}

@@ -11,8 +11,7 @@ use Rattle.terms.specs.Limits.{places, cells}
 use Rattle.conflict.specs.declared.modes.Mode.{Mode}
 use Rattle.conflict.specs.declared.modes.Mode.the-variants.{Free}
 use Rattle.conflict.specs.Modes.{codeOf, modeOf}
-use Rattle.conflict.proofs.ModeLaws.{mode-code}
-use Rattle.conflict.proofs.CodeLaws.{mode-zero}
+use Rattle.conflict.proofs.ModeCodes.{mode-code, mode-zero}
 use Rattle.rules.specs.Desk.{at}
 use Rattle.rules.proofs.Tests.{at-each}
 use Rattle.board.specs.Places.{spot, modeAt}

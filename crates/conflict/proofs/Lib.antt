@@ -15,10 +15,9 @@ pub mod Calm
 pub mod Strict
 pub mod LockTable
 pub mod LockMachine
-pub mod MoreModeLaws
 pub mod Clauses
 pub mod ExactNeeds
 pub mod OneEvent
 pub mod StillHeld
 pub mod Ways
-pub mod CodeLaws
+pub mod ModeCodes

@@ -1,4 +1,4 @@
--- The laws of lock modes, which are all that is used of the matrix elsewhere.
+-- The laws of lock modes: what covers, what may be held beside what, what is granted, asked for and let.
 -- Assumes nothing.
 use Prim.Native.Nat.{ℕ, _<_}
 use mathlib.Core.Path.{_≡_, refl, _∙_}
@@ -96,6 +96,33 @@ covers-trans S I o h g = not-both h refl
 covers-trans X I o h g = covers-all o
 covers-trans I I o h g = g
 
+-- what is granted next to a mode is granted next to every mode that it covers
+grants-under : (m n a : Mode) → covers m n ≡ true → grants m a ≡ true → grants n a ≡ true
+unfolding covers grants beside
+grants-under m Free a h g = refl
+grants-under Free S a h g = not-both h refl
+grants-under S S a h g = g
+grants-under X S Free h g = refl
+grants-under X S S h g = not-both g refl
+grants-under X S X h g = not-both g refl
+grants-under X S I h g = not-both g refl
+grants-under I S a h g = not-both h refl
+grants-under Free X a h g = not-both h refl
+grants-under S X a h g = not-both h refl
+grants-under X X a h g = g
+grants-under I X a h g = not-both h refl
+grants-under Free I a h g = not-both h refl
+grants-under S I a h g = not-both h refl
+grants-under X I Free h g = refl
+grants-under X I S h g = not-both g refl
+grants-under X I X h g = not-both g refl
+grants-under X I I h g = not-both g refl
+grants-under I I a h g = g
+
+-- who is in the way of a mode asked for stays in its way under a mode that covers what it held
+pub stays-in-way : (m n a : Mode) → covers m n ≡ true → grants n a ≡ false → grants m a ≡ false
+stays-in-way m n a h f = by-test (grants m a) (λ t. not-both (grants-under m n a h t) f) (λ g. g)
+
 -- nothing held covers no need
 pub covers-free : (a : Ask) → covers Free (needed a) ≡ false
 unfolding covers needed
@@ -124,7 +151,12 @@ asked-covers S need = covers-all need
 asked-covers X need = covers-all need
 asked-covers I need = covers-all need
 
--- only a job that holds nothing is free
+-- a job that holds nothing is free
+pub free-is-free : isFree Free ≡ true
+unfolding isFree
+free-is-free = refl
+
+-- and only such a job is
 pub is-free : (m : Mode) → isFree m ≡ true → m ≡ Free
 unfolding isFree
 is-free Free h = refl
@@ -147,18 +179,9 @@ covers-some S n h f = refl
 covers-some X n h f = refl
 covers-some I n h f = refl
 
--- something is asked for at every action
-pub asked-not-free : (held : Mode) (a : Ask) → isFree (asked held (needed a)) ≡ false
-asked-not-free held a = covers-some (asked held (needed a)) (needed a) (asked-covers held (needed a)) (needed-not-free a)
-
 -- a mode that covers a need is held
 pub covers-not-free : (m : Mode) (a : Ask) → covers m (needed a) ≡ true → isFree m ≡ false
 covers-not-free m a h = covers-some m (needed a) h (needed-not-free a)
-
--- under nothing held nothing may be done
-pub free-lets : (k : Kind) → lets Free k ≡ false
-unfolding lets
-free-lets k = refl
 
 -- what may be done under a mode may be done under one that covers it
 pub lets-grows : (m n : Mode) (k : Kind) → covers m n ≡ true → lets n k ≡ true → lets m k ≡ true
@@ -252,16 +275,3 @@ promotion-alone Free other a n = not-both refl n
 promotion-alone S other a n = beside-x other
 promotion-alone X other a n = beside-x other
 promotion-alone I other a n = beside-x other
-
--- a mode's code is read as that mode
-pub mode-code : (m : Mode) → modeOf (codeOf m) ≡ m
-unfolding modeOf codeOf
-mode-code Free = refl
-mode-code S = refl
-mode-code X = refl
-mode-code I = refl
-
--- a number above 3 is the code of no mode, and read as nothing held
-pub code-other : (n : ℕ) → 3 < n → modeOf n ≡ Free
-unfolding modeOf codeOf
-code-other n h = simp (ne-eqb n 1 (λ e. omega arith), ne-eqb n 2 (λ e. omega arith), ne-eqb n 3 (λ e. omega arith))

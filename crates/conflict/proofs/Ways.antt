@@ -35,8 +35,3 @@ pub knot-on : (e : ℕ → ℕ → Bool) (k : ℕ) (ks : List ℕ) → knot e (k
 unfolding knot path
 knot-on e k [] h = h
 knot-on e k (j ∷ js) h = path-on e j js k j (and-second (e k j) (path e j js k) h) (and-first (e k j) (path e j js k) h)
-
--- no knot is empty
-pub knot-some : {P : Type 0} (e : ℕ → ℕ → Bool) → knot e [] ≡ true → P
-unfolding knot
-knot-some e h = not-both h refl

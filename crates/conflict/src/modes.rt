@@ -4,13 +4,26 @@ use terms::letters::Ask;
 ghost use mathlib.Core.Path.{_≡_};
 ghost use Rattle.conflict.specs.Modes.{needed, recorded, covers, beside, grants, asked, isFree, codeOf, modeOf};
 
-// What a job holds on a cell: nothing, or a lock that is shared, exclusive or for increments.
+// What a job holds on a cell.
 pub enum Mode {
+    // nothing
     Free,
+    // a shared lock, under which it may read
     S,
+    // an exclusive lock, under which it may do anything
     X,
+    // an increment lock, under which it may increment
     I,
 }
+
+// The numbers that stand for the modes in a table.
+pub const NOTHING: u8 = 0;
+
+pub const SHARED: u8 = 1;
+
+pub const EXCLUSIVE: u8 = 2;
+
+pub const INCREMENTING: u8 = 3;
 
 // The mode that what is asked needs.
 pub fn needed_mode(a: Ask) -> Mode
@@ -34,58 +47,37 @@ pub fn recorded_kind(a: Ask) -> Kind
     }
 }
 
-// Whether a held mode covers a needed one.
+// Whether a held mode covers a needed one: X covers every need, S and I their own.
 pub fn mode_covers(held: Mode, need: Mode) -> bool
     ensures { λ r. ⌜ r ≡ covers held need ⌝ }
 {
-    match need {
-        Mode::Free => true,
-        Mode::S => match held {
-            Mode::Free => false,
-            Mode::S => true,
-            Mode::X => true,
-            Mode::I => false,
-        },
-        Mode::X => match held {
-            Mode::Free => false,
-            Mode::S => false,
-            Mode::X => true,
-            Mode::I => false,
-        },
-        Mode::I => match held {
-            Mode::Free => false,
-            Mode::S => false,
-            Mode::X => true,
-            Mode::I => true,
-        },
+    let h = code_of(held);
+    let n = code_of(need);
+    if n == NOTHING {
+        return true;
     }
+    if h == EXCLUSIVE {
+        return true;
+    }
+    h == n
 }
 
-// Whether two jobs may hold a cell in these modes together.
+// Whether two jobs may hold a cell in these modes together: S with S, I with I, and whatever the other holds where one holds nothing.
 pub fn modes_beside(a: Mode, b: Mode) -> bool
     ensures { λ r. ⌜ r ≡ beside a b ⌝ }
 {
-    match a {
-        Mode::Free => true,
-        Mode::S => match b {
-            Mode::Free => true,
-            Mode::S => true,
-            Mode::X => false,
-            Mode::I => false,
-        },
-        Mode::X => match b {
-            Mode::Free => true,
-            Mode::S => false,
-            Mode::X => false,
-            Mode::I => false,
-        },
-        Mode::I => match b {
-            Mode::Free => true,
-            Mode::S => false,
-            Mode::X => false,
-            Mode::I => true,
-        },
+    let x = code_of(a);
+    let y = code_of(b);
+    if x == NOTHING {
+        return true;
     }
+    if y == NOTHING {
+        return true;
+    }
+    if x == EXCLUSIVE {
+        return false;
+    }
+    x == y
 }
 
 // Whether a mode that one job holds lets another be granted the mode that it asks for.
@@ -124,10 +116,10 @@ pub fn code_of(m: Mode) -> u8
     ensures { λ r. ⌜ r ≡ codeOf m ⌝ }
 {
     match m {
-        Mode::Free => 0,
-        Mode::S => 1,
-        Mode::X => 2,
-        Mode::I => 3,
+        Mode::Free => NOTHING,
+        Mode::S => SHARED,
+        Mode::X => EXCLUSIVE,
+        Mode::I => INCREMENTING,
     }
 }
 
@@ -136,9 +128,9 @@ pub fn mode_of(code: u8) -> Mode
     ensures { λ r. ⌜ r ≡ modeOf code ⌝ }
 {
     match code {
-        1 => Mode::S,
-        2 => Mode::X,
-        3 => Mode::I,
+        SHARED => Mode::S,
+        EXCLUSIVE => Mode::X,
+        INCREMENTING => Mode::I,
         _ => Mode::Free,
     }
 }

@@ -9,8 +9,7 @@ use Rattle.laws.specs.Choice.{by-test, not-both}
 use Rattle.terms.specs.Limits.{places}
 use Rattle.conflict.specs.declared.modes.Mode.the-variants.{Free}
 use Rattle.laws.specs.Lists.{member}
-use Rattle.conflict.proofs.ModeLaws.{free-beside}
-use Rattle.conflict.proofs.MoreModeLaws.{free-is-free}
+use Rattle.conflict.proofs.ModeLaws.{free-beside, free-is-free}
 use Rattle.rules.specs.Desk.{closed, running, waiting, Desk, isOpen, seated, idle, freshDesk, In}
 use Rattle.rules.specs.Rules.{begin}
 use Rattle.rules.specs.Invariant.{Inv, RowInv}

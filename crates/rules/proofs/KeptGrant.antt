@@ -7,7 +7,7 @@ use mathlib.Core.Bool.{true, false}
 use mathlib.Core.List.{List, [], _∷_}
 use Rattle.conflict.specs.declared.modes.Mode.{Mode}
 use Rattle.conflict.specs.Modes.{covers, grants, isFree}
-use Rattle.conflict.proofs.MoreModeLaws.{stays-in-way}
+use Rattle.conflict.proofs.ModeLaws.{stays-in-way}
 use Rattle.rules.specs.Desk.{Status, running, waiting, Waiter, Row, Desk, isLive, at, In, first}
 use Rattle.rules.specs.Locks.{wants}
 use Rattle.rules.specs.Rules.{grant, withRow}

@@ -11,8 +11,7 @@ use Rattle.conflict.specs.declared.modes.Mode.{Mode}
 use Rattle.conflict.specs.declared.modes.Mode.the-variants.{Free}
 use Rattle.conflict.specs.Modes.{needed, covers, beside, isFree}
 use Rattle.laws.specs.Lists.{member}
-use Rattle.conflict.proofs.ModeLaws.{free-beside, beside-free, is-free}
-use Rattle.conflict.proofs.MoreModeLaws.{free-is-free}
+use Rattle.conflict.proofs.ModeLaws.{free-beside, beside-free, is-free, free-is-free}
 use Rattle.rules.specs.Desk.{Waiter, Row, at, In}
 use Rattle.rules.specs.Locks.{without, Settled, settle, released}
 use Rattle.rules.specs.Releasing.{Seated, Releases}

@@ -12,7 +12,7 @@ use Rattle.terms.specs.Limits.{cells}
 use Rattle.conflict.specs.Modes.{isFree}
 use Rattle.conflict.specs.History.{History}
 use Rattle.conflict.specs.Runs.{isEnd, ended}
-use Rattle.conflict.proofs.MoreModeLaws.{free-is-free}
+use Rattle.conflict.proofs.ModeLaws.{free-is-free}
 use Rattle.conflict.proofs.OneEvent.{marked-none, marked-does, marked-ends, ended-is}
 use Rattle.rules.specs.declared.Answer.{Answer}
 use Rattle.rules.specs.Desk.{Status, waiting, Waiter, Desk, Request, In}

@@ -1,140 +1,30 @@
--- `conflict::modes::mode_covers` meets its contract: in each arm `covers` computes at what was matched.
+-- `conflict::modes::mode_covers` meets its contract: it compares codes as `coversByCode` does, which is `covers`.
 -- Assumes nothing.
 use borrow.Author.Needs.{needs}
-use Rattle.conflict.specs.Modes.{covers}
+use Rattle.laws.specs.Choice.{cases}
+use Rattle.conflict.specs.Modes.{codeOf}
+use Rattle.conflict.proofs.ModeCodes.{coversByCode, told-covers}
 use Rattle.conflict.proofs.modes.mode_covers.Statement.{statement}
 use Rattle.conflict.proofs.modes.mode_covers.Tie as tie
 
-enum-told : tie.Need-enum-told
-enum-told c = search needs
+code-of-requires : tie.Need-code-of-requires
+code-of-requires c κs = search needs
 
-enum-told-2 : tie.Need-enum-told-2
-enum-told-2 c = search needs
-
-enum-told-3 : tie.Need-enum-told-3
-enum-told-3 c = search needs
-
-enum-told-4 : tie.Need-enum-told-4
-enum-told-4 c = search needs
-
-enum-told-5 : tie.Need-enum-told-5
-enum-told-5 c = search needs
-
-enum-told-6 : tie.Need-enum-told-6
-enum-told-6 c = search needs
-
-enum-told-7 : tie.Need-enum-told-7
-enum-told-7 c = search needs
-
-enum-told-8 : tie.Need-enum-told-8
-enum-told-8 c = search needs
-
-enum-told-9 : tie.Need-enum-told-9
-enum-told-9 c = search needs
-
-enum-told-10 : tie.Need-enum-told-10
-enum-told-10 c = search needs
-
-enum-told-11 : tie.Need-enum-told-11
-enum-told-11 c = search needs
-
-enum-told-12 : tie.Need-enum-told-12
-enum-told-12 c = search needs
-
-enum-told-13 : tie.Need-enum-told-13
-enum-told-13 c = search needs
-
-enum-told-14 : tie.Need-enum-told-14
-enum-told-14 c = search needs
-
-enum-told-15 : tie.Need-enum-told-15
-enum-told-15 c = search needs
-
-enum-told-16 : tie.Need-enum-told-16
-enum-told-16 c = search needs
+code-of-requires-2 : tie.Need-code-of-requires-2
+code-of-requires-2 c κs = search needs
 
 returns : tie.Need-returns
-unfolding covers
-returns c = search needs
+unfolding coversByCode codeOf
+returns c = search (cases, told-covers)
 
 returns-2 : tie.Need-returns-2
-unfolding covers
-returns-2 c = search needs
+unfolding coversByCode codeOf
+returns-2 c = search (cases, told-covers)
 
 returns-3 : tie.Need-returns-3
-unfolding covers
-returns-3 c = search needs
-
-returns-4 : tie.Need-returns-4
-unfolding covers
-returns-4 c = search needs
-
-returns-5 : tie.Need-returns-5
-unfolding covers
-returns-5 c = search needs
-
-returns-6 : tie.Need-returns-6
-unfolding covers
-returns-6 c = search needs
-
-returns-7 : tie.Need-returns-7
-unfolding covers
-returns-7 c = search needs
-
-returns-8 : tie.Need-returns-8
-unfolding covers
-returns-8 c = search needs
-
-returns-9 : tie.Need-returns-9
-unfolding covers
-returns-9 c = search needs
-
-returns-10 : tie.Need-returns-10
-unfolding covers
-returns-10 c = search needs
-
-returns-11 : tie.Need-returns-11
-unfolding covers
-returns-11 c = search needs
-
-returns-12 : tie.Need-returns-12
-unfolding covers
-returns-12 c = search needs
-
-returns-13 : tie.Need-returns-13
-unfolding covers
-returns-13 c = search needs
+unfolding coversByCode codeOf
+returns-3 c = search (cases, told-covers)
 
 pub mode-covers-spec : {M : Type 1} → statement M
 mode-covers-spec =
-    tie.close
-    (tie.spec
-    enum-told
-    enum-told-2
-    enum-told-3
-    enum-told-4
-    enum-told-5
-    enum-told-6
-    enum-told-7
-    enum-told-8
-    enum-told-9
-    enum-told-10
-    enum-told-11
-    enum-told-12
-    enum-told-13
-    enum-told-14
-    enum-told-15
-    enum-told-16
-    returns
-    returns-2
-    returns-3
-    returns-4
-    returns-5
-    returns-6
-    returns-7
-    returns-8
-    returns-9
-    returns-10
-    returns-11
-    returns-12
-    returns-13)
+    tie.close (tie.spec code-of-requires code-of-requires-2 returns returns-2 returns-3)
