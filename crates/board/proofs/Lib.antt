@@ -1,9 +1,12 @@
 pub mod Unique
 pub mod Cases
 pub mod Copies
+pub mod Starts
 pub mod Seats
 pub mod ByNumber
 pub mod SeatsChanged
+pub mod Found
+pub mod Retrying
 pub mod FreePlaces
 pub mod EveryPlace
 pub mod HolderTests

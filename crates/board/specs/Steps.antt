@@ -24,9 +24,8 @@ use Rattle.rules.specs.declared.Answer.the-variants.{Go, Wait, Back, No}
 use Rattle.board.specs.declared.state.Desk.{Desk}
 use Rattle.board.specs.declared.state.Said.{Said}
 use Rattle.board.specs.declared.state.Outcome.{Outcome}
-use Rattle.board.specs.declared.state.Opening.{Opening}
-use Rattle.board.specs.declared.state.Opening.the-variants.{Opened, Refused}
-use Rattle.board.specs.declared.state.Fresh.{Fresh}
+use Rattle.board.specs.declared.state.Start.{Start}
+use Rattle.board.specs.declared.state.Start.the-variants.{Ready, Refused}
 use Rattle.board.specs.declared.state.Decision.{Decision}
 use Rattle.board.specs.declared.state.Decision.the-variants.{Keep, Take, Stay, Away}
 use Rattle.board.specs.Codes.{freeCode, runningCode, waitingCode, sentBackCode, askCode}
@@ -53,9 +52,9 @@ emptyDesk n =
       held = replicate (cells * places) 0;
     }
 
--- started at a first number: 10 for 0, with a blank desk beside it that is not started (01, refusal 10)
-unfoldable pub startOf : ℕ → Fresh
-startOf n = record { desk = emptyDesk n; opening = pick (eqb n 0) (Refused StartedAtZero) Opened }
+-- started at a first number: 10 for 0, and no desk (01, refusal 10)
+unfoldable pub startOf : ℕ → Start
+startOf n = pick (eqb n 0) (Refused StartedAtZero) (Ready (emptyDesk n))
 
 -- a refusal leaves the desk as it was
 unfoldable pub refusing : Desk → Refusal → Outcome
@@ -141,7 +140,7 @@ unfoldable pub asking : Desk → ℕ → ℕ → Ask → Outcome
 asking d job c a =
     pick (ltb c cells) (carried d (placeOf d job) c job a (decided d (placeOf d job) c job a)) (refusing d CellAbove)
 
--- rule 5: a sent back job runs again
+-- the job at place p runs again
 unfoldable pub retried : Desk → ℕ → Desk
 retried d p =
     record {
@@ -152,6 +151,10 @@ retried d p =
       ask = d .ask;
       held = d .held;
     }
+
+-- rule 5: a sent back job runs again, holding nothing as before; of any other number nothing comes (01, rule 5)
+unfoldable pub retriedJob : Desk → ℕ → Desk
+retriedJob d job = pick (eqb (statusOf (d .number) (d .status) job) sentBackCode) (retried d (placeOf d job)) d
 
 -- begin at the first free place
 unfoldable pub begun : Desk → ℕ → Desk

@@ -18,7 +18,7 @@ use Rattle.board.specs.declared.state.Outcome.{Outcome}
 use Rattle.board.specs.declared.state.Said.{Said}
 use Rattle.board.specs.declared.state.Woken.{Woken}
 use Rattle.board.specs.Places.{spot}
-use Rattle.board.specs.Steps.{quiet, settled, ending, holding, waitingFor, retried, stepOf}
+use Rattle.board.specs.Steps.{quiet, settled, ending, holding, waitingFor, retriedJob, stepOf}
 use Rattle.moves.specs.declared.plan.Move.{Move}
 use Rattle.moves.specs.declared.plan.Move.the-variants.{Refuse, Begin, Keep, Take, Stay, End, Retry}
 use Rattle.moves.specs.Plan.{over, moveFor, Fits}
@@ -88,8 +88,8 @@ module _ (d : Desk) (job c : ℕ) {m : Move} {a : Answer} (answers : a ≡ answe
     unfolding performed
     stayed e h g = rw (says, answers, e, g, h)
 
-    -- the place runs again
-    pub tried : {p : ℕ} {y : Desk} → m ≡ Retry p → y ≡ retried d p → x ≡ y → left x s ≡ performed d job c m
+    -- the job runs again
+    pub tried : {p : ℕ} {y : Desk} → m ≡ Retry p → y ≡ retriedJob d job → x ≡ y → left x s ≡ performed d job c m
     unfolding performed
     tried e h g = rw (says, answers, e, g, h)
 

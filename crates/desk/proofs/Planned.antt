@@ -19,7 +19,7 @@ use Rattle.board.specs.declared.state.Decision.the-variants.{Keep as keeps, Tak
 use Rattle.board.specs.declared.state.Desk.{Desk}
 use Rattle.board.specs.declared.state.Outcome.{Outcome}
 use Rattle.board.specs.Codes.{freeCode, runningCode, waitingCode, sentBackCode}
-use Rattle.board.specs.Steps.{quiet, refusing, statusOf, ending, decided, holding, waitingFor, carried, asking, retried, begun, beginning, ifRunning, givingUp, retrying, stepFor}
+use Rattle.board.specs.Steps.{quiet, refusing, statusOf, ending, decided, holding, waitingFor, carried, asking, retriedJob, begun, beginning, ifRunning, givingUp, retrying, stepFor}
 use Rattle.moves.specs.declared.plan.Move.{Move}
 use Rattle.moves.specs.declared.plan.Move.the-variants.{Refuse, Begin, Keep, Take, Stay, End, Retry}
 use Rattle.moves.specs.Plan.{over, foundAt, standingOf, ifRuns, beginMove, commitMove, giveUpMove, retryMove, decidedMove, askMove, moveFor, Fits}
@@ -38,7 +38,7 @@ performed d job c Keep = record { desk = d; said = quiet (answerTo Keep job) }
 performed d job c (Take p m) = record { desk = holding d p c m; said = quiet (answerTo (Take p m) job) }
 performed d job c (Stay p a) = record { desk = waitingFor d p c a; said = quiet (answerTo (Stay p a) job) }
 performed d job c (End p closed) = ending d p (codeAfter closed) closed (answerTo (End p closed) job)
-performed d job c (Retry p) = record { desk = retried d p; said = quiet (answerTo (Retry p) job) }
+performed d job c (Retry p) = record { desk = retriedJob d job; said = quiet (answerTo (Retry p) job) }
 
 -- the plan reads all but what is asked for
 pub plan-over : (d : Desk) (job c : ℕ) (l : Lettered) → moveFor (over (d .next) (d .number) (d .status) (d .cell) [] (d .held)) job c l ≡ moveFor d job c l
@@ -76,7 +76,7 @@ module _ (d : Desk) (job c : ℕ) where
 
   -- the plan carried out is the step
   pub planned-step : (l : Lettered) → performed d job c (moveFor d job c l) ≡ stepFor d job c l
-  unfolding moveFor commitMove giveUpMove retryMove askMove foundAt performed answerTo refusing stepFor givingUp retrying asking
+  unfolding moveFor commitMove giveUpMove retryMove askMove foundAt performed answerTo refusing stepFor givingUp retrying retriedJob asking
   planned-step Unknown = refl
   planned-step (Known no-request) = refl
   planned-step (Known begins) = performed-begin
@@ -85,7 +85,7 @@ module _ (d : Desk) (job c : ℕ) where
   planned-step (Known retries) =
       let code = statusOf (d .number) (d .status) job in
       by-test (eqb code freeCode) (λ t. rw t)
-      (λ f. rw f (by-test (eqb code waitingCode) (λ t. rw t) (λ g. rw g (by-test (eqb code sentBackCode) (λ t. rw t) (λ h. rw h)))))
+      (λ f. rw f (by-test (eqb code waitingCode) (λ t. rw t) (λ g. rw g (by-test (eqb code sentBackCode) (λ t. rw t (rw t)) (λ h. rw h)))))
   planned-step (Known (Asks a)) =
       performed-runs (statusOf (d .number) (d .status) job) _
       ∙ ap (ifRunning d (statusOf (d .number) (d .status) job)) (by-test (ltb c cells) (λ t. rw t (performed-decided _ a _)) (λ f. rw f))

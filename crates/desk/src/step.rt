@@ -1,6 +1,8 @@
 // One step of the desk: what the plan says is carried out on the desk where it stands (01, The desk's rules).
 use crate::settling::end_run;
 use board::codes::RUNNING;
+use board::codes::WAITING;
+use board::codes::ask_code;
 use board::state::Desk;
 use board::state::Outcome;
 use board::state::Said;
@@ -10,9 +12,10 @@ use conflict::modes::code_of;
 use moves::plan::Move;
 use moves::plan::plan;
 use rules::Answer;
+use terms::letters::Ask;
 ghost use mathlib.Core.Path.{_≡_};
 ghost use Rattle.laws.specs.Choice.{pick};
-ghost use Rattle.board.specs.Steps.{stepOf};
+ghost use Rattle.board.specs.Steps.{stepOf, waitingFor};
 ghost use Rattle.desk.specs.Answers.{answerTo, saidWith};
 
 // The answer to a job whose move this is.
@@ -57,6 +60,18 @@ fn said_with(answer: Answer, w: Woken) -> Said
     }
 }
 
+// Place p waits for cell c; where there is no such place, nothing changes.
+fn wait(mut d: Desk, p: usize, c: u8, a: Ask) -> Desk
+    ensures { λ r. ⌜ r ≡ waitingFor d p c a ⌝ }
+{
+    if p < 32 {
+        d.status[p] = WAITING;
+        d.cell[p] = c;
+        d.ask[p] = ask_code(a);
+    }
+    d
+}
+
 // One step by numbers: the kind's byte, the job and the cell.
 pub fn step(mut d: Desk, kind: u8, job: u32, cell: u32) -> Outcome
     ensures { λ r. ⌜ r ≡ stepOf d kind job cell ⌝ }
@@ -76,7 +91,7 @@ pub fn step(mut d: Desk, kind: u8, job: u32, cell: u32) -> Outcome
             d.held[cell as usize * 32 + p] = code_of(mode);
         }
         Move::Stay(p, a) => {
-            d = d.wait(p, cell as u8, a);
+            d = wait(d, p, cell as u8, a);
         }
         Move::End(p, closed) => {
             let w = end_run(d.number, d.status, d.cell, d.ask, &mut d.held, p, closed);
@@ -88,8 +103,8 @@ pub fn step(mut d: Desk, kind: u8, job: u32, cell: u32) -> Outcome
                 said: said_with(answer, w),
             };
         }
-        Move::Retry(p) => {
-            d = d.retry(p);
+        Move::Retry(_) => {
+            d = d.retry(job);
         }
     }
     Outcome {

@@ -1,6 +1,5 @@
 pub mod Decides
 pub mod Every
-pub mod Found
 pub mod Front
 pub mod Granting
 pub mod Open

@@ -114,8 +114,8 @@ returns c =
     ended (s .t1) (s .job) (s .cell) (c .before .before .before .before .before .before .before .before .before .before .before .before .before .answer-to .ensures) (c .before .before .before .before .before .before .before .before .before .before .before .m4 .given .1) (c .before .before .before .before .end-run .ensures) (c .before .number-after .ensures) (c .said-with .ensures)
     ∙ step-of (s .t1) (s .kind) (s .job) (s .cell) (c .before .before .before .before .before .before .before .before .before .before .before .before .before .before .plan .ensures)
 
-enum-known-m-5 : tie.Need-enum-known-m-5
-enum-known-m-5 c = search needs
+enum-told-3 : tie.Need-enum-told-3
+enum-told-3 c = search needs
 
 retry-requires : tie.Need-retry-requires
 retry-requires c κs = search needs
@@ -132,7 +132,7 @@ returns-2 c =
     (⊎-elim (λ w. begun-at (s .t1) (s .job) (s .cell) a says (w .1 .given .1) (w .3))
     (⊎-elim (λ w. kept (s .t1) (s .job) (s .cell) a says (w .1 .given .1) (w .2))
     (⊎-elim (λ w. taken (s .t1) (s .job) (s .cell) a says (w .1 .given .1) (w .3 .ensures) (w .4))
-    (⊎-elim (λ w. stayed (s .t1) (s .job) (s .cell) a says (w .1 .given .1) (w .3 .ensures) (w .4)) (λ w. tried (s .t1) (s .job) (s .cell) a says (w .1 .given .1) (w .3 .ensures) (w .4))))))
+    (⊎-elim (λ w. stayed (s .t1) (s .job) (s .cell) a says (w .1 .given .1) (w .3 .ensures) (w .4)) (λ w. tried (s .t1) (s .job) (s .cell) a says (w .1 .given .1) (w .2 .ensures) (w .3))))))
     (c .before .match .came)
     ∙ step-of (s .t1) (s .kind) (s .job) (s .cell) (c .before .before .before .plan .ensures)
 
@@ -167,7 +167,7 @@ step-spec =
     element-write-d-4
     said-with-requires
     returns
-    enum-known-m-5
+    enum-told-3
     retry-requires
     with-no-wakes-requires
     returns-2)

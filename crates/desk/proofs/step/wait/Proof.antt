@@ -1,4 +1,4 @@
--- `board::state::Desk::wait` meets its contract: the definition computes; where there is no such place, a store past the end changes nothing.
+-- `desk::step::wait` meets its contract: the definition computes; where there is no such place, a store past the end changes nothing.
 -- Assumes nothing.
 use Prim.Native.Nat.{_≤_}
 use mathlib.Core.Path.{_≡_, refl}
@@ -6,22 +6,22 @@ use native.Mathlib.Omega.{arith}
 use lib.ListN.{length}
 use lib.Seq.{set-out}
 use borrow.Author.Needs.{needs}
 use Rattle.board.specs.Codes.{askCode}
 use Rattle.board.specs.Steps.{waitingFor}
-use Rattle.board.proofs.state.Desk.wait.Statement.{statement}
-use Rattle.board.proofs.state.Desk.wait.Tie as tie
+use Rattle.desk.proofs.step.wait.Statement.{statement}
+use Rattle.desk.proofs.step.wait.Tie as tie
 
-element-write-self : tie.Need-element-write-self
-element-write-self c = search needs
+element-write-d : tie.Need-element-write-d
+element-write-d c = search needs
 
-element-write-self-2 : tie.Need-element-write-self-2
-element-write-self-2 c = search needs
+element-write-d-2 : tie.Need-element-write-d-2
+element-write-d-2 c = search needs
 
 ask-code-requires : tie.Need-ask-code-requires
 ask-code-requires c κs = search needs
 
-element-write-self-3 : tie.Need-element-write-self-3
-element-write-self-3 c = search needs
+element-write-d-3 : tie.Need-element-write-d-3
+element-write-d-3 c = search needs
 
 returns : tie.Need-returns
 unfolding waitingFor
@@ -43,4 +43,4 @@ returns-2 c =
 pub wait-spec : {M : Type 1} → statement M
 wait-spec =
     tie.close
-    (tie.spec element-write-self element-write-self-2 ask-code-requires element-write-self-3 returns returns-2)
+    (tie.spec element-write-d element-write-d-2 ask-code-requires element-write-d-3 returns returns-2)
