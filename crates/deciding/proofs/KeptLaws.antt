@@ -10,8 +10,8 @@ use Rattle.terms.specs.declared.refusals.Refusal.the-variants.{TooManyLines, Jo
 use Rattle.terms.specs.Limits.{judgedJobs, judgedLines}
 use Rattle.verdicts.specs.declared.verdict.Verdict.{Verdict}
 use Rattle.verdicts.specs.declared.verdict.Verdict.the-variants.{No}
-use Rattle.verdicts.specs.Judged.{verdictOf}
-use Rattle.verdicts.specs.Judgement.{sayVerdict}
+use Rattle.verdicts.specs.Judged.{findingOf}
+use Rattle.verdicts.specs.Judgement.{sayFinding}
 use Rattle.verdicts.specs.Arrays.{historyBy}
 use Rattle.deciding.specs.Kept.{namelessFrom, refusedAt, keptJudgement}
 use Rattle.deciding.proofs.Nameless.{named-end}
@@ -35,15 +35,15 @@ module _ (codes jobs cells buffer : List ℕ) (n : ℕ) where
       rw (le-ltb (length buffer) judgedJobs h, le-ltb judgedLines n m, ← e, lt-ltb p n l, next) (refl, refl)
 
   -- else the verdict is said
-  pub kept-decided : judgedJobs ≤ length buffer → n ≤ judgedLines → ((p : ℕ) → p < n → getD jobs p 0 ≡ 0 → ⊥) → keptJudgement codes jobs cells buffer n ≡ sayVerdict buffer (verdictOf (historyBy codes jobs cells n))
+  pub kept-decided : judgedJobs ≤ length buffer → n ≤ judgedLines → ((p : ℕ) → p < n → getD jobs p 0 ≡ 0 → ⊥) → keptJudgement codes jobs cells buffer n ≡ sayFinding buffer (findingOf (historyBy codes jobs cells n))
   unfolding keptJudgement
   kept-decided h m named =
       let none′ : namelessFrom jobs 0 n ≡ n = named-end jobs n 0 n (omega arith) (λ q a b. named q b) in
       rw (le-ltb (length buffer) judgedJobs h, le-ltb judgedLines n m, none′, le-ltb n n (omega arith))
 
   -- with the jobs that fill the buffer
-  pub kept-said : judgedJobs ≤ length buffer → n ≤ judgedLines → ((p : ℕ) → p < n → getD jobs p 0 ≡ 0 → ⊥) → (r : Verdict) (last : List ℕ) → r ≡ sayVerdict buffer (verdictOf (historyBy codes jobs cells n)) .said →
-      last ≡ sayVerdict buffer (verdictOf (historyBy codes jobs cells n)) .order → (r ≡ keptJudgement codes jobs cells buffer n .said) × (last ≡ keptJudgement codes jobs cells buffer n .order)
+  pub kept-said : judgedJobs ≤ length buffer → n ≤ judgedLines → ((p : ℕ) → p < n → getD jobs p 0 ≡ 0 → ⊥) → (r : Verdict) (last : List ℕ) → r ≡ sayFinding buffer (findingOf (historyBy codes jobs cells n)) .said →
+      last ≡ sayFinding buffer (findingOf (historyBy codes jobs cells n)) .order → (r ≡ keptJudgement codes jobs cells buffer n .said) × (last ≡ keptJudgement codes jobs cells buffer n .order)
   kept-said h m named r last p q =
       let d = kept-decided h m named in
       (p ∙ ap (λ j. j .said) (sym d), q ∙ ap (λ j. j .order) (sym d))

@@ -16,9 +16,9 @@ use Rattle.verdicts.specs.declared.verdict.Verdict.{Verdict}
 use Rattle.verdicts.specs.declared.verdict.Verdict.the-variants.{Orderly, Knot}
 use Rattle.verdicts.specs.Order.{Edges, first, preceded, ascending, orderOf, stuck}
 use Rattle.verdicts.specs.Knot.{least, upTo, from, walk, turnTo, turn, knotIn}
-use Rattle.verdicts.specs.Judged.{orderly, knotted, verdictBy, judged, jobsOf, verdictOf}
+use Rattle.verdicts.specs.Judged.{orderly, knotted, findingBy, judged, jobsOf, findingOf}
 use Rattle.verdicts.specs.Meant.{Knotted}
-use Rattle.verdicts.specs.Judgement.{filled, sayVerdict}
+use Rattle.verdicts.specs.Judgement.{filled, sayFinding}
 use Rattle.verdicts.proofs.Turns.{cut}
 use Rattle.verdicts.proofs.Orders.{taken-only, taken-once, rest-ascending}
 use Rattle.verdicts.proofs.Remains.{rest-preceded}
@@ -52,13 +52,13 @@ module _ (round trail : List ℕ) (a b : ℕ) (r : RoundAt round trail a b) wher
   knot-room m h = rw (r .listed, ← turn-length round) h
 
   -- its length is said
-  pub knot-said : (buffer : List ℕ) → Knot (b - a) ≡ sayVerdict buffer (knotted (turn round)) .said
-  unfolding sayVerdict
+  pub knot-said : (buffer : List ℕ) → Knot (b - a) ≡ sayFinding buffer (knotted (turn round)) .said
+  unfolding sayFinding
   knot-said buffer = rw (turn-length round, round-length round trail a b r)
 
   -- and its jobs fill the buffer
-  pub knot-put : (buffer last : List ℕ) → last ≡ filled (turn (take (b - a) (drop a trail))) buffer → last ≡ sayVerdict buffer (knotted (turn round)) .order
-  unfolding sayVerdict
+  pub knot-put : (buffer last : List ℕ) → last ≡ filled (turn (take (b - a) (drop a trail))) buffer → last ≡ sayFinding buffer (knotted (turn round)) .order
+  unfolding sayFinding
   knot-put buffer last e = e ∙ rw (r .listed)
 
 -- a part as long as it should be lies within its list
@@ -90,7 +90,7 @@ first-leads (j ∷ js) s h =
 
 -- where jobs remain, the verdict is the knot in which the walk back from the smallest ends, however many more may be looked at
 stuck-knot : (e : Edges) (jobs : List ℕ) (s : ℕ) (rest : List ℕ) (n : ℕ) → ascending jobs ≡ true → stuck e jobs ≡ s ∷ rest → length (s ∷ rest) < n → judged e jobs ≡ knotted (turn (walk e (s ∷ rest) n [] s))
-unfolding judged verdictBy knotIn
+unfolding judged findingBy knotIn
 stuck-knot e jobs s rest n up q b =
     let rising : ascending (s ∷ rest) ≡ true = subst (λ l. ascending l ≡ true) q (rest-ascending e (order-taken e jobs) up) in
     let each : (j : ℕ) → member j (s ∷ rest) ≡ true → preceded e (s ∷ rest) j ≡ true =
@@ -116,15 +116,15 @@ module _ (h : History) (table left : List Bool) (placed : List ℕ) (k : ℕ) (t
 
   module _ (s : ℕ) (found : s ≡ orNobody (first (λ j. true) (leftOf left))) where
     -- where nobody remains the verdict is the order
-    pub took-order : s ≡ 256 → verdictOf h ≡ orderly (take k placed)
-    unfolding verdictOf judged verdictBy
+    pub took-order : s ≡ 256 → findingOf h ≡ orderly (take k placed)
+    unfolding findingOf judged findingBy
     took-order n =
         let none′ : stuck (edge (committedPart h)) (jobsOf h) ≡ [] = sym (t .remains) ∙ first-nobody (leftOf left) (none-left left (λ j. true) s found n) in
         rw (none′, t .order)
 
     -- else it is the knot
-    pub took-knot : (s ≡ 256 → ⊥) → (s < 256) × (verdictOf h ≡ knotted (turn (walk (edgesIn table) (leftOf left) 257 [] s)))
-    unfolding verdictOf
+    pub took-knot : (s ≡ 256 → ⊥) → (s < 256) × (findingOf h ≡ knotted (turn (walk (edgesIn table) (leftOf left) 257 [] s)))
+    unfolding findingOf
     took-knot n =
         let by = found-left left (λ j. true) s found n in
         let leads′ = first-leads (leftOf left) s (by .0) in (
@@ -141,24 +141,24 @@ module _ (h : History) (table left : List Bool) (placed : List ℕ) (k : ℕ) (t
         omega (arith, t .few, no-more (turn (walk (edgesIn table) (leftOf left) 257 [] s)) (jobsOf h) (shows .once) (shows .only))
 
     -- the order's length is said
-    pub said-order : s ≡ 256 → (buffer : List ℕ) → Orderly k ≡ sayVerdict buffer (verdictOf h) .said
-    unfolding sayVerdict
+    pub said-order : s ≡ 256 → (buffer : List ℕ) → Orderly k ≡ sayFinding buffer (findingOf h) .said
+    unfolding sayFinding
     said-order n buffer = rw (took-order n) (ap Orderly (t .count ∙ sym (ap length (t .order))))
 
     -- and its jobs fill the buffer
-    pub put-order : s ≡ 256 → (buffer last : List ℕ) → last ≡ putIn buffer 0 (take (k - 0) (drop 0 placed)) → last ≡ sayVerdict buffer (verdictOf h) .order
-    unfolding sayVerdict putIn filled
+    pub put-order : s ≡ 256 → (buffer last : List ℕ) → last ≡ putIn buffer 0 (take (k - 0) (drop 0 placed)) → last ≡ sayFinding buffer (findingOf h) .order
+    unfolding sayFinding putIn filled
     put-order n buffer last e =
         let same′ : k - 0 ≡ k = omega arith in
         e ∙ rw (took-order n, same′, zero-add (length (take k placed)))
 
     -- or the knot's length is said
-    pub said-knot : (s ≡ 256 → ⊥) → (buffer : List ℕ) (r : Verdict) → r ≡ sayVerdict buffer (knotted (turn (walk (edgesIn table) (leftOf left) 257 [] s))) .said → r ≡ sayVerdict buffer (verdictOf h) .said
-    said-knot n buffer r e = e ∙ ap (λ v. sayVerdict buffer v .said) (sym (took-knot n .1))
+    pub said-knot : (s ≡ 256 → ⊥) → (buffer : List ℕ) (r : Verdict) → r ≡ sayFinding buffer (knotted (turn (walk (edgesIn table) (leftOf left) 257 [] s))) .said → r ≡ sayFinding buffer (findingOf h) .said
+    said-knot n buffer r e = e ∙ ap (λ v. sayFinding buffer v .said) (sym (took-knot n .1))
 
     -- and its jobs fill the buffer
-    pub put-knot : (s ≡ 256 → ⊥) → (buffer last : List ℕ) → last ≡ sayVerdict buffer (knotted (turn (walk (edgesIn table) (leftOf left) 257 [] s))) .order → last ≡ sayVerdict buffer (verdictOf h) .order
-    put-knot n buffer last e = e ∙ ap (λ v. sayVerdict buffer v .order) (sym (took-knot n .1))
+    pub put-knot : (s ≡ 256 → ⊥) → (buffer last : List ℕ) → last ≡ sayFinding buffer (knotted (turn (walk (edgesIn table) (leftOf left) 257 [] s))) .order → last ≡ sayFinding buffer (findingOf h) .order
+    put-knot n buffer last e = e ∙ ap (λ v. sayFinding buffer v .order) (sym (took-knot n .1))
 
 -- the jobs taken have room in a buffer of 255 places
 pub order-room : (placed : List ℕ) (k m : ℕ) → k ≤ 255 → 255 ≤ m → 0 + length (take (k - 0) (drop 0 placed)) ≤ m

@@ -9,8 +9,8 @@ use Rattle.terms.specs.declared.refusals.Refusal.{Refusal}
 use Rattle.terms.specs.declared.refusals.Refusal.the-variants.{TooManyLines, JobOutside, ShortOrder}
 use Rattle.terms.specs.Limits.{judgedJobs, judgedLines}
 use Rattle.verdicts.specs.declared.verdict.Verdict.the-variants.{No}
-use Rattle.verdicts.specs.Judged.{verdictOf}
-use Rattle.verdicts.specs.Judgement.{Judgement, sayVerdict}
+use Rattle.verdicts.specs.Judged.{findingOf}
+use Rattle.verdicts.specs.Judgement.{Judgement, sayFinding}
 use Rattle.verdicts.specs.Arrays.{historyBy}
 
 -- of the m lines from p on the first whose job is 0, or the one after them
@@ -28,4 +28,4 @@ keptJudgement codes jobs cells buffer n =
     pick (ltb (length buffer) judgedJobs) (refusedAt buffer 0 ShortOrder)
     (pick (ltb judgedLines n) (refusedAt buffer (suc judgedLines) TooManyLines)
     (pick (ltb (namelessFrom jobs 0 n) n) (refusedAt buffer (suc (namelessFrom jobs 0 n)) JobOutside)
-    (sayVerdict buffer (verdictOf (historyBy codes jobs cells n)))))
+    (sayFinding buffer (findingOf (historyBy codes jobs cells n)))))

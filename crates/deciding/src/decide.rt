@@ -21,8 +21,8 @@ ghost use lib.ListN.{length, getD};
 ghost use Rattle.conflict.specs.Schedule.{edge};
 ghost use Rattle.conflict.specs.History.{committedPart};
 ghost use Rattle.verdicts.specs.Knot.{walk, turn};
-ghost use Rattle.verdicts.specs.Judged.{knotted, verdictOf};
-ghost use Rattle.verdicts.specs.Judgement.{sayVerdict};
+ghost use Rattle.verdicts.specs.Judged.{knotted, findingOf};
+ghost use Rattle.verdicts.specs.Judgement.{sayFinding};
 ghost use Rattle.verdicts.specs.Arrays.{historyBy};
 ghost use Rattle.deciding.specs.Lists.{tab};
 ghost use Rattle.deciding.specs.Counted.{hasCommit, ByteJobs};
@@ -56,8 +56,8 @@ fn knot<'a>(
     order: &mut [u8],
 ) -> Verdict
     requires { ⌜ (start < 256) × (length (turn (walk (edgesIn (now table)) (leftOf (now left)) 257 [] start)) ≤ length (now order)) ⌝ }
-    ensures { λ r. ⌜ r ≡ sayVerdict (now (order .entry)) (knotted (turn (walk (edgesIn (now (table .entry))) (leftOf (now (left .entry))) 257 [] start))) .said ⌝ }
-    ensures { λ r. ⌜ now (order .exit) ≡ sayVerdict (now (order .entry)) (knotted (turn (walk (edgesIn (now (table .entry))) (leftOf (now (left .entry))) 257 [] start))) .order ⌝ }
+    ensures { λ r. ⌜ r ≡ sayFinding (now (order .entry)) (knotted (turn (walk (edgesIn (now (table .entry))) (leftOf (now (left .entry))) 257 [] start))) .said ⌝ }
+    ensures { λ r. ⌜ now (order .exit) ≡ sayFinding (now (order .entry)) (knotted (turn (walk (edgesIn (now (table .entry))) (leftOf (now (left .entry))) 257 [] start))) .order ⌝ }
 {
     let mut trail = [0u8; 257];
     let round = walk_back(table, left, start, &mut trail);
@@ -77,8 +77,8 @@ pub fn decide<'a>(
 ) -> Verdict
     requires { ⌜ (n ≤ 4096) × (255 ≤ length (now order)) ⌝ }
     requires { ⌜ ((p : ℕ) → p < n → getD (now jobs) p 0 ≡ 0 → ⊥) ⌝ }
-    ensures { λ r. ⌜ r ≡ sayVerdict (now (order .entry)) (verdictOf (historyBy (now (codes .entry)) (now (jobs .entry)) (now (cells .entry)) n)) .said ⌝ }
-    ensures { λ r. ⌜ now (order .exit) ≡ sayVerdict (now (order .entry)) (verdictOf (historyBy (now (codes .entry)) (now (jobs .entry)) (now (cells .entry)) n)) .order ⌝ }
+    ensures { λ r. ⌜ r ≡ sayFinding (now (order .entry)) (findingOf (historyBy (now (codes .entry)) (now (jobs .entry)) (now (cells .entry)) n)) .said ⌝ }
+    ensures { λ r. ⌜ now (order .exit) ≡ sayFinding (now (order .entry)) (findingOf (historyBy (now (codes .entry)) (now (jobs .entry)) (now (cells .entry)) n)) .order ⌝ }
 {
     let done = committed_jobs(codes, jobs, n);
     let table = edges_of(codes, jobs, cells, &done, n);

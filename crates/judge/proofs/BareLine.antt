@@ -10,14 +10,10 @@ use lib.ListN.{length, getD, take, drop, length-drop}
 use lib.Seq.{getD-drop}
 use Rattle.laws.specs.Choice.{by-test}
 use Rattle.terms.specs.Words.{newline}
-use Rattle.formats.specs.Split.{used}
+use Rattle.formats.specs.Split.{used, part}
 use Rattle.formats.proofs.Cutting.{used-within, used-some}
 use Rattle.verdicts.specs.HistoryText.{bare}
 use Rattle.judge.specs.Scanned.{bareEnd}
-
--- the part of a text between two places
-abbrev pub part : List ℕ → ℕ → ℕ → List ℕ
-part text from to = take (to - from) (drop from text)
 
 -- with a byte in front the place is one further
 bare-further : (b : ℕ) (t : List ℕ) (n : ℕ) → 0 < n → bareEnd (b ∷ t) (suc n) ≡ suc (bareEnd t n)

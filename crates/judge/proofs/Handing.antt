@@ -1,27 +1,26 @@
 -- From what the scan tells and what is decided to the judgement: a short buffer, a faultless text, a faulty line.
 -- Assumes nothing.
-use Prim.Native.Nat.{ℕ, _+_, _-_, _≤_, _<_}
+use Prim.Native.Nat.{ℕ, _+_, _≤_, _<_}
 use mathlib.Core.Path.{_≡_, refl, sym, ap, _∙_, subst}
 use mathlib.Core.List.{List, []}
 use native.Mathlib.Omega.{arith}
 use borrow.Author.Tests.{lt-ltb, le-ltb}
-use lib.ListN.{length, take, drop, getD}
+use lib.ListN.{length, getD}
 use Rattle.terms.specs.declared.refusals.Refusal.{Refusal}
 use Rattle.terms.specs.declared.refusals.Refusal.the-variants.{ShortOrder}
 use Rattle.terms.specs.Limits.{judgedJobs, judgedLines}
-use Rattle.formats.specs.Split.{linesOf, joined}
+use Rattle.formats.specs.Split.{part, joined}
 use Rattle.verdicts.specs.declared.verdict.Verdict.{Verdict}
 use Rattle.verdicts.specs.declared.verdict.Verdict.the-variants.{No}
-use Rattle.verdicts.specs.Judged.{orderly, knotted, verdictOf}
-use Rattle.verdicts.specs.Judged as verdicts
+use Rattle.verdicts.specs.Judged.{Finding, orderly, knotted, findingOf}
 use Rattle.verdicts.specs.Arrays.{historyBy}
-use Rattle.verdicts.specs.HistoryText.{firstFaulty}
-use Rattle.verdicts.specs.Judgement.{sayVerdict, sayLines, judgementOf, lineFrom}
+use Rattle.verdicts.specs.HistoryText.{readingsOf, firstFaulty}
+use Rattle.verdicts.specs.Judgement.{sayFinding, sayLines, judgementOf, lineFrom}
 use Rattle.judge.specs.declared.scan.Scanned.{Scanned}
 use Rattle.judge.specs.declared.scan.Scanned.the-variants.{Faultless, Faulty}
 use Rattle.judge.specs.declared.entry.Judged.{Judged}
 use Rattle.judge.specs.Scanned.{Clean, Spoilt, ScannedAs}
-use Rattle.judge.specs.Judged.{Small, JudgedAs, bytesOn}
+use Rattle.judge.specs.Judged.{Small, JudgedAs, linePlace}
 use Rattle.judge.proofs.SmallNumbers.{judgement-small}
 
 -- a buffer that is too short is refused first
@@ -30,32 +29,32 @@ unfolding judgementOf
 short-judgement text buffer h = rw (lt-ltb (length buffer) judgedJobs h)
 
 -- for any other the lines decide
-lines-judgement : (text buffer : List ℕ) → judgedJobs ≤ length buffer → judgementOf text buffer ≡ sayLines buffer (linesOf text) (firstFaulty 1 [] (linesOf text))
+lines-judgement : (text buffer : List ℕ) → judgedJobs ≤ length buffer → judgementOf text buffer ≡ sayLines buffer text (firstFaulty 1 [] (readingsOf text))
 unfolding judgementOf
 lines-judgement text buffer h = rw (le-ltb (length buffer) judgedJobs h)
 
 -- a verdict hands back no line
-no-line : (buffer : List ℕ) (v : verdicts.Verdict) → sayVerdict buffer v .line ≡ []
-unfolding sayVerdict
+no-line : (buffer : List ℕ) (v : Finding) → sayFinding buffer v .line ≡ []
+unfolding sayFinding
 no-line buffer (orderly order) = refl
 no-line buffer (knotted js) = refl
 
 -- and its part is at the text's start
-no-start : (text buffer : List ℕ) (v : verdicts.Verdict) → 0 ≡ lineFrom text (sayVerdict buffer v .said)
-unfolding sayVerdict lineFrom
+no-start : (text buffer : List ℕ) (v : Finding) → 0 ≡ lineFrom text (sayFinding buffer v .said)
+unfolding sayFinding lineFrom
 no-start text buffer (orderly order) = refl
 no-start text buffer (knotted js) = refl
 
 -- a faultless text is judged by the history that is kept of it
 clean-judgement : (text codes jobs cells buffer : List ℕ) (n : ℕ) → judgedJobs ≤ length buffer → Clean text codes jobs cells n →
-    judgementOf text buffer ≡ sayVerdict buffer (verdictOf (historyBy codes jobs cells n))
+    judgementOf text buffer ≡ sayFinding buffer (findingOf (historyBy codes jobs cells n))
 unfolding sayLines
 clean-judgement text codes jobs cells buffer n h c =
     lines-judgement text buffer h ∙ rw (c .faultless, c .says)
 
 -- a faulty line is told with its number and refusal
 spoilt-judgement : (text buffer : List ℕ) (number : ℕ) (why : Refusal) (from to : ℕ) → judgedJobs ≤ length buffer → Spoilt text number why from to →
-    judgementOf text buffer ≡ record { said = No number why; order = buffer; line = take (to - from) (drop from text) }
+    judgementOf text buffer ≡ record { said = No number why; order = buffer; line = part text from to }
 unfolding sayLines
 spoilt-judgement text buffer number why from to h s =
     lines-judgement text buffer h ∙ rw (s .first, s .place)
@@ -86,7 +85,7 @@ module _ (text codes jobs cells : List ℕ) (x : Scanned) (s : ScannedAs text co
 module _ (text codes jobs cells buffer : List ℕ) (x : Scanned) (h : judgedJobs ≤ length buffer) (s : ScannedAs text codes jobs cells x) where
   -- the judge decides a faultless text
   pub judged-clean : (n : ℕ) (said : Verdict) (after : List ℕ) → x ≡ Faultless n →
-      said ≡ sayVerdict buffer (verdictOf (historyBy codes jobs cells n)) .said → after ≡ sayVerdict buffer (verdictOf (historyBy codes jobs cells n)) .order →
+      said ≡ sayFinding buffer (findingOf (historyBy codes jobs cells n)) .said → after ≡ sayFinding buffer (findingOf (historyBy codes jobs cells n)) .order →
       JudgedAs text buffer after (record { said = said; from = 0; to = 0 })
   judged-clean n said after e p q =
       let j = clean-judgement text codes jobs cells buffer n h (subst (ScannedAs text codes jobs cells) e s) in
@@ -95,8 +94,8 @@ module _ (text codes jobs cells buffer : List ℕ) (x : Scanned) (h : judgedJobs
         order-is = rw j q;
         ordered = omega arith;
         within = omega arith;
-        starts = no-start text buffer (verdictOf (historyBy codes jobs cells n)) ∙ ap (lineFrom text) (sym p);
-        place = rw j (sym (no-line buffer (verdictOf (historyBy codes jobs cells n))));
+        starts = no-start text buffer (findingOf (historyBy codes jobs cells n)) ∙ ap (lineFrom text) (sym p);
+        place = rw j (sym (no-line buffer (findingOf (historyBy codes jobs cells n))));
       }
 
   -- the judge finds a faulty line
@@ -121,7 +120,7 @@ judged-small text before after r j = subst Small (sym (j .said-is)) (judgement-s
 
 -- the part that is cut at the place found stands where the line handed back starts
 pub part-starts : (place : ℕ × ℕ) (text before after : List ℕ) (r : Judged) → JudgedAs text before after r →
-    (place .0, r .from + place .1) ≡ bytesOn place (lineFrom text (judgementOf text before .said))
+    (place .0, r .from + place .1) ≡ linePlace place text before
 part-starts place text before after r j =
     let e : r .from ≡ lineFrom text (judgementOf text before .said) = j .starts ∙ ap (lineFrom text) (j .said-is) in
     ap (λ (o : ℕ). (place .0, o)) (omega arith)

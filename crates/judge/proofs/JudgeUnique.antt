@@ -16,4 +16,4 @@ judge-text-unique κs a x y e f p q = (p .0 ∙ sym (q .0), p .1 ∙ sym (q .1))
 
 -- the line handed back with its place, what the order buffer then holds, and the answer
 pub judge-unique : UniquePart judgeK.ps judgeK.r judge.Post {A = (ℕ × ℕ) × List ℕ} (λ κs x. (ptr x, now x)) (λ κs e. now (e .1 .0)) (λ κs e. now (e .1 .1 .0))
-judge-unique κs a x y e f p q = (ap₂ (λ (s : ℕ × ℕ) (t : List ℕ). (s, t)) (p .1 ∙ sym (q .1)) (p .0 ∙ sym (q .0)), p .2 ∙ sym (q .2), p .3 ∙ sym (q .3))
+judge-unique κs a x y e f p q = (ap₂ (λ (s : ℕ × ℕ) (t : List ℕ). (s, t)) (p .1 .0 ∙ sym (q .1 .0)) (p .0 ∙ sym (q .0)), p .1 .1 .0 ∙ sym (q .1 .1 .0), p .1 .1 .1 ∙ sym (q .1 .1 .1))

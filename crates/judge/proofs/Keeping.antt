@@ -26,7 +26,7 @@ use Rattle.verdicts.specs.HistoryText.{endedAfter, eventOf}
 use Rattle.verdicts.specs.Arrays.{eventBy}
 use Rattle.judge.specs.declared.scan.Looked.the-variants.{Kept, Refused}
 use Rattle.judge.specs.Looked.{codeOf, endsJob, lookedGood, lookedRead, lookedAt}
-use Rattle.judge.specs.Scanned.{Flagged}
+use Rattle.judge.proofs.Flags.{Flagged}
 
 -- what is refused is not kept
 not-kept : {P : Type 0} {why : Refusal} {code job cell : ℕ} → Refused why ≡ Kept code job cell → P
@@ -132,7 +132,7 @@ read-kept n flags ended line code job cell Bad long a most g e = not-kept e
 
 -- a line that is kept says what is kept of it, and the flags say after it who has ended
 pub kept-as : (n : ℕ) (flags : List Bool) (ended line : List ℕ) (code job cell : ℕ) → length flags ≡ 256 → Flagged flags ended →
-    lookedAt n flags line ≡ Kept code job cell → KeptAs n flags ended line code job cell
+    lookedAt n flags (readLine ofHistories line) ≡ Kept code job cell → KeptAs n flags ended line code job cell
 unfolding lookedAt
 kept-as n flags ended line code job cell long a e =
     by-test (ltb judgedLines n) (λ t. not-kept (rw t at e))

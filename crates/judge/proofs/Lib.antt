@@ -1,3 +1,4 @@
+pub mod Flags
 pub mod Looking
 pub mod Keeping
 pub mod KeptArrays

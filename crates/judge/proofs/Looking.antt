@@ -22,7 +22,7 @@ use Rattle.verdicts.specs.HistoryText.{faultOfGood, faultOf, lineFault}
 use Rattle.judge.specs.declared.scan.Looked.{Looked}
 use Rattle.judge.specs.declared.scan.Looked.the-variants.{Kept, Refused}
 use Rattle.judge.specs.Looked.{lookedGood, lookedRead, lookedAt}
-use Rattle.judge.specs.Scanned.{Flagged}
+use Rattle.judge.proofs.Flags.{Flagged}
 
 -- a line that reads as good is looked at as a good line
 pub look-good : (flags : List Bool) (x y : Reading) (r : Looked) (l : Letter) (job cell : ℕ) → x ≡ y → x ≡ Good l job cell → r ≡ lookedGood flags l job cell → r ≡ lookedRead flags y
@@ -63,17 +63,17 @@ read-fault flags ended line (Good l job cell) e a = good-fault flags ended l job
 read-fault flags ended line Bad e a = refl
 
 -- line n is refused as the paper says
-line-fault : (n : ℕ) (flags : List Bool) (ended line : List ℕ) → Flagged flags ended → lineFault n ended line ≡ refusalOf (lookedAt n flags line)
+line-fault : (n : ℕ) (flags : List Bool) (ended line : List ℕ) → Flagged flags ended → lineFault n ended (readLine ofHistories line) ≡ refusalOf (lookedAt n flags (readLine ofHistories line))
 unfolding lineFault lookedAt refusalOf
 line-fault n flags ended line a =
     by-test (ltb judgedLines n) (λ t. rw t) (λ f. rw f (read-fault flags ended line (readLine ofHistories line) refl a))
 
 -- a line that is refused has that fault
-pub refused-fault : (n : ℕ) (flags : List Bool) (ended line : List ℕ) (why : Refusal) → Flagged flags ended → lookedAt n flags line ≡ Refused why → lineFault n ended line ≡ some why
+pub refused-fault : (n : ℕ) (flags : List Bool) (ended line : List ℕ) (why : Refusal) → Flagged flags ended → lookedAt n flags (readLine ofHistories line) ≡ Refused why → lineFault n ended (readLine ofHistories line) ≡ some why
 unfolding refusalOf
 refused-fault n flags ended line why a e = line-fault n flags ended line a ∙ ap refusalOf e
 
 -- a line that is kept has no fault
-pub kept-fault : (n : ℕ) (flags : List Bool) (ended line : List ℕ) (code job cell : ℕ) → Flagged flags ended → lookedAt n flags line ≡ Kept code job cell → lineFault n ended line ≡ none
+pub kept-fault : (n : ℕ) (flags : List Bool) (ended line : List ℕ) (code job cell : ℕ) → Flagged flags ended → lookedAt n flags (readLine ofHistories line) ≡ Kept code job cell → lineFault n ended (readLine ofHistories line) ≡ none
 unfolding refusalOf
 kept-fault n flags ended line code job cell a e = line-fault n flags ended line a ∙ ap refusalOf e

@@ -5,8 +5,9 @@ use mathlib.Core.Path.{_≡_, refl, sym, ap, _∙_}
 use mathlib.Core.List.{List, [], _∷_, _++_, append-assoc}
 use native.Mathlib.Omega.{arith}
 use lib.ListN.{length, take, drop, length-append}
-use lib.Seq.{take-append-seam}
+use lib.Seq.{take-append-seam, getD-at}
 use Rattle.formats.specs.Split.{linesOf, joined}
+use Rattle.verdicts.specs.HistoryText.{lineAt}
 use Rattle.verdicts.specs.LineTable.{linesBefore}
 use Rattle.verdicts.proofs.LineBack.{joined-append}
 
@@ -40,3 +41,7 @@ past-place text n from p =
     let k : n + 1 - 1 ≡ length (p .lines) = omega (arith, p .many) in
     let e : linesBefore (linesOf text) (n + 1) ≡ p .lines = rw (k, p .all) (take-append-seam (p .lines) (linesOf (drop from text))) in
     sym (p .long) ∙ ap (λ ls. length (joined ls)) (sym e)
+
+-- and the next line is the one that stands there
+pub past-line-at : (text : List ℕ) (n from to : ℕ) (l : List ℕ) → Past text n from → linesOf (drop from text) ≡ l ∷ linesOf (drop to text) → lineAt (linesOf text) (n + 1) ≡ l
+past-line-at text n from to l p e = rw (p .all, e) (getD-at (p .lines) l (linesOf (drop to text)) [] (n + 1 - 1) (omega (arith, p .many)))

@@ -14,18 +14,21 @@ use Rattle.terms.specs.declared.refusals.Refusal.{Refusal}
 use Rattle.terms.specs.Letters.{ofHistories}
 use Rattle.terms.specs.Limits.{judgedLines}
 use Rattle.conflict.specs.declared.action.Event.{Event}
+use Rattle.formats.specs.declared.Reading.{Reading}
 use Rattle.formats.specs.Lines.{readLine}
-use Rattle.formats.specs.Split.{linesOf, used}
+use Rattle.formats.specs.Split.{linesOf, used, part}
 use Rattle.formats.proofs.Cutting.{used-within, used-some}
-use Rattle.formats.proofs.TextLines.{lines-at}
-use Rattle.verdicts.specs.HistoryText.{lineFault, orLater, endedAfter, firstFaulty, eventOf, eventsIn}
+use Rattle.formats.proofs.TextLines.{next-line}
+use Rattle.verdicts.specs.HistoryText.{readingsOf, lineAt, lineFault, orLater, endedAfter, firstFaulty, eventOf, eventsIn, bare}
 use Rattle.verdicts.specs.Arrays.{eventBy, historyBy}
+use Rattle.verdicts.proofs.Readings.{readings-next}
 use Rattle.judge.specs.declared.scan.Looked.{Looked}
 use Rattle.judge.specs.declared.scan.Looked.the-variants.{Kept, Refused}
 use Rattle.judge.specs.Looked.{endsJob, lookedAt}
-use Rattle.judge.specs.Scanned.{bareEnd, Flagged, Clean, Spoilt}
-use Rattle.judge.proofs.BareLine.{part, bare-place}
-use Rattle.judge.proofs.PastLines.{Past, past-none, past-more, past-place}
+use Rattle.judge.specs.Scanned.{bareEnd, Clean, Spoilt}
+use Rattle.judge.proofs.BareLine.{bare-place}
+use Rattle.judge.proofs.PastLines.{Past, past-none, past-more, past-place, past-line-at}
+use Rattle.judge.proofs.Flags.{Flagged}
 use Rattle.judge.proofs.Looking.{refused-fault, kept-fault}
 use Rattle.judge.proofs.Keeping.{kept-as}
 use Rattle.judge.proofs.KeptArrays.{history-more, named-more}
@@ -37,8 +40,8 @@ pub record Scanning (text codes jobs cells : List ℕ) (flags : List Bool) (n fr
   pub all-flags : length flags ≡ 256
   pub ended : List ℕ
   pub flagged : Flagged flags ended
-  pub goes-on : firstFaulty (n + 1) ended (linesOf (drop from text)) ≡ firstFaulty 1 [] (linesOf text)
-  pub says : historyBy codes jobs cells n ++ eventsIn (linesOf (drop from text)) ≡ eventsIn (linesOf text)
+  pub goes-on : firstFaulty (n + 1) ended (readingsOf (drop from text)) ≡ firstFaulty 1 [] (readingsOf text)
+  pub says : historyBy codes jobs cells n ++ eventsIn (readingsOf (drop from text)) ≡ eventsIn (readingsOf text)
   pub named : (p : ℕ) → p < n → getD jobs p 0 ≡ 0 → ⊥
   pub past : Past text n from
 
@@ -60,20 +63,20 @@ scanning-starts text codes jobs cells h g k =
     }
 
 -- a line without a fault leaves the deciding to the lines after it
-past-line : (n : ℕ) (ended l : List ℕ) (ls : List (List ℕ)) → lineFault n ended l ≡ none →
-    firstFaulty (n + 1) (endedAfter ended (readLine ofHistories l)) ls ≡ firstFaulty n ended (l ∷ ls)
+past-line : (n : ℕ) (ended : List ℕ) (l : Reading) (ls : List Reading) → lineFault n ended l ≡ none →
+    firstFaulty (n + 1) (endedAfter ended l) ls ≡ firstFaulty n ended (l ∷ ls)
 unfolding firstFaulty orLater
 past-line n ended l ls e = rw (e, add-one)
 
 -- a line with a fault decides
-at-line : (n : ℕ) (ended l : List ℕ) (ls : List (List ℕ)) (why : Refusal) → lineFault n ended l ≡ some why →
-    firstFaulty n ended (l ∷ ls) ≡ some (record { number = n; why = why; bytes = l })
+at-line : (n : ℕ) (ended : List ℕ) (l : Reading) (ls : List Reading) (why : Refusal) → lineFault n ended l ≡ some why →
+    firstFaulty n ended (l ∷ ls) ≡ some (record { number = n; why = why })
 unfolding firstFaulty orLater
 at-line n ended l ls why e = rw e
 
 -- all lines are scanned
 pub scanning-done : (text codes jobs cells : List ℕ) (flags : List Bool) (n from : ℕ) → Scanning text codes jobs cells flags n from → length text ≤ from → Clean text codes jobs cells n
-unfolding linesOf firstFaulty eventsIn
+unfolding linesOf readingsOf firstFaulty eventsIn
 scanning-done text codes jobs cells flags n from s h =
     let e : drop from text ≡ [] = drop-of-length-le text h in
     record {
@@ -82,12 +85,6 @@ scanning-done text codes jobs cells flags n from s h =
       says = sym (append-nil (historyBy codes jobs cells n)) ∙ (rw e at (s .says));
       named = s .named;
     }
-
--- the lines from a place on are the next one and those after it
-next-line : (text : List ℕ) (from to : ℕ) → from < length text → to ≡ from + used (drop from text) → linesOf (drop from text) ≡ part text from to ∷ linesOf (drop to text)
-next-line text from to h e =
-    let u : to - from ≡ used (drop from text) = omega arith in
-    rw (u, e) (lines-at text from h)
 
 -- the next line ends within the text
 pub line-within : (text : List ℕ) (from to : ℕ) → from < length text → to ≡ from + used (drop from text) → to ≤ length text
@@ -109,17 +106,17 @@ line-long text from to h e =
     omega (arith, length-take-le (to - from) (drop from text) m)
 
 -- the next line says one event, and then the others say theirs
-next-event : (l : List ℕ) (ls : List (List ℕ)) (v : Event) → eventOf (readLine ofHistories l) ≡ v ∷ [] → eventsIn (l ∷ ls) ≡ v ∷ eventsIn ls
+next-event : (l : Reading) (ls : List Reading) (v : Event) → eventOf l ≡ v ∷ [] → eventsIn (l ∷ ls) ≡ v ∷ eventsIn ls
 unfolding eventsIn
 next-event l ls v q = rw q
 
 module _ (text codes jobs cells : List ℕ) (flags : List Bool) (n from to : ℕ) (s : Scanning text codes jobs cells flags n from)
     (h : from < length text) (e : to ≡ from + used (drop from text)) where
   -- a line is kept, and scanning goes on after it
-  pub scanning-kept : (x : Looked) (code job cell : ℕ) (b : Bool) → x ≡ lookedAt (n + 1) flags (part text from to) → x ≡ Kept code job cell → b ≡ endsJob code →
+  pub scanning-kept : (x : Looked) (code job cell : ℕ) (b : Bool) → x ≡ lookedAt (n + 1) flags (readLine ofHistories (part text from to)) → x ≡ Kept code job cell → b ≡ endsJob code →
       Scanning text (set codes n code) (set jobs n job) (set cells n cell) (set flags job b) (n + 1) to
   scanning-kept x code job cell b p g r =
-      let q : lookedAt (n + 1) flags (part text from to) ≡ Kept code job cell = sym p ∙ g in
+      let q : lookedAt (n + 1) flags (readLine ofHistories (part text from to)) ≡ Kept code job cell = sym p ∙ g in
       let k = kept-as (n + 1) flags (s .ended) (part text from to) code job cell (s .all-flags) (s .flagged) q in
       let f = kept-fault (n + 1) flags (s .ended) (part text from to) code job cell (s .flagged) q in
       let less : n < judgedLines = omega arith in
@@ -129,32 +126,31 @@ module _ (text codes jobs cells : List ℕ) (flags : List Bool) (n from to : ℕ
         all-flags = length-set flags job b ∙ s .all-flags;
         ended = endedAfter (s .ended) (readLine ofHistories (part text from to));
         flagged = rw r (k .flagged);
-        goes-on = past-line (n + 1) (s .ended) (part text from to) (linesOf (drop to text)) f ∙ rw (← next-line text from to h e) (s .goes-on);
+        goes-on = past-line (n + 1) (s .ended) (readLine ofHistories (part text from to)) (readingsOf (drop to text)) f ∙ rw (← readings-next text from to h e) (s .goes-on);
         says =
             rw (history-more codes jobs cells n code job cell (omega arith) (omega arith) (omega arith), append-assoc)
-            (ap (λ g. historyBy codes jobs cells n ++ g) (sym (next-event (part text from to) (linesOf (drop to text)) (eventBy code job cell) (k .event)))
-            ∙ rw (← next-line text from to h e) (s .says));
+            (ap (λ g. historyBy codes jobs cells n ++ g) (sym (next-event (readLine ofHistories (part text from to)) (readingsOf (drop to text)) (eventBy code job cell) (k .event)))
+            ∙ rw (← readings-next text from to h e) (s .says));
         named = named-more jobs n job (omega arith) (k .some-job) (s .named);
         past = past-more text n from to (part text from to) (s .past) (next-line text from to h e) (line-long text from to h e);
       }
 
   -- there is room for it
-  pub kept-within : (x : Looked) (code job cell : ℕ) → x ≡ lookedAt (n + 1) flags (part text from to) → x ≡ Kept code job cell → n < judgedLines
+  pub kept-within : (x : Looked) (code job cell : ℕ) → x ≡ lookedAt (n + 1) flags (readLine ofHistories (part text from to)) → x ≡ Kept code job cell → n < judgedLines
   kept-within x code job cell p g =
       let k = kept-as (n + 1) flags (s .ended) (part text from to) code job cell (s .all-flags) (s .flagged) (sym p ∙ g) in
       omega arith
 
   -- a line is refused, and it is the first faulty one
-  pub scanning-refused : (x : Looked) (why : Refusal) (bare-to : ℕ) → x ≡ lookedAt (n + 1) flags (part text from to) → x ≡ Refused why → bare-to ≡ bareEnd text to → Spoilt text (n + 1) why from bare-to
+  pub scanning-refused : (x : Looked) (why : Refusal) (bare-to : ℕ) → x ≡ lookedAt (n + 1) flags (readLine ofHistories (part text from to)) → x ≡ Refused why → bare-to ≡ bareEnd text to → Spoilt text (n + 1) why from bare-to
   scanning-refused x why bare-to q g r =
       let p = bare-place text from to h e in
       record {
-        line = part text from to;
         first =
-            sym (s .goes-on) ∙ rw (next-line text from to h e)
-            (at-line (n + 1) (s .ended) (part text from to) (linesOf (drop to text)) why (refused-fault (n + 1) flags (s .ended) (part text from to) why (s .flagged) (sym q ∙ g)));
+            sym (s .goes-on) ∙ rw (readings-next text from to h e)
+            (at-line (n + 1) (s .ended) (readLine ofHistories (part text from to)) (readingsOf (drop to text)) why (refused-fault (n + 1) flags (s .ended) (part text from to) why (s .flagged) (sym q ∙ g)));
         ordered = rw r (p .from-on);
         within = rw r (p .within);
-        place = rw r (p .place);
+        place = rw r (p .place) ∙ ap bare (sym (past-line-at text n from to (part text from to) (s .past) (next-line text from to h e)));
         behind = past-place text n from (s .past);
       }

@@ -14,12 +14,11 @@ use Rattle.terms.specs.Limits.{judgedJobs, judgedLines}
 use Rattle.conflict.specs.declared.action.Event.the-variants.{Does, Ends}
 use Rattle.conflict.specs.History.{History, isCommit, commitOrder}
 use Rattle.conflict.proofs.OneEvent.{order-none, order-does, order-ends}
-use Rattle.formats.specs.Split.{linesOf}
-use Rattle.verdicts.specs.Judged.{orderly, knotted, insert, sorted, jobsOf, verdictOf}
-use Rattle.verdicts.specs.HistoryText.{Faulty, firstFaulty, eventsIn}
-use Rattle.verdicts.specs.Judgement.{sayVerdict, sayLines, judgementOf}
+use Rattle.verdicts.specs.Judged.{orderly, knotted, insert, sorted, jobsOf, findingOf}
+use Rattle.verdicts.specs.HistoryText.{readingsOf, Faulty, firstFaulty, eventsIn}
+use Rattle.verdicts.specs.Judgement.{sayFinding, sayLines, judgementOf}
 use Rattle.verdicts.proofs.Walking.{no-more}
-use Rattle.verdicts.proofs.Deciding.{by-verdict}
+use Rattle.verdicts.proofs.Deciding.{by-finding}
 use Rattle.verdicts.proofs.Histories.{jobs-committed, order-once, order-names, knot-shows}
 use Rattle.judge.specs.Judged.{Small}
 use Rattle.judge.proofs.FewLines.{lines-few, number-few, events-few}
@@ -56,30 +55,31 @@ unfolding jobsOf
 jobs-few h = omega (arith, sorted-few (commitOrder h), commits-few h)
 
 -- an order is no longer than the history
-order-few : (h : History) (order : List ℕ) → verdictOf h ≡ orderly order → length order ≤ length h
+order-few : (h : History) (order : List ℕ) → findingOf h ≡ orderly order → length order ≤ length h
 order-few h order e =
     omega (arith, jobs-few h, no-more order (jobsOf h) (order-once h order e) (λ j m. jobs-committed h j ∙ sym (order-names h order e j) ∙ m))
 
 -- a knot is no longer than the history
-knot-few : (h : History) (js : List ℕ) → verdictOf h ≡ knotted js → length js ≤ length h
+knot-few : (h : History) (js : List ℕ) → findingOf h ≡ knotted js → length js ≤ length h
 knot-few h js e = let k = knot-shows h js e in omega (arith, jobs-few h, no-more js (jobsOf h) (k .once) (k .only))
 
 -- what is said of a short history has small numbers
-pub verdict-small : (buffer : List ℕ) (h : History) → length h ≤ judgedLines → Small (sayVerdict buffer (verdictOf h) .said)
-unfolding sayVerdict
+pub verdict-small : (buffer : List ℕ) (h : History) → length h ≤ judgedLines → Small (sayFinding buffer (findingOf h) .said)
+unfolding sayFinding
 verdict-small buffer h few =
-    by-verdict (verdictOf h)
+    by-finding (findingOf h)
     (λ order q. rw q (omega (arith, order-few h order q)))
     (λ js q. rw q (omega (arith, knot-few h js q)))
 
 -- and so has what is said of lines
-lines-small : (buffer : List ℕ) (ls : List (List ℕ)) (o : Option Faulty) → firstFaulty 1 [] ls ≡ o → Small (sayLines buffer ls o .said)
+lines-small : (buffer text : List ℕ) (o : Option Faulty) → firstFaulty 1 [] (readingsOf text) ≡ o → Small (sayLines buffer text o .said)
 unfolding sayLines
-lines-small buffer ls none e = verdict-small buffer (eventsIn ls) (omega (arith, events-few ls, lines-few 1 [] ls (omega arith) e))
-lines-small buffer ls (some f) e = omega (arith, number-few 1 [] ls f (omega arith) e)
+lines-small buffer text none e =
+    verdict-small buffer (eventsIn (readingsOf text)) (omega (arith, events-few (readingsOf text), lines-few 1 [] (readingsOf text) (omega arith) e))
+lines-small buffer text (some f) e = omega (arith, number-few 1 [] (readingsOf text) f (omega arith) e)
 
 -- every verdict of the judge has small numbers
 pub judgement-small : (text buffer : List ℕ) → Small (judgementOf text buffer .said)
 unfolding judgementOf
 judgement-small text buffer =
-    by-test (ltb (length buffer) judgedJobs) (λ t. rw t (omega arith)) (λ f. rw f (lines-small buffer (linesOf text) (firstFaulty 1 [] (linesOf text)) refl))
+    by-test (ltb (length buffer) judgedJobs) (λ t. rw t (omega arith)) (λ f. rw f (lines-small buffer text (firstFaulty 1 [] (readingsOf text)) refl))

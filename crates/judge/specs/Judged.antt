@@ -1,8 +1,9 @@
 -- What the judge finds before it is handed out: the judgement, with the place of the line handed back in the text (01, Lines).
-use Prim.Native.Nat.{ℕ, _+_, _-_, _^_, _≤_, _<_}
+use Prim.Native.Nat.{ℕ, _+_, _^_, _≤_, _<_}
 use mathlib.Core.Path.{_≡_}
 use mathlib.Core.List.{List}
-use lib.ListN.{length, take, drop}
+use lib.ListN.{length}
+use Rattle.formats.specs.Split.{part}
 use Rattle.verdicts.specs.declared.verdict.Verdict.{Verdict}
 use Rattle.verdicts.specs.declared.verdict.Verdict.the-variants.{Orderly, Knot, No}
 use Rattle.verdicts.specs.Judgement.{judgementOf, lineFrom}
@@ -21,8 +22,8 @@ pub record JudgedAs (text before after : List ℕ) (r : Judged) : Type 0 where
   pub ordered : r .from ≤ r .to
   pub within : r .to ≤ length text
   pub starts : r .from ≡ lineFrom text (r .said)
-  pub place : take (r .to - r .from) (drop (r .from) text) ≡ judgementOf text before .line
+  pub place : part text (r .from) (r .to) ≡ judgementOf text before .line
 
--- the place so many bytes on from a place in memory: the same block, and that much further in it; a lent text stands at the place of its first byte
-abbrev pub bytesOn : ℕ × ℕ → ℕ → ℕ × ℕ
-bytesOn place n = (place .0, place .1 + n)
+-- where in memory the part handed back starts, by the place of the lent text's first byte: in the same block, and as much further in it as the line stands in the text (01, Lines)
+abbrev pub linePlace : ℕ × ℕ → List ℕ → List ℕ → ℕ × ℕ
+linePlace place text buffer = (place .0, place .1 + lineFrom text (judgementOf text buffer .said))

@@ -9,11 +9,9 @@ use Rattle.terms.specs.declared.letters.Ask.the-variants.{Read, Write, Incremen
 use Rattle.terms.specs.declared.letters.Letter.{Letter}
 use Rattle.terms.specs.declared.letters.Letter.the-variants.{Begin, Commit, GiveUp, Retry, Back, Asks}
 use Rattle.terms.specs.declared.refusals.Refusal.the-variants.{BadLine, CellAbove, TooManyLines, JobOutside, Ended}
-use Rattle.terms.specs.Letters.{ofHistories}
 use Rattle.terms.specs.Limits.{cells, judgedJobs, judgedLines}
 use Rattle.formats.specs.declared.Reading.{Reading}
 use Rattle.formats.specs.declared.Reading.the-variants.{Good, Bad}
-use Rattle.formats.specs.Lines.{readLine}
 use Rattle.judge.specs.declared.scan.Looked.{Looked}
 use Rattle.judge.specs.declared.scan.Looked.the-variants.{Kept, Refused}
 
@@ -44,6 +42,6 @@ unfoldable pub lookedRead : List Bool → Reading → Looked
 lookedRead flags (Good l job cell) = lookedGood flags l job cell
 lookedRead flags Bad = Refused BadLine
 
--- line n
-unfoldable pub lookedAt : ℕ → List Bool → List ℕ → Looked
-lookedAt n flags line = pick (ltb judgedLines n) (Refused TooManyLines) (lookedRead flags (readLine ofHistories line))
+-- line n, as it reads
+unfoldable pub lookedAt : ℕ → List Bool → Reading → Looked
+lookedAt n flags r = pick (ltb judgedLines n) (Refused TooManyLines) (lookedRead flags r)

@@ -1,18 +1,16 @@
 -- What scanning a history text tells: its history as three arrays keep it, or its first faulty line (01, Refusals by number).
 use Prim.Native.Nat.{ℕ, _-_, _≤_, _<_}
 use mathlib.Core.Path.{_≡_}
-use mathlib.Core.Bool.{Bool, false}
 use mathlib.Core.List.{List, []}
 use mathlib.Core.Option.{none, some}
 use lib.Dec.{eqb}
-use lib.ListN.{length, getD, take, drop}
+use lib.ListN.{length, getD}
 use Rattle.laws.specs.Choice.{pick}
-use Rattle.laws.specs.Lists.{member}
 use Rattle.terms.specs.declared.refusals.Refusal.{Refusal}
 use Rattle.terms.specs.Words.{newline}
 use Rattle.terms.specs.Limits.{judgedLines}
-use Rattle.formats.specs.Split.{linesOf, joined}
-use Rattle.verdicts.specs.HistoryText.{firstFaulty, eventsIn, bare}
+use Rattle.formats.specs.Split.{linesOf, part, joined}
+use Rattle.verdicts.specs.HistoryText.{readingsOf, lineAt, firstFaulty, eventsIn, bare}
 use Rattle.verdicts.specs.LineTable.{linesBefore}
 use Rattle.verdicts.specs.Arrays.{historyBy}
 use Rattle.judge.specs.declared.scan.Scanned.{Scanned}
@@ -22,24 +20,19 @@ use Rattle.judge.specs.declared.scan.Scanned.the-variants.{Faultless, Fa
 unfoldable pub bareEnd : List ℕ → ℕ → ℕ
 bareEnd text to = pick (eqb (getD text (to - 1) 0) newline) (to - 1) to
 
--- the flags of jobs 0 to 255 say which have committed or given up
-abbrev pub Flagged : List Bool → List ℕ → Type 0
-Flagged flags ended = (j : ℕ) → j < 256 → getD flags j false ≡ member j ended
-
 -- no line is faulty, and the arrays keep what the lines say
 pub record Clean (text codes jobs cells : List ℕ) (n : ℕ) : Type 0 where
-  pub faultless : firstFaulty 1 [] (linesOf text) ≡ none
+  pub faultless : firstFaulty 1 [] (readingsOf text) ≡ none
   pub within : n ≤ judgedLines
-  pub says : historyBy codes jobs cells n ≡ eventsIn (linesOf text)
+  pub says : historyBy codes jobs cells n ≡ eventsIn (readingsOf text)
   pub named : (p : ℕ) → p < n → getD jobs p 0 ≡ 0 → ⊥
 
 -- the first faulty line, with its place in the text
 pub record Spoilt (text : List ℕ) (number : ℕ) (why : Refusal) (from to : ℕ) : Type 0 where
-  pub line : List ℕ
-  pub first : firstFaulty 1 [] (linesOf text) ≡ some (record { number = number; why = why; bytes = line })
+  pub first : firstFaulty 1 [] (readingsOf text) ≡ some (record { number = number; why = why })
   pub ordered : from ≤ to
   pub within : to ≤ length text
-  pub place : take (to - from) (drop from text) ≡ bare line
+  pub place : part text from to ≡ bare (lineAt (linesOf text) number)
   pub behind : from ≡ length (joined (linesBefore (linesOf text) number))
 
 -- what is told of a text, with the arrays beside it

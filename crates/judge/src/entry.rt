@@ -9,8 +9,8 @@ use terms::refusals::number_of;
 use verdicts::verdict::Verdict;
 ghost use mathlib.Core.Path.{_≡_};
 ghost use denote.Ref.{ptr};
-ghost use Rattle.verdicts.specs.Judgement.{judgementOf, lineFrom, inNumbers};
-ghost use Rattle.judge.specs.Judged.{Small, JudgedAs, bytesOn};
+ghost use Rattle.verdicts.specs.Judgement.{judgementOf, inNumbers};
+ghost use Rattle.judge.specs.Judged.{Small, JudgedAs, linePlace};
 
 // What is said, and where in the text the line handed back stands; at the text's start and empty where no line is.
 struct Judged {
@@ -72,7 +72,8 @@ fn in_numbers(said: Verdict) -> [u32; 3]
 
 // The verdict on a history text. The order or the knot fills the first places of the buffer, and the rest stay; after a refusal all stay.
 pub fn judge_text(text: &[u8], order: &mut [u8]) -> Verdict
-    ensures { λ r. ⌜ (r ≡ judgementOf (now (text .entry)) (now (order .entry)) .said) × (now (order .exit) ≡ judgementOf (now (text .entry)) (now (order .entry)) .order) ⌝ }
+    ensures said { λ r. ⌜ r ≡ judgementOf (now (text .entry)) (now (order .entry)) .said ⌝ }
+    ensures order { λ r. ⌜ now (order .exit) ≡ judgementOf (now (text .entry)) (now (order .entry)) .order ⌝ }
 {
     let found = judgement(text, order);
     found.said
@@ -80,7 +81,10 @@ pub fn judge_text(text: &[u8], order: &mut [u8]) -> Verdict
 
 // The same with the verdict in three numbers, and the faulty line handed back as it stands in the text, without its newline, behind the lines before it; an empty part at the text's start where none is faulty.
 pub fn judge<'a>(text: &'a [u8], order: &mut [u8], answer: &mut [u32; 3]) -> &'a [u8]
-    ensures { λ r. ⌜ (now r ≡ judgementOf (now (text .entry)) (now (order .entry)) .line) × (ptr r ≡ bytesOn (ptr (text .entry)) (lineFrom (now (text .entry)) (judgementOf (now (text .entry)) (now (order .entry)) .said))) × (now (order .exit) ≡ judgementOf (now (text .entry)) (now (order .entry)) .order) × (now (answer .exit) ≡ inNumbers (judgementOf (now (text .entry)) (now (order .entry)) .said)) ⌝ }
+    ensures line { λ r. ⌜ now r ≡ judgementOf (now (text .entry)) (now (order .entry)) .line ⌝ }
+    ensures place { λ r. ⌜ ptr r ≡ linePlace (ptr (text .entry)) (now (text .entry)) (now (order .entry)) ⌝ }
+    ensures order { λ r. ⌜ now (order .exit) ≡ judgementOf (now (text .entry)) (now (order .entry)) .order ⌝ }
+    ensures answer { λ r. ⌜ now (answer .exit) ≡ inNumbers (judgementOf (now (text .entry)) (now (order .entry)) .said) ⌝ }
 {
     let found = judgement(text, order);
     let said = found.said;

@@ -12,7 +12,9 @@ use text::reader::read_history;
 ghost use mathlib.Core.Path.{_≡_};
 ghost use Prim.Native.Nat.{_≤_, _<_};
 ghost use lib.ListN.{length};
+ghost use Rattle.terms.specs.Letters.{ofHistories};
 ghost use Rattle.terms.specs.Limits.{judgedLines};
+ghost use Rattle.formats.specs.Lines.{readLine};
 ghost use Rattle.judge.specs.Looked.{codeOf, endsJob, lookedGood, lookedAt};
 ghost use Rattle.judge.specs.Scanned.{bareEnd, ScannedAs};
 
@@ -83,7 +85,7 @@ fn look_good(ended: &[bool; 256], letter: Letter, job: u32, cell: u32) -> Looked
 
 // Line n of a history, given the jobs that have committed or given up: 11, then 9, then what a good line has.
 fn look(line: &[u8], n: usize, ended: &[bool; 256]) -> Looked
-    ensures { λ r. ⌜ r ≡ lookedAt n (now (ended .entry)) (now (line .entry)) ⌝ }
+    ensures { λ r. ⌜ r ≡ lookedAt n (now (ended .entry)) (readLine ofHistories (now (line .entry))) ⌝ }
 {
     if n > JUDGED_LINES {
         return Looked::Refused(Refusal::TooManyLines);

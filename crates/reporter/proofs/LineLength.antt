@@ -26,15 +26,14 @@ use Rattle.conflict.specs.History.{isCommit, marked}
 use Rattle.formats.specs.declared.Written.the-variants.{Next}
 use Rattle.formats.specs.Decimal.{decimal}
 use Rattle.formats.specs.Records.{fits, told, left}
-use Rattle.formats.specs.Split.{linesOf}
+use Rattle.formats.specs.declared.Reading.{Reading}
 use Rattle.formats.proofs.DigitLaws.{digits-at-most}
 use Rattle.text.proofs.WordLaws.{word-at-most-7}
 use Rattle.formats.proofs.WriterLaws.{told-next, left-text}
-use Rattle.verdicts.specs.Judged as judged
-use Rattle.verdicts.specs.Judged.{orderly, knotted}
-use Rattle.verdicts.specs.HistoryText.{Faulty, firstFaulty, eventsIn, Tells}
-use Rattle.verdicts.specs.Judgement.{filled, sayVerdict, sayLines, judgementOf}
-use Rattle.verdicts.proofs.Deciding.{by-verdict}
+use Rattle.verdicts.specs.Judged.{orderly, knotted, findingOf}
+use Rattle.verdicts.specs.HistoryText.{readingsOf, Faulty, firstFaulty, eventsIn, Tells}
+use Rattle.verdicts.specs.Judgement.{filled, sayFinding, sayLines, judgementOf}
+use Rattle.verdicts.proofs.Deciding.{by-finding}
 use Rattle.verdicts.proofs.FewJobs.{at-most-255, committed-within}
 use Rattle.verdicts.proofs.Histories.{jobs-committed, order-once, order-names, knot-shows}
 use Rattle.verdicts.proofs.LineFaults.{finds-fault}
@@ -72,41 +71,41 @@ filled-first : (js buffer : List ℕ) → take (length js) (filled js buffer) �
 unfolding filled
 filled-first js buffer = take-append-seam js (drop (length js) buffer)
 
-module _ (ls : List (List ℕ)) (e : firstFaulty 1 [] ls ≡ none) (buffer : List ℕ) where
+module _ (ls : List Reading) (e : firstFaulty 1 [] ls ≡ none) (buffer : List ℕ) where
   -- a job with a c is 1 to 255
   within : (j : ℕ) → marked isCommit j (eventsIn ls) ≡ true → (1 ≤ j) × (j ≤ 255)
   within = committed-within ls (subst (Tells ls) e (finds-fault ls))
 
   -- the line of an order
-  order-at-most : (order : List ℕ) → judged.verdictOf (eventsIn ls) ≡ orderly order → length (wordLine word.the-variants.Orderly order) ≤ lineLimit
+  order-at-most : (order : List ℕ) → findingOf (eventsIn ls) ≡ orderly order → length (wordLine word.the-variants.Orderly order) ≤ lineLimit
   order-at-most order v =
       jobs-at-most word.the-variants.Orderly order (order-once (eventsIn ls) order v) (λ j m. within j (sym (order-names (eventsIn ls) order v j) ∙ m))
 
   -- the line of a knot
-  knot-at-most : (js : List ℕ) → judged.verdictOf (eventsIn ls) ≡ knotted js → length (wordLine word.the-variants.Knot js) ≤ lineLimit
+  knot-at-most : (js : List ℕ) → findingOf (eventsIn ls) ≡ knotted js → length (wordLine word.the-variants.Knot js) ≤ lineLimit
   knot-at-most js v =
       let k = knot-shows (eventsIn ls) js v in
       jobs-at-most word.the-variants.Knot js (k .once) (λ j m. within j (sym (jobs-committed (eventsIn ls) j) ∙ k .only j m))
 
   -- the line of a verdict on faultless lines
-  said-at-most : let j = sayVerdict buffer (judged.verdictOf (eventsIn ls)) in length (sayLine (j .said) (j .order)) ≤ lineLimit
-  unfolding sayVerdict sayLine
+  said-at-most : let j = sayFinding buffer (findingOf (eventsIn ls)) in length (sayLine (j .said) (j .order)) ≤ lineLimit
+  unfolding sayFinding sayLine
   said-at-most =
-      by-verdict (judged.verdictOf (eventsIn ls))
+      by-finding (findingOf (eventsIn ls))
       (λ order v. rw v (rw filled-first (order-at-most order v)))
       (λ js v. rw v (rw filled-first (knot-at-most js v)))
 
 -- the line on any lines
-lines-at-most : (buffer : List ℕ) (ls : List (List ℕ)) (o : Option Faulty) → firstFaulty 1 [] ls ≡ o → let j = sayLines buffer ls o in length (sayLine (j .said) (j .order)) ≤ lineLimit
+lines-at-most : (buffer text : List ℕ) (o : Option Faulty) → firstFaulty 1 [] (readingsOf text) ≡ o → let j = sayLines buffer text o in length (sayLine (j .said) (j .order)) ≤ lineLimit
 unfolding sayLines sayLine
-lines-at-most buffer ls none e = said-at-most ls e buffer
-lines-at-most buffer ls (some f) e = no-at-most (f .number) (f .why) (number-few 1 [] ls f (omega arith) e)
+lines-at-most buffer text none e = said-at-most (readingsOf text) e buffer
+lines-at-most buffer text (some f) e = no-at-most (f .number) (f .why) (number-few 1 [] (readingsOf text) f (omega arith) e)
 
 -- the line on a text of any length, with an order buffer that is long enough
 buffer-at-most : (text buffer : List ℕ) → judgedJobs ≤ length buffer →
     length (sayLine (judgementOf text buffer .said) (judgementOf text buffer .order)) ≤ lineLimit
 unfolding judgementOf
-buffer-at-most text buffer h = rw (le-ltb (length buffer) judgedJobs h) (lines-at-most buffer (linesOf text) (firstFaulty 1 [] (linesOf text)) refl)
+buffer-at-most text buffer h = rw (le-ltb (length buffer) judgedJobs h) (lines-at-most buffer text (firstFaulty 1 [] (readingsOf text)) refl)
 
 -- so is that of the verdict program's buffer
 pub judged-at-most : (text : List ℕ) → length (judgedLine text) ≤ lineLimit

@@ -20,7 +20,7 @@ use Rattle.rules.specs.Step.{Started}
 use Rattle.rules.proofs.Serial.{committed-jobs-serializable}
 use Rattle.verdicts.specs.declared.verdict.Verdict.{Verdict}
 use Rattle.verdicts.specs.declared.verdict.Verdict.the-variants.{Orderly, Knot, No}
-use Rattle.verdicts.specs.HistoryText.{eventsIn}
+use Rattle.verdicts.specs.HistoryText.{readingsOf, eventsIn}
 use Rattle.verdicts.specs.Judged.{jobsOf}
 use Rattle.verdicts.specs.Judgement.{judgementOf}
 use Rattle.verdicts.specs.Meant.{SmallestFirst}
@@ -63,16 +63,16 @@ module _ (text : List ℕ) where
   started = history-started text .1
 
   -- THE HISTORY IS READ BACK: no line that `history` writes is a bad line, has a cell above 63, or is for a job that has committed or given up before it
-  pub history-read-back : AllReadBack (linesOf (historyOf text))
-  history-read-back = subst (λ t. AllReadBack (linesOf t)) (sym (history-is text)) (started-read-back started)
+  pub history-read-back : AllReadBack (readingsOf (historyOf text))
+  history-read-back = subst (λ t. AllReadBack (readingsOf t)) (sym (history-is text)) (started-read-back started)
 
   -- and its lines say what the desk did
-  pub history-says : eventsIn (linesOf (historyOf text)) ≡ historyOn text
-  history-says = ap (λ t. eventsIn (linesOf t)) (history-is text) ∙ started-says started
+  pub history-says : eventsIn (readingsOf (historyOf text)) ≡ historyOn text
+  history-says = ap (λ t. eventsIn (readingsOf t)) (history-is text) ∙ started-says started
 
   -- so the first faulty line of it, if there is one, is line 4,097 or is for a job outside 1 to 255
-  pub history-fault : (n : ℕ) (why : Refusal) → FirstFault (linesOf (historyOf text)) n why → (why ≡ TooManyLines) ⊎ (why ≡ JobOutside)
-  history-fault n why f = only-limits (linesOf (historyOf text)) history-read-back n why f
+  pub history-fault : (n : ℕ) (why : Refusal) → FirstFault (readingsOf (historyOf text)) n why → (why ≡ TooManyLines) ⊎ (why ≡ JobOutside)
+  history-fault n why f = only-limits (readingsOf (historyOf text)) history-read-back n why f
 
   -- and where the order buffer has its 255 places, the judge has no other refusal for it
   pub history-refused : (buffer : List ℕ) → judgedJobs ≤ length buffer → (n : ℕ) (why : Refusal) → judgementOf (historyOf text) buffer .said ≡ No n why → (why ≡ TooManyLines) ⊎ (why ≡ JobOutside)
@@ -97,8 +97,8 @@ module _ (text : List ℕ) where
 
   module _ (limits : KeepsLimits (historyOn text)) where
     -- within the judge's limits no line of it is faulty
-    pub history-faultless : AllFaultless (linesOf (historyOf text))
-    history-faultless = subst (λ t. AllFaultless (linesOf t)) (sym (history-is text)) (started-faultless started limits)
+    pub history-faultless : AllFaultless (readingsOf (historyOf text))
+    history-faultless = subst (λ t. AllFaultless (readingsOf t)) (sym (history-is text)) (started-faultless started limits)
 
     -- THE HISTORY IS ORDERLY: the judge says so, with the number of committed jobs
     pub history-orderly : (buffer : List ℕ) → judgedJobs ≤ length buffer → judgementOf (historyOf text) buffer .said ≡ Orderly (length (commitOrder (historyOn text)))

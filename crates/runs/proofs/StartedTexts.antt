@@ -15,14 +15,13 @@ use Rattle.laws.proofs.Parts.{and-both, or-first, or-second}
 use Rattle.laws.proofs.Lists.{same-refl}
 use Rattle.conflict.proofs.Marks.{listed}
 use Rattle.conflict.proofs.OneEvent.{line-does, line-ends}
-use Rattle.formats.specs.Split.{linesOf}
 use Rattle.rules.specs.Desk.{Desk, In, first, later}
 use Rattle.rules.specs.Step.{Started}
 use Rattle.rules.proofs.NoEventAfterEnd.{no-event-after-end}
 use Rattle.rules.proofs.RecordLimits.{recorded-jobs, recorded-cells}
 use Rattle.rules.proofs.Serial.{commits-once, committed-jobs-serializable}
 use Rattle.verdicts.specs.declared.verdict.Verdict.the-variants.{Orderly}
-use Rattle.verdicts.specs.HistoryText.{eventsIn}
+use Rattle.verdicts.specs.HistoryText.{readingsOf, eventsIn}
 use Rattle.verdicts.specs.Judgement.{judgementOf}
 use Rattle.verdicts.specs.LineTable.{AllReadBack, AllFaultless}
 use Rattle.verdicts.specs.Answers.{InOrder}
@@ -56,11 +55,11 @@ module _ {d : Desk} {h : History} (s : Started d h) where
   started-within = all-within lastNumber h (recorded-jobs s) (recorded-cells s)
 
   -- so every line of its text is read back
-  pub started-read-back : AllReadBack (linesOf (textOf h))
+  pub started-read-back : AllReadBack (readingsOf (textOf h))
   started-read-back = written-read-back h started-within (no-event-after-end s)
 
   -- and the lines say what the desk has written
-  pub started-says : eventsIn (linesOf (textOf h)) ≡ h
+  pub started-says : eventsIn (readingsOf (textOf h)) ≡ h
   started-says = written-says h started-within
 
   module _ (k : KeepsLimits h) where
@@ -73,7 +72,7 @@ module _ {d : Desk} {h : History} (s : Started d h) where
     started-fits = written-fits h judged-within (k .events)
 
     -- no line of it is faulty
-    pub started-faultless : AllFaultless (linesOf (textOf h))
+    pub started-faultless : AllFaultless (readingsOf (textOf h))
     started-faultless = written-faultless h judged-within (no-event-after-end s) (k .events)
 
     module _ (buffer : List ℕ) (room : judgedJobs ≤ length buffer) where

@@ -13,16 +13,15 @@ use Rattle.laws.specs.Choice.{by-test}
 use Rattle.terms.specs.Limits.{judgedJobs}
 use Rattle.conflict.specs.Schedule.{edge}
 use Rattle.conflict.specs.History.{History, committedPart}
-use Rattle.formats.specs.Split.{linesOf}
-use Rattle.verdicts.specs.Judged.{Verdict, orderly, knotted, jobsOf, verdictOf}
+use Rattle.verdicts.specs.Judged.{Finding, orderly, knotted, jobsOf, findingOf}
 use Rattle.verdicts.specs.Meant.{Knotted, Says}
 use Rattle.verdicts.specs.Meant.Says.{says-order, says-cycle}
-use Rattle.verdicts.specs.HistoryText.{Faulty, firstFaulty, eventsIn, bare, Tells}
-use Rattle.verdicts.specs.Judgement.{filled, sayVerdict, sayLines, judgementOf}
+use Rattle.verdicts.specs.HistoryText.{readingsOf, Faulty, firstFaulty, eventsIn, Tells}
+use Rattle.verdicts.specs.Judgement.{filled, sayFinding, sayLines, judgementOf}
 use Rattle.verdicts.specs.LineTable.{AllFaultless}
-use Rattle.verdicts.specs.Answers.{Stands, Fills, InOrder, InKnot, Answers}
+use Rattle.verdicts.specs.Answers.{Fills, InOrder, InKnot, Answers}
 use Rattle.verdicts.specs.Answers.Answers.{short, faulty, in-order, in-knot}
-use Rattle.verdicts.proofs.Histories.{jobs-committed, order-serial, order-once, order-names, order-smallest, knot-shows, verdict-exactly}
+use Rattle.verdicts.proofs.Histories.{jobs-committed, order-serial, order-once, order-names, order-smallest, knot-shows, finding-exactly}
 use Rattle.verdicts.proofs.LineFaults.{finds-fault}
 use Rattle.verdicts.proofs.LineBack.{bare-stands}
 use Rattle.verdicts.proofs.FewJobs.{at-most-255, committed-within}
@@ -37,12 +36,12 @@ fills jobs buffer h =
       size = omega (arith, length-append jobs (drop (length jobs) buffer), length-drop (length jobs) buffer);
     }
 
-module _ (text buffer : List ℕ) (room : judgedJobs ≤ length buffer) (all : AllFaultless (linesOf text)) where
+module _ (text buffer : List ℕ) (room : judgedJobs ≤ length buffer) (all : AllFaultless (readingsOf text)) where
   -- an order said of a faultless text is the paper's, and has at most 255 jobs
-  order-told : (order : List ℕ) → verdictOf (eventsIn (linesOf text)) ≡ orderly order → InOrder (eventsIn (linesOf text)) buffer (filled order buffer) (length order)
+  order-told : (order : List ℕ) → findingOf (eventsIn (readingsOf text)) ≡ orderly order → InOrder (eventsIn (readingsOf text)) buffer (filled order buffer) (length order)
   order-told order v =
-      let h : History = eventsIn (linesOf text) in
-      let few : length order ≤ judgedJobs = at-most-255 order (order-once h order v) (λ j m. committed-within (linesOf text) all j (sym (order-names h order v j) ∙ m)) in
+      let h : History = eventsIn (readingsOf text) in
+      let few : length order ≤ judgedJobs = at-most-255 order (order-once h order v) (λ j m. committed-within (readingsOf text) all j (sym (order-names h order v j) ∙ m)) in
       record {
         order = order;
         fills = fills order buffer (omega arith);
@@ -55,14 +54,14 @@ module _ (text buffer : List ℕ) (room : judgedJobs ≤ length buffer) (all : A
       }
 
   -- a knot is the paper's where it says so, and has at most 255 jobs
-  knot-by : (js : List ℕ) → verdictOf (eventsIn (linesOf text)) ≡ knotted js → {w : Verdict} → Says (edge (committedPart (eventsIn (linesOf text)))) (jobsOf (eventsIn (linesOf text))) w → w ≡ knotted js →
-      InKnot (eventsIn (linesOf text)) buffer (filled js buffer) (length js)
+  knot-by : (js : List ℕ) → findingOf (eventsIn (readingsOf text)) ≡ knotted js → {w : Finding} → Says (edge (committedPart (eventsIn (readingsOf text)))) (jobsOf (eventsIn (readingsOf text))) w → w ≡ knotted js →
+      InKnot (eventsIn (readingsOf text)) buffer (filled js buffer) (length js)
   knot-by js v (says-order o) q = let z : _≡_ {A = ℕ} 0 1 = cc in absurd (omega arith)
   knot-by js v (says-cycle {taken = taken} {rest = rest} {js = ks} t s) q =
-      let h : History = eventsIn (linesOf text) in
+      let h : History = eventsIn (readingsOf text) in
       let k : Knotted (edge (committedPart h)) (jobsOf h) js = knot-shows h js v in
       let same-list : ks ≡ js = cc in
-      let few : length js ≤ judgedJobs = at-most-255 js (k .once) (λ j m. committed-within (linesOf text) all j (sym (jobs-committed h j) ∙ k .only j m)) in
+      let few : length js ≤ judgedJobs = at-most-255 js (k .once) (λ j m. committed-within (readingsOf text) all j (sym (jobs-committed h j) ∙ k .only j m)) in
       record {
         knot = js;
         fills = fills js buffer (omega arith);
@@ -76,17 +75,17 @@ module _ (text buffer : List ℕ) (room : judgedJobs ≤ length buffer) (all : A
       }
 
   -- so a verdict on a faultless text is one of the paper's answers
-  told : (v : Verdict) → verdictOf (eventsIn (linesOf text)) ≡ v → Answers text buffer (sayVerdict buffer v)
-  unfolding sayVerdict
+  told : (v : Finding) → findingOf (eventsIn (readingsOf text)) ≡ v → Answers text buffer (sayFinding buffer v)
+  unfolding sayFinding
   told (orderly order) e = in-order room all (order-told order e)
-  told (knotted js) e = in-knot room all (knot-by js e (verdict-exactly (eventsIn (linesOf text)) (knotted js) .1 e) refl)
+  told (knotted js) e = in-knot room all (knot-by js e (finding-exactly (eventsIn (readingsOf text)) (knotted js) .1 e) refl)
 
 -- what is said of the lines is one of the paper's answers
-lines-told : (text buffer : List ℕ) → judgedJobs ≤ length buffer → (o : Option Faulty) → Tells (linesOf text) o → Answers text buffer (sayLines buffer (linesOf text) o)
+lines-told : (text buffer : List ℕ) → judgedJobs ≤ length buffer → (o : Option Faulty) → Tells (readingsOf text) o → Answers text buffer (sayLines buffer text o)
 unfolding sayLines
-lines-told text buffer room none t = told text buffer room t (verdictOf (eventsIn (linesOf text))) refl
+lines-told text buffer room none t = told text buffer room t (findingOf (eventsIn (readingsOf text))) refl
 lines-told text buffer room (some f) t =
-    faulty room (t .0) (subst (λ l. Stands text (f .number) (bare l)) (sym (t .1)) (bare-stands text (f .number) (t .0 .from) (t .0 .to)))
+    faulty room t (bare-stands text (f .number) (t .from) (t .to))
 
 -- the judge's answer is one of the paper's
 pub answers : (text buffer : List ℕ) → Answers text buffer (judgementOf text buffer)
@@ -94,4 +93,4 @@ unfolding judgementOf
 answers text buffer =
     by-test (ltb (length buffer) judgedJobs)
     (λ t. rw t (short (ltb-true (length buffer) judgedJobs t)))
-    (λ f. rw f (lines-told text buffer (ltb-false (length buffer) judgedJobs f) (firstFaulty 1 [] (linesOf text)) (finds-fault (linesOf text))))
+    (λ f. rw f (lines-told text buffer (ltb-false (length buffer) judgedJobs f) (firstFaulty 1 [] (readingsOf text)) (finds-fault (readingsOf text))))

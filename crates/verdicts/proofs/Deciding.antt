@@ -12,22 +12,22 @@ use Rattle.conflict.proofs.Forward.{forward, forward-serializable}
 use Rattle.conflict.proofs.Backward.{refuted}
 use Rattle.conflict.proofs.CommittedJobs.{names-wider}
 use Rattle.verdicts.specs.Order.{ascending}
-use Rattle.verdicts.specs.Judged.{Verdict, orderly, knotted, isOrderly, judged}
+use Rattle.verdicts.specs.Judged.{Finding, orderly, knotted, isOrderly, judged}
 use Rattle.verdicts.specs.Meant.{Orderly}
 use Rattle.verdicts.proofs.Judging.{says-orderly, says-knot}
 
 -- a proof by the two verdicts
-pub by-verdict : {P : Type 0} (v : Verdict) → ((order : List ℕ) → v ≡ orderly order → P) → ((js : List ℕ) → v ≡ knotted js → P) → P
-by-verdict (orderly order) one′ two′ = one′ order refl
-by-verdict (knotted js) one′ two′ = two′ js refl
+pub by-finding : {P : Type 0} (v : Finding) → ((order : List ℕ) → v ≡ orderly order → P) → ((js : List ℕ) → v ≡ knotted js → P) → P
+by-finding (orderly order) one′ two′ = one′ order refl
+by-finding (knotted js) one′ two′ = two′ js refl
 
 -- an orderly verdict is orderly
-pub orderly-is : {v : Verdict} (order : List ℕ) → v ≡ orderly order → isOrderly v ≡ true
+pub orderly-is : {v : Finding} (order : List ℕ) → v ≡ orderly order → isOrderly v ≡ true
 unfolding isOrderly
 orderly-is order h = ap isOrderly h
 
 -- a knot is not
-pub knotted-is : {v : Verdict} (js : List ℕ) → v ≡ knotted js → isOrderly v ≡ false
+pub knotted-is : {v : Finding} (js : List ℕ) → v ≡ knotted js → isOrderly v ≡ false
 unfolding isOrderly
 knotted-is js h = ap isOrderly h
 
@@ -54,6 +54,6 @@ module _ (s : Schedule) (jobs : List ℕ) (all : names jobs s ≡ true) where
     -- orderly is said exactly where the schedule is conflict-serializable
     pub decides : (isOrderly (judged (edge s) jobs) ≡ true) ↔ ConflictSerializable s
     decides = (
-      λ t. by-verdict (judged (edge s) jobs) (λ order h. forward-serializable order s (said-forward order h)) (λ js h. not-both t (knotted-is js h)),
-      λ c. by-verdict (judged (edge s) jobs) (λ order h. orderly-is order h) (λ js h. absurd (knot-refutes js h c)),
+      λ t. by-finding (judged (edge s) jobs) (λ order h. forward-serializable order s (said-forward order h)) (λ js h. not-both t (knotted-is js h)),
+      λ c. by-finding (judged (edge s) jobs) (λ order h. orderly-is order h) (λ js h. absurd (knot-refutes js h c)),
     )

@@ -12,7 +12,7 @@ use Rattle.conflict.specs.Schedule.{agree, conflicts, keep, touches, edge}
 use Rattle.conflict.specs.History.{History, isCommit, isBack, marked, partOf, committedPart, commitOrder}
 use Rattle.verdicts.specs.Order.{preceded, first, ready, without, ends, leads, taken, orderOf, stuck}
 use Rattle.verdicts.specs.Knot.{predecessor, upTo, from, walk, least, turnTo, turn, knotIn}
-use Rattle.verdicts.specs.Judged.{Verdict, orderly, knotted, verdictBy, judged, insert, sorted, jobsOf, verdictOf}
+use Rattle.verdicts.specs.Judged.{Finding, orderly, knotted, findingBy, judged, insert, sorted, jobsOf, findingOf}
 
 -- cell A of the papers is 0
 abbrev A : ℕ
@@ -57,7 +57,7 @@ three-round = w 3 0 ∷ w 5 0 ∷ w 5 1 ∷ w 2 1 ∷ w 2 2 ∷ w 3 2 ∷ c 5 �
 -- a history and the verdict on it
 pub record Sample : Type 0 where
   pub history : History
-  pub verdict : Verdict
+  pub verdict : Finding
 
 -- the samples
 abbrev pub samples : List Sample
@@ -69,6 +69,6 @@ samples =
     ∷ []
 
 -- each is judged so
-pub tried : map (λ s. verdictOf (s .history)) samples ≡ map (λ s. s .verdict) samples
-unfolding member agree conflicts keep touches edge isCommit isBack marked partOf committedPart put commitOrder preceded first ready without ends leads taken orderOf stuck predecessor upTo from walk least turnTo turn knotIn verdictBy judged insert sorted jobsOf verdictOf
+pub tried : map (λ s. findingOf (s .history)) samples ≡ map (λ s. s .verdict) samples
+unfolding member agree conflicts keep touches edge isCommit isBack marked partOf committedPart put commitOrder preceded first ready without ends leads taken orderOf stuck predecessor upTo from walk least turnTo turn knotIn findingBy judged insert sorted jobsOf findingOf
 tried = refl

@@ -16,7 +16,6 @@ use Rattle.laws.proofs.Parts.{and-first, and-second, or-either}
 use Rattle.terms.specs.declared.letters.Letter.the-variants.{Begin, Commit, GiveUp, Retry, Back, Asks}
 use Rattle.terms.specs.declared.refusals.Refusal.{Refusal}
 use Rattle.terms.specs.declared.refusals.Refusal.the-variants.{BadLine, CellAbove, TooManyLines, JobOutside, Ended}
-use Rattle.terms.specs.Letters.{ofHistories}
 use Rattle.terms.specs.Limits.{judgedJobs}
 use Rattle.conflict.specs.declared.action.Mark.{Mark}
 use Rattle.conflict.specs.declared.action.Mark.the-variants.{Commit as commits, GiveUp as gives-up, Back as goes-back}
@@ -25,9 +24,8 @@ use Rattle.conflict.specs.History.{History, isCommit, marked}
 use Rattle.conflict.proofs.OneEvent.{marked-none, marked-does, marked-ends}
 use Rattle.formats.specs.declared.Reading.{Reading}
 use Rattle.formats.specs.declared.Reading.the-variants.{Good, Bad}
-use Rattle.formats.specs.Lines.{readLine}
 use Rattle.verdicts.specs.HistoryText.{eventOf, eventsIn}
-use Rattle.verdicts.specs.LineTable.{tooMany, isBad, outside, above, overAlready, holds, order, firstOf, tableSays, lineAt, linesBefore, AllFaultless}
+use Rattle.verdicts.specs.LineTable.{tooMany, isBad, outside, above, overAlready, holds, order, firstOf, tableSays, readingAt, linesBefore, AllFaultless}
 use Rattle.verdicts.proofs.Walking.{no-more}
 
 -- the numbers from n down to 1
@@ -59,7 +57,7 @@ pick-none true x rest e = let z : _≡_ {A = ℕ} 0 1 = cc in absurd (omega arit
 pick-none false x rest e = (refl, e)
 
 -- no row holds of a faultless line
-pub record Clean (n : ℕ) (before : List (List ℕ)) (r : Reading) : Type 0 where
+pub record Clean (n : ℕ) (before : List Reading) (r : Reading) : Type 0 where
   pub few : tooMany n ≡ false
   pub good : isBad r ≡ false
   pub inside : outside r ≡ false
@@ -67,10 +65,9 @@ pub record Clean (n : ℕ) (before : List (List ℕ)) (r : Reading) : Type 0 whe
   pub open′ : overAlready before r ≡ false
 
 -- where the table says nothing, each row by itself does not hold
-pub clean-line : (n : ℕ) (before : List (List ℕ)) (line : List ℕ) → tableSays n before line ≡ none → Clean n before (readLine ofHistories line)
+pub clean-line : (n : ℕ) (before : List Reading) (r : Reading) → tableSays n before r ≡ none → Clean n before r
 unfolding tableSays firstOf holds order
-clean-line n before line e =
-    let r : Reading = readLine ofHistories line in
+clean-line n before r e =
     let p = pick-none (tooMany n) TooManyLines _ e in
     let q = pick-none (isBad r) BadLine _ (p .1) in
     let s = pick-none (outside r) JobOutside _ (q .1) in
@@ -103,16 +100,17 @@ marked-line (Good Back job cell) h j o e one′ two′ = marked-here goes-back j
 marked-line (Good (Asks a) job cell) h j o e one′ two′ = two′ (sym (marked-does isCommit j _ h) ∙ e)
 
 -- a job with a c on lines of which none has a job outside is 1 to 255
-marked-within : (ls : List (List ℕ)) → ((k : ℕ) → k < length ls → outside (readLine ofHistories (getD ls k [])) ≡ false) → (j : ℕ) → marked isCommit j (eventsIn ls) ≡ true → (1 ≤ j) × (j ≤ judgedJobs)
+marked-within : (rs : List Reading) → ((k : ℕ) → k < length rs → outside (getD rs k Bad) ≡ false) → (j : ℕ) → marked isCommit j (eventsIn rs) ≡ true → (1 ≤ j) × (j ≤ judgedJobs)
 unfolding eventsIn
 marked-within [] all j e = not-both e (marked-none isCommit j)
-marked-within (l ∷ ls) all j e =
-    marked-line (readLine ofHistories l) (eventsIn ls) j (all 0 (omega arith)) e (λ w. w) (λ m. marked-within ls (λ k h. all (suc k) (omega arith)) j m)
+marked-within (r ∷ rs) all j e =
+    marked-line r (eventsIn rs) j (all 0 (omega arith)) e (λ w. w) (λ m. marked-within rs (λ k h. all (suc k) (omega arith)) j m)
 
 -- the jobs with a c in a faultless text are 1 to 255
-pub committed-within : (ls : List (List ℕ)) → AllFaultless ls → (j : ℕ) → marked isCommit j (eventsIn ls) ≡ true → (1 ≤ j) × (j ≤ judgedJobs)
-committed-within ls all j m =
-    marked-within ls (λ k h. subst (λ i. outside (readLine ofHistories (getD ls i [])) ≡ false) (less-one k) (clean-line (suc k) (linesBefore ls (suc k)) (lineAt ls (suc k)) (all (suc k) (omega arith) h) .inside)) j m
+pub committed-within : (rs : List Reading) → AllFaultless rs → (j : ℕ) → marked isCommit j (eventsIn rs) ≡ true → (1 ≤ j) × (j ≤ judgedJobs)
+committed-within rs all j m =
+    marked-within rs
+    (λ k h. subst (λ i. outside (getD rs i Bad) ≡ false) (less-one k) (clean-line (suc k) (linesBefore rs (suc k)) (readingAt rs (suc k)) (all (suc k) (omega arith) h) .inside)) j m
   where
     less-one : (k : ℕ) → suc k - 1 ≡ k
     less-one k = omega arith

@@ -11,7 +11,7 @@ use Rattle.laws.specs.Lists.{member}
 use Rattle.laws.proofs.Lists.{member-first}
 use Rattle.verdicts.specs.Order.{Edges, ascending, orderOf, stuck}
 use Rattle.verdicts.specs.Knot.{knotIn}
-use Rattle.verdicts.specs.Judged.{Verdict, orderly, knotted, verdictBy, judged}
+use Rattle.verdicts.specs.Judged.{Finding, orderly, knotted, findingBy, judged}
 use Rattle.verdicts.specs.Meant.{Orderly, Knotted, SmallestFirst, Takes, Shown, Says}
 use Rattle.verdicts.specs.Meant.Says.{says-order, says-cycle}
 use Rattle.verdicts.proofs.Taking.{order-taken}
@@ -23,14 +23,14 @@ use Rattle.verdicts.proofs.Knots.{shown-knot, shown-within, shown-once,
 use Rattle.verdicts.proofs.OneKnot.{shown-only}
 
 -- orderly is said with the order taken, where no job remains
-by-none : (e : Edges) (taken rest order : List ℕ) → verdictBy e taken rest ≡ orderly order → (taken ≡ order) × (rest ≡ [])
-unfolding verdictBy
+by-none : (e : Edges) (taken rest order : List ℕ) → findingBy e taken rest ≡ orderly order → (taken ≡ order) × (rest ≡ [])
+unfolding findingBy
 by-none e taken [] order h = (cc, refl)
 by-none e taken (j ∷ rest) order h = let z : _≡_ {A = ℕ} 0 1 = cc in absurd (omega arith)
 
 -- a knot is said with the knot among those that remain, where some do
-by-some : (e : Edges) (taken rest js : List ℕ) → verdictBy e taken rest ≡ knotted js → (j : ℕ) × (left : List ℕ) × (rest ≡ j ∷ left) × (knotIn e rest ≡ js)
-unfolding verdictBy
+by-some : (e : Edges) (taken rest js : List ℕ) → findingBy e taken rest ≡ knotted js → (j : ℕ) × (left : List ℕ) × (rest ≡ j ∷ left) × (knotIn e rest ≡ js)
+unfolding findingBy
 by-some e taken [] js h = let z : _≡_ {A = ℕ} 0 1 = cc in absurd (omega arith)
 by-some e taken (j ∷ left) js h = (j, left, refl, cc)
 
@@ -74,25 +74,25 @@ module _ (e : Edges) (jobs : List ℕ) where
         }
 
     -- the verdict is what the paper says
-    pub judged-says : (v : Verdict) → judged e jobs ≡ v → Says e jobs v
+    pub judged-says : (v : Finding) → judged e jobs ≡ v → Says e jobs v
     judged-says (orderly order) h = says-order (says-smallest-first order h)
     judged-says (knotted js) h = says-cycle (order-taken e jobs) (says-shown js h)
 
     -- a knot is among jobs of which some remain
     knot-judged : (taken rest js : List ℕ) → Takes e jobs taken rest → Shown e rest js → judged e jobs ≡ knotted js
-    unfolding judged verdictBy member
+    unfolding judged findingBy member
     knot-judged taken [] js t s = not-both (walk-within e [] (s .closed .walked) (s .closed .job) (member-first (s .closed .job) (s .closed .seen))) refl
     knot-judged taken (j ∷ left) js t s =
         rw (sym (remains-stuck e t)) (ap knotted (sym (shown-only e j left (rest-ascending e t up) s)))
 
     -- what the paper says is the verdict
-    pub says-judged : (v : Verdict) → Says e jobs v → judged e jobs ≡ v
-    unfolding judged verdictBy
+    pub says-judged : (v : Finding) → Says e jobs v → judged e jobs ≡ v
+    unfolding judged findingBy
     says-judged v (says-order {order = order} o) =
         let none′ : stuck e jobs ≡ [] = sym (remains-stuck e (smallest-first-takes e jobs order o)) in
         rw none′ (ap orderly (smallest-first-unique e jobs (orderOf e jobs) order (order-smallest-first e jobs up none′) o))
     says-judged v (says-cycle {taken = taken} {rest = rest} {js = js} t s) = knot-judged taken rest js t s
 
     -- the verdict is what the paper says, and there is no second one
-    pub judged-exactly : (v : Verdict) → Says e jobs v ↔ (judged e jobs ≡ v)
+    pub judged-exactly : (v : Finding) → Says e jobs v ↔ (judged e jobs ≡ v)
     judged-exactly v = (says-judged v, judged-says v)

@@ -15,6 +15,7 @@ pub mod Judging
 pub mod Deciding
 pub mod Sorted
 pub mod Histories
+pub mod Readings
 pub mod LineFaults
 pub mod LineBack
 pub mod FewJobs

@@ -14,10 +14,11 @@ use Rattle.laws.proofs.Parts.{and-first, and-second}
 use Rattle.terms.specs.Words.{newline}
 use Rattle.formats.specs.Split.{linesOf, joined, oneLine, every}
 use Rattle.formats.proofs.TextLines.{lines-join, lines-one}
-use Rattle.verdicts.specs.HistoryText.{bare}
-use Rattle.verdicts.specs.LineTable.{lineAt, linesBefore}
+use Rattle.verdicts.specs.HistoryText.{readingsOf, lineAt, bare}
+use Rattle.verdicts.specs.LineTable.{linesBefore}
 use Rattle.verdicts.specs.Answers.{noNewline, NewlineOff, Stands}
 use Rattle.verdicts.specs.Answers.NewlineOff.{taken-off, lacks-it}
+use Rattle.verdicts.proofs.Readings.{readings-length}
 
 -- lines one after another, in two parts
 pub joined-append : (ls ms : List (List ℕ)) → joined (ls ++ ms) ≡ joined ls ++ joined ms
@@ -87,8 +88,9 @@ line-place text n a b =
     ∙ joined-append (linesBefore (linesOf text) n) (lineAt (linesOf text) n ∷ drop (suc (n - 1)) (linesOf text))
 
 -- a line of the text, taken as the judge takes it, stands there
-pub bare-stands : (text : List ℕ) (n : ℕ) → 1 ≤ n → n ≤ length (linesOf text) → Stands text n (bare (lineAt (linesOf text) n))
-bare-stands text n a b =
+pub bare-stands : (text : List ℕ) (n : ℕ) → 1 ≤ n → n ≤ length (readingsOf text) → Stands text n (bare (lineAt (linesOf text) n))
+bare-stands text n a c =
+    let b : n ≤ length (linesOf text) = omega (arith, readings-length text) in
     let l : List ℕ = lineAt (linesOf text) n in
     let after : List ℕ = joined (drop (suc (n - 1)) (linesOf text)) in
     let off : NewlineOff l (bare l) = bare-off l (one-at (linesOf text) (n - 1) (lines-one text) (omega arith)) in

@@ -17,16 +17,14 @@ use Rattle.laws.proofs.Parts.{or-swap}
 use Rattle.terms.specs.declared.letters.Letter.the-variants.{Begin, Commit, GiveUp, Retry, Back, Asks}
 use Rattle.terms.specs.declared.refusals.Refusal.{Refusal}
 use Rattle.terms.specs.declared.refusals.Refusal.the-variants.{TooManyLines}
-use Rattle.terms.specs.Letters.{ofHistories}
 use Rattle.terms.specs.Limits.{judgedJobs, judgedLines}
 use Rattle.formats.specs.declared.Reading.{Reading}
 use Rattle.formats.specs.declared.Reading.the-variants.{Good, Bad}
-use Rattle.formats.specs.Lines.{readLine}
 use Rattle.verdicts.specs.HistoryText.{faultOfGood, faultOf, lineFault, endedAfter, Faulty, orLater, firstFaulty, Tells}
-use Rattle.verdicts.specs.LineTable.{lineAt, linesBefore, ends, endedIn, holds, order, firstOf, tableSays, Faultless}
+use Rattle.verdicts.specs.LineTable.{readingAt, linesBefore, ends, endedIn, holds, order, firstOf, tableSays, Faultless}
 
 -- the jobs kept as ended are those with a c or an a on the lines before
-abbrev pub Keeps : List ℕ → List (List ℕ) → Type 0
+abbrev pub Keeps : List ℕ → List Reading → Type 0
 Keeps ended before = (j : ℕ) → member j ended ≡ endedIn j before
 
 -- before the first line none has ended
@@ -35,12 +33,10 @@ unfolding member endedIn
 none-ended j = refl
 
 -- a line more at the end
-ended-more : (j : ℕ) (before : List (List ℕ)) (l : List ℕ) → endedIn j (before ++ l ∷ []) ≡ (ends j (readLine ofHistories l) || endedIn j before)
+ended-more : (j : ℕ) (before : List Reading) (r : Reading) → endedIn j (before ++ r ∷ []) ≡ (ends j r || endedIn j before)
 unfolding endedIn
-ended-more j [] l = refl
-ended-more j (b ∷ before) l =
-    ap (λ x. ends j (readLine ofHistories b) || x) (ended-more j before l)
-    ∙ or-swap (ends j (readLine ofHistories b)) (ends j (readLine ofHistories l)) (endedIn j before)
+ended-more j [] r = refl
+ended-more j (b ∷ before) r = ap (λ x. ends j b || x) (ended-more j before r) ∙ or-swap (ends j b) (ends j r) (endedIn j before)
 
 -- a line that reads so adds its job where it is a c or an a
 keeps-reading : (ended : List ℕ) (j : ℕ) (r : Reading) → member j (endedAfter ended r) ≡ (ends j r || member j ended)
@@ -54,9 +50,8 @@ keeps-reading ended j (Good Back job cell) = refl
 keeps-reading ended j (Good (Asks a) job cell) = refl
 
 -- after one more line the jobs kept are the right ones
-pub keeps-more : (ended : List ℕ) (before : List (List ℕ)) (l : List ℕ) → Keeps ended before → Keeps (endedAfter ended (readLine ofHistories l)) (before ++ l ∷ [])
-keeps-more ended before l k j =
-    keeps-reading ended j (readLine ofHistories l) ∙ ap (λ x. ends j (readLine ofHistories l) || x) (k j) ∙ sym (ended-more j before l)
+pub keeps-more : (ended : List ℕ) (before : List Reading) (r : Reading) → Keeps ended before → Keeps (endedAfter ended r) (before ++ r ∷ [])
+keeps-more ended before r k j = keeps-reading ended j r ∙ ap (λ x. ends j r || x) (k j) ∙ sym (ended-more j before r)
 
 -- a job is outside 1 to 255 where it is 0 or above 255
 outside-is : (job : ℕ) → (eqb job 0 || ltb judgedJobs job) ≡ not (leb 1 job && leb job judgedJobs)
@@ -76,35 +71,35 @@ too-many-is n h =
     (λ f. let g : n ≤ judgedLines = ltb-false judgedLines n f in f ∙ sym (ne-eqb n (suc judgedLines) (omega arith)))
 
 -- the judge's fault of a line that reads so is the table's
-reading-fault : (n : ℕ) (ended : List ℕ) (before : List (List ℕ)) (r : Reading) → n ≤ suc judgedLines → Keeps ended before →
+reading-fault : (n : ℕ) (ended : List ℕ) (before : List Reading) (r : Reading) → n ≤ suc judgedLines → Keeps ended before →
     pick (ltb judgedLines n) (some TooManyLines) (faultOf ended r) ≡ firstOf (holds n before r) order
 unfolding faultOf faultOfGood holds firstOf order
 reading-fault n ended before Bad h k = rw (too-many-is n h)
 reading-fault n ended before (Good l job cell) h k = rw (too-many-is n h, outside-is job, k job)
 
 -- the judge's fault of a line is the table's
-pub line-fault : (n : ℕ) (ended : List ℕ) (before : List (List ℕ)) (line : List ℕ) → n ≤ suc judgedLines → Keeps ended before → lineFault n ended line ≡ tableSays n before line
+pub line-fault : (n : ℕ) (ended : List ℕ) (before : List Reading) (r : Reading) → n ≤ suc judgedLines → Keeps ended before → lineFault n ended r ≡ tableSays n before r
 unfolding lineFault tableSays
-line-fault n ended before line h k = reading-fault n ended before (readLine ofHistories line) h k
+line-fault n ended before r h k = reading-fault n ended before r h k
 
 -- a line past 4,096 has a fault
-pub few-lines : (n : ℕ) (ended : List ℕ) (line : List ℕ) → lineFault n ended line ≡ none → n ≤ judgedLines
+pub few-lines : (n : ℕ) (ended : List ℕ) (r : Reading) → lineFault n ended r ≡ none → n ≤ judgedLines
 unfolding lineFault
-few-lines n ended line e =
+few-lines n ended r e =
     by-test (ltb judgedLines n) (λ t. let q : some TooManyLines ≡ none = rw t at e in let z : _≡_ {A = ℕ} 0 1 = cc in absurd (omega arith))
     (λ f. ltb-false judgedLines n f)
 
--- the table speaks of line n by the lines before it and by its bytes, whatever follows
-said-of : (before : List (List ℕ)) (line : List ℕ) (after : List (List ℕ)) → let n : ℕ = suc (length before) in
-    (tableSays n (linesBefore (before ++ line ∷ after) n) (lineAt (before ++ line ∷ after) n) ≡ tableSays n before line)
-said-of before line after =
-    ap₂ (tableSays (suc (length before))) (take-at before (line ∷ after) (suc (length before) - 1) (omega arith))
-    (getD-at before line after [] (suc (length before) - 1) (omega arith))
+-- the table speaks of line n by the lines before it and by how it reads, whatever follows
+said-of : (before : List Reading) (r : Reading) (after : List Reading) → let n : ℕ = suc (length before) in
+    (tableSays n (linesBefore (before ++ r ∷ after) n) (readingAt (before ++ r ∷ after) n) ≡ tableSays n before r)
+said-of before r after =
+    ap₂ (tableSays (suc (length before))) (take-at before (r ∷ after) (suc (length before) - 1) (omega arith))
+    (getD-at before r after Bad (suc (length before) - 1) (omega arith))
 
-module _ (whole before : List (List ℕ)) (l : List ℕ) (ls : List (List ℕ)) (n : ℕ) (ended : List ℕ) (w : whole ≡ before ++ l ∷ ls)
+module _ (whole before : List Reading) (l : Reading) (ls : List Reading) (n : ℕ) (ended : List ℕ) (w : whole ≡ before ++ l ∷ ls)
     (e : n ≡ suc (length before)) (h : n ≤ suc judgedLines) (k : Keeps ended before) (good : (m : ℕ) → 1 ≤ m → m < n → Faultless whole m) where
   -- the judge's fault of line n is what the table says of it
-  fault-at : lineFault n ended l ≡ tableSays n (linesBefore whole n) (lineAt whole n)
+  fault-at : lineFault n ended l ≡ tableSays n (linesBefore whole n) (readingAt whole n)
   fault-at = line-fault n ended before l h k ∙ sym (rw (w, e) (said-of before l ls))
 
   -- where line n has no fault, the lines up to it are faultless
@@ -114,17 +109,15 @@ module _ (whole before : List (List ℕ)) (l : List ℕ) (ls : List (List ℕ)) 
       (λ f. let other′ : m ≢ n = eqb-false m n f in good m a (omega arith))
 
   -- line n decides where it has a fault, and else the lines after it
-  line-tells : (o : Option Refusal) (later : Option Faulty) → lineFault n ended l ≡ o → (lineFault n ended l ≡ none → Tells whole later) → Tells whole (orLater o n l later)
+  line-tells : (o : Option Refusal) (later : Option Faulty) → lineFault n ended l ≡ o → (lineFault n ended l ≡ none → Tells whole later) → Tells whole (orLater o n later)
   unfolding orLater
   line-tells none later q next = next q
   line-tells (some why) later q next =
-      let size : length whole ≡ length before + suc (length ls) = ap length w ∙ length-append before (l ∷ ls) in (
-        record { from = omega arith; to = omega arith; before = good; due = sym fault-at ∙ q },
-        sym (rw (w, e) (getD-at before l ls [] (suc (length before) - 1) (omega arith))),
-      )
+      let size : length whole ≡ length before + suc (length ls) = ap length w ∙ length-append before (l ∷ ls) in
+      record { from = omega arith; to = omega arith; before = good; due = sym fault-at ∙ q }
 
 -- from line n on, where the lines before it are faultless
-walks : (whole before ls : List (List ℕ)) (n : ℕ) (ended : List ℕ) → whole ≡ before ++ ls → n ≡ suc (length before) → n ≤ suc judgedLines → Keeps ended before →
+walks : (whole before ls : List Reading) (n : ℕ) (ended : List ℕ) → whole ≡ before ++ ls → n ≡ suc (length before) → n ≤ suc judgedLines → Keeps ended before →
     ((m : ℕ) → 1 ≤ m → m < n → Faultless whole m) → Tells whole (firstFaulty n ended ls)
 unfolding firstFaulty
 walks whole before [] n ended w e h k good =
@@ -134,9 +127,9 @@ walks whole before (l ∷ ls) n ended w e h k good =
     line-tells whole before l ls n ended w e h k good (lineFault n ended l) _ refl
     (λ q.
     let few : n ≤ judgedLines = few-lines n ended l q in
-    walks whole (before ++ l ∷ []) ls (suc n) (endedAfter ended (readLine ofHistories l)) (w ∙ sym (append-assoc before (l ∷ []) ls))
+    walks whole (before ++ l ∷ []) ls (suc n) (endedAfter ended l) (w ∙ sym (append-assoc before (l ∷ []) ls))
     (omega (arith, length-append before (l ∷ []))) (omega arith) (keeps-more ended before l k) (good-more whole before l ls n ended w e h k good q))
 
--- the judge finds the first faulty line of the table, with its bytes, or that every line is faultless
-pub finds-fault : (ls : List (List ℕ)) → Tells ls (firstFaulty 1 [] ls)
+-- the judge finds the first faulty line of the table, or that every line is faultless
+pub finds-fault : (ls : List Reading) → Tells ls (firstFaulty 1 [] ls)
 finds-fault ls = walks ls [] ls 1 [] refl refl (omega arith) none-ended (λ m a b. absurd (omega arith))

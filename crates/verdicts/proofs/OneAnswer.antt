@@ -13,26 +13,27 @@ use Rattle.laws.specs.Choice.{by-test}
 use Rattle.terms.specs.declared.refusals.Refusal.{Refusal}
 use Rattle.terms.specs.declared.refusals.Refusal.the-variants.{ShortOrder}
 use Rattle.terms.specs.Limits.{judgedJobs}
+use Rattle.formats.specs.declared.Reading.{Reading}
 use Rattle.formats.specs.Split.{linesOf}
 use Rattle.verdicts.specs.declared.verdict.Verdict.the-variants.{Orderly, Knot, No}
-use Rattle.verdicts.specs.Judged.{orderly, knotted, verdictOf}
+use Rattle.verdicts.specs.Judged.{orderly, knotted, findingOf}
 use Rattle.verdicts.specs.Meant.Says.{says-order, says-cycle}
-use Rattle.verdicts.specs.HistoryText.{Faulty, firstFaulty, eventsIn, bare, Tells}
-use Rattle.verdicts.specs.Judgement.{Judgement, filled, sayVerdict, sayLines, judgementOf}
-use Rattle.verdicts.specs.LineTable.{lineAt, Faultless, Due, FirstFault, AllFaultless}
+use Rattle.verdicts.specs.HistoryText.{readingsOf, lineAt, Faulty, firstFaulty, eventsIn, bare, Tells}
+use Rattle.verdicts.specs.Judgement.{Judgement, filled, sayFinding, sayLines, judgementOf}
+use Rattle.verdicts.specs.LineTable.{Faultless, Due, FirstFault, AllFaultless}
 use Rattle.verdicts.specs.Answers.{Fills, Answers}
 use Rattle.verdicts.specs.Answers.Answers.{short, faulty, in-order, in-knot}
-use Rattle.verdicts.proofs.Histories.{verdict-exactly}
+use Rattle.verdicts.proofs.Histories.{finding-exactly}
 use Rattle.verdicts.proofs.LineFaults.{finds-fault}
 use Rattle.verdicts.proofs.LineBack.{stands-only}
 use Rattle.verdicts.proofs.Answering.{answers}
 
 -- a line is not both faultless and refused
-never-both : {P : Type 0} (ls : List (List ℕ)) (n : ℕ) (why : Refusal) → Faultless ls n → Due ls n why → P
+never-both : {P : Type 0} (ls : List Reading) (n : ℕ) (why : Refusal) → Faultless ls n → Due ls n why → P
 never-both ls n why f d = let q : _≡_ {A = Option Refusal} none (some why) = sym f ∙ d in let z : _≡_ {A = ℕ} 0 1 = cc in absurd (omega arith)
 
 -- at most one line is the first faulty one, and for one reason
-pub one-fault : (ls : List (List ℕ)) (m n : ℕ) (x y : Refusal) → FirstFault ls m x → FirstFault ls n y → (m ≡ n) × (x ≡ y)
+pub one-fault : (ls : List Reading) (m n : ℕ) (x y : Refusal) → FirstFault ls m x → FirstFault ls n y → (m ≡ n) × (x ≡ y)
 one-fault ls m n x y f g =
     by-test (ltb m n) (λ t. never-both ls m x (g .before m (f .from) (ltb-true m n t)) (f .due))
     (λ a. by-test (ltb n m) (λ t. never-both ls n y (f .before n (g .from) (ltb-true n m t)) (g .due))
@@ -45,7 +46,7 @@ one-fault ls m n x y f g =
     (e, cc)))
 
 -- where every line is faultless none is refused
-pub no-fault : {P : Type 0} (ls : List (List ℕ)) (n : ℕ) (why : Refusal) → AllFaultless ls → FirstFault ls n why → P
+pub no-fault : {P : Type 0} (ls : List Reading) (n : ℕ) (why : Refusal) → AllFaultless ls → FirstFault ls n why → P
 no-fault ls n why all f = never-both ls n why (all n (f .from) (f .to)) (f .due)
 
 -- nothing else is in the buffer where jobs fill its first places
@@ -65,46 +66,46 @@ module _ (text buffer : List ℕ) where
 
   module _ (room : judgedJobs ≤ length buffer) where
     -- else the lines decide
-    lines-decide : judgementOf text buffer ≡ sayLines buffer (linesOf text) (firstFaulty 1 [] (linesOf text))
+    lines-decide : judgementOf text buffer ≡ sayLines buffer text (firstFaulty 1 [] (readingsOf text))
     unfolding judgementOf
     lines-decide = rw (le-ltb (length buffer) judgedJobs room)
 
     -- where a line is the first faulty one, its refusal is the answer
-    fault-by : (n : ℕ) (why : Refusal) → FirstFault (linesOf text) n why → (o : Option Faulty) → Tells (linesOf text) o →
-        sayLines buffer (linesOf text) o ≡ record { said = No n why; order = buffer; line = bare (lineAt (linesOf text) n) }
+    fault-by : (n : ℕ) (why : Refusal) → FirstFault (readingsOf text) n why → (o : Option Faulty) → Tells (readingsOf text) o →
+        sayLines buffer text o ≡ record { said = No n why; order = buffer; line = bare (lineAt (linesOf text) n) }
     unfolding sayLines
-    fault-by n why f none t = no-fault (linesOf text) n why t f
+    fault-by n why f none t = no-fault (readingsOf text) n why t f
     fault-by n why f (some g) t =
-        let s = one-fault (linesOf text) (g .number) n (g .why) why (t .0) f in
-        same-answer (ap₂ No (s .0) (s .1)) refl (ap bare (t .1 ∙ ap (lineAt (linesOf text)) (s .0)))
+        let s = one-fault (readingsOf text) (g .number) n (g .why) why t f in
+        same-answer (ap₂ No (s .0) (s .1)) refl (ap (λ m. bare (lineAt (linesOf text) m)) (s .0))
 
     -- where every line is faultless, the verdict is
-    verdict-by : AllFaultless (linesOf text) → (o : Option Faulty) → Tells (linesOf text) o → sayLines buffer (linesOf text) o ≡ sayVerdict buffer (verdictOf (eventsIn (linesOf text)))
+    verdict-by : AllFaultless (readingsOf text) → (o : Option Faulty) → Tells (readingsOf text) o → sayLines buffer text o ≡ sayFinding buffer (findingOf (eventsIn (readingsOf text)))
     unfolding sayLines
     verdict-by all none t = refl
-    verdict-by all (some g) t = no-fault (linesOf text) (g .number) (g .why) all (t .0)
+    verdict-by all (some g) t = no-fault (readingsOf text) (g .number) (g .why) all t
 
     -- so the first faulty line decides
-    fault-is : (n : ℕ) (why : Refusal) → FirstFault (linesOf text) n why → judgementOf text buffer ≡ record { said = No n why; order = buffer; line = bare (lineAt (linesOf text) n) }
-    fault-is n why f = lines-decide ∙ fault-by n why f (firstFaulty 1 [] (linesOf text)) (finds-fault (linesOf text))
+    fault-is : (n : ℕ) (why : Refusal) → FirstFault (readingsOf text) n why → judgementOf text buffer ≡ record { said = No n why; order = buffer; line = bare (lineAt (linesOf text) n) }
+    fault-is n why f = lines-decide ∙ fault-by n why f (firstFaulty 1 [] (readingsOf text)) (finds-fault (readingsOf text))
 
     -- and of a faultless text the verdict is given
-    verdict-is : AllFaultless (linesOf text) → judgementOf text buffer ≡ sayVerdict buffer (verdictOf (eventsIn (linesOf text)))
-    verdict-is all = lines-decide ∙ verdict-by all (firstFaulty 1 [] (linesOf text)) (finds-fault (linesOf text))
+    verdict-is : AllFaultless (readingsOf text) → judgementOf text buffer ≡ sayFinding buffer (findingOf (eventsIn (readingsOf text)))
+    verdict-is all = lines-decide ∙ verdict-by all (firstFaulty 1 [] (readingsOf text)) (finds-fault (readingsOf text))
 
 -- an answer that is one of the paper's is the judge's
 answer-is : (text buffer : List ℕ) (j : Judgement) → Answers text buffer j → judgementOf text buffer ≡ j
-unfolding sayVerdict
+unfolding sayFinding
 answer-is text buffer j (short h) = short-is text buffer h
 answer-is text buffer j (faulty {n = n} {why = why} {line = line} room f s) =
     fault-is text buffer room n why f ∙ same-answer refl refl (sym (stands-only text n line s))
 answer-is text buffer j (in-order room all o) =
     verdict-is text buffer room all
-    ∙ ap (sayVerdict buffer) (verdict-exactly (eventsIn (linesOf text)) (orderly (o .order)) .0 (says-order (o .smallest)))
+    ∙ ap (sayFinding buffer) (finding-exactly (eventsIn (readingsOf text)) (orderly (o .order)) .0 (says-order (o .smallest)))
     ∙ same-answer (ap Orderly (sym (o .count))) (sym (fills-only (o .order) buffer _ (o .fills))) refl
 answer-is text buffer j (in-knot room all k) =
     verdict-is text buffer room all
-    ∙ ap (sayVerdict buffer) (verdict-exactly (eventsIn (linesOf text)) (knotted (k .knot)) .0 (says-cycle (k .takes) (k .walked)))
+    ∙ ap (sayFinding buffer) (finding-exactly (eventsIn (readingsOf text)) (knotted (k .knot)) .0 (says-cycle (k .takes) (k .walked)))
     ∙ same-answer (ap Knot (sym (k .count))) (sym (fills-only (k .knot) buffer _ (k .fills))) refl
 
 -- the judge's answer is the paper's, and there is no second one

@@ -4,7 +4,7 @@ use Prim.Native.Nat.{ℕ, suc, _-_, _≤_}
 use mathlib.Core.Path.{_≡_, refl, sym, ap, ap₂, _∙_, subst}
 use mathlib.Core.Logic.{_≢_, _⊎_, inl, inr}
 use mathlib.Core.Bool.{true, false}
-use mathlib.Core.List.{List, [], _∷_, _++_, map, map-append}
+use mathlib.Core.List.{List, [], _∷_, _++_, map, map-append, map-map}
 use native.Mathlib.Omega.{arith}
 use lib.Dec.{eqb}
 use lib.ListN.{length, length-map}
@@ -26,10 +26,11 @@ use Rattle.laws.proofs.Lists.{same-refl}
 use Rattle.conflict.proofs.Marks.{ended-alone, ends-rest}
 use Rattle.conflict.proofs.OneEvent.{line-does, line-ends, good-does, commit-not-back, give-up-not-back}
 use Rattle.conflict.proofs.Appended.{line-append}
-use Rattle.formats.specs.declared.Reading.the-variants.{Good}
+use Rattle.formats.specs.declared.Reading.{Reading}
+use Rattle.formats.specs.declared.Reading.the-variants.{Good, Bad}
 use Rattle.formats.specs.Lines.{readLine}
-use Rattle.formats.specs.Split.{linesOf}
-use Rattle.verdicts.specs.LineTable.{lineAt, linesBefore, isBad, above, ends, endedIn, overAlready, holds, holdsAt, AllReadBack, FirstFault}
+use Rattle.verdicts.specs.HistoryText.{readingsOf}
+use Rattle.verdicts.specs.LineTable.{readingAt, linesBefore, isBad, above, ends, endedIn, overAlready, holds, holdsAt, AllReadBack, FirstFault}
 use Rattle.verdicts.specs.Written.{markLetter, eventLine, textOf, within, allWithin}
 use Rattle.verdicts.proofs.RecordLines.{text-lines}
 use Rattle.verdicts.proofs.RecordsSay.{action-within, reads-action, reads-mark}
@@ -50,22 +51,31 @@ mark-alone commits i j h g t = rw (← eqb-true i j t) (ended-alone commits i h 
 mark-alone gives-up i j h g t = rw (← eqb-true i j t) (ended-alone gives-up i h g give-up-not-back)
 mark-alone goes-back i j h g t = not-both t refl
 
+-- how the record of an event reads
+abbrev eventReads : Event → Reading
+eventReads e = readLine ofHistories (eventLine e)
+
+-- the records of a history's text, as they read
+pub text-readings : (h : History) → readingsOf (textOf h) ≡ map (λ e. readLine ofHistories (eventLine e)) h
+unfolding readingsOf
+text-readings h = ap (map (readLine ofHistories)) (text-lines h) ∙ map-map (readLine ofHistories) eventLine h
+
 -- so a job with a c or an a on the lines before has no line after them
-ended-before : (h k : History) (j : ℕ) → allWithin lastNumber h ≡ true → endsForGood (h ++ k) ≡ true → endedIn j (map eventLine h) ≡ true → lineOf j k ≡ false
+ended-before : (h k : History) (j : ℕ) → allWithin lastNumber h ≡ true → endsForGood (h ++ k) ≡ true → endedIn j (map eventReads h) ≡ true → lineOf j k ≡ false
 unfolding endedIn allWithin
 ended-before [] k j w g e = not-both e refl
 ended-before (Does a ∷ h) k j w g e =
     ended-before h k j (and-second (within lastNumber (Does a)) (allWithin lastNumber h) w) (sym (good-does a (h ++ k)) ∙ g)
     (unfold ends in rw (reads-action a (and-first (within lastNumber (Does a)) (allWithin lastNumber h) w)) at e)
 ended-before (Ends m i ∷ h) k j w g e =
-    or-either (ends j (readLine ofHistories (eventLine (Ends m i)))) (endedIn j (map eventLine h)) e
+    or-either (ends j (eventReads (Ends m i))) (endedIn j (map eventReads h)) e
     (λ t. nor-second (lineOf j h) (lineOf j k)
     (sym (line-append j h k) ∙ mark-alone m i j (h ++ k) g (rw (reads-mark m i (and-first (within lastNumber (Ends m i)) (allWithin lastNumber h) w)) at t)))
     (ended-before h k j (and-second (within lastNumber (Ends m i)) (allWithin lastNumber h) w) (ends-rest m i (h ++ k) g))
 
 -- and a job with a line after them has neither on the lines before
-not-ended : (h k : History) (j : ℕ) → allWithin lastNumber h ≡ true → endsForGood (h ++ k) ≡ true → lineOf j k ≡ true → endedIn j (map eventLine h) ≡ false
-not-ended h k j w g l = by-test (endedIn j (map eventLine h)) (λ t. not-both l (ended-before h k j w g t)) (λ f. f)
+not-ended : (h k : History) (j : ℕ) → allWithin lastNumber h ≡ true → endsForGood (h ++ k) ≡ true → lineOf j k ≡ true → endedIn j (map eventReads h) ≡ false
+not-ended h k j w g l = by-test (endedIn j (map eventReads h)) (λ t. not-both l (ended-before h k j w g t)) (λ f. f)
 
 -- c, a and k have no cell
 mark-no-cell : (m : Mark) → hasCell (markLetter m) ≡ false
@@ -75,8 +85,8 @@ mark-no-cell gives-up = refl
 mark-no-cell goes-back = refl
 
 -- a record behind some others is no bad line, has no cell above 63, and its job has not ended on them
-record-rows : (h : History) (e : Event) (k : History) → allWithin lastNumber (h ++ e ∷ k) ≡ true → endsForGood (h ++ e ∷ k) ≡ true → let r = readLine ofHistories (eventLine e) in
-    (isBad r ≡ false) × (above r ≡ false) × (overAlready (map eventLine h) r ≡ false)
+record-rows : (h : History) (e : Event) (k : History) → allWithin lastNumber (h ++ e ∷ k) ≡ true → endsForGood (h ++ e ∷ k) ≡ true → let r = eventReads e in
+    (isBad r ≡ false) × (above r ≡ false) × (overAlready (map eventReads h) r ≡ false)
 unfolding allWithin
 record-rows h (Does a) k w g =
     let p = parts-within lastNumber h (Does a ∷ k) w in
@@ -94,14 +104,14 @@ record-rows h (Ends m i) k w g =
       not-ended h (Ends m i ∷ k) i (p .0) g (line-ends i m i k ∙ or-first (same i i) (lineOf i k) (same-refl i)),
     )
 
--- line n of a history's text is the record of an event, and the lines before it are the records of the events before
+-- line n of a history's text reads as the record of an event, and the lines before it as the records of the events before
 pub record Line (h : History) (n : ℕ) : Type 0 where
   pub before : History
   pub event : Event
   pub after : History
   pub parts : h ≡ before ++ event ∷ after
-  pub ahead : linesBefore (linesOf (textOf h)) n ≡ map eventLine before
-  pub bytes : lineAt (linesOf (textOf h)) n ≡ eventLine event
+  pub ahead : linesBefore (readingsOf (textOf h)) n ≡ map (λ e. readLine ofHistories (eventLine e)) before
+  pub reads : readingAt (readingsOf (textOf h)) n ≡ readLine ofHistories (eventLine event)
 
 -- a history in two parts, the second from event n on
 parted : {P : Type 0} (h : History) (n : ℕ) → 1 ≤ n → n ≤ length h → ((b : History) (e : Event) (k : History) → h ≡ b ++ e ∷ k → n ≡ suc (length b) → P) → P
@@ -113,18 +123,18 @@ parted (e ∷ h) n from to f =
     parted h (n - 1) (omega arith) (omega arith) (λ b x k p q. f (e ∷ b) x k (ap (λ l. e ∷ l) p) (omega arith)))
 
 -- each line of the text is so
-pub line-of : (h : History) (n : ℕ) → 1 ≤ n → n ≤ length (linesOf (textOf h)) → Line h n
+pub line-of : (h : History) (n : ℕ) → 1 ≤ n → n ≤ length (readingsOf (textOf h)) → Line h n
 line-of h n from to =
-    parted h n from (omega (arith, ap length (text-lines h), length-map h eventLine)) (λ b e k p q.
-    let ls : linesOf (textOf h) ≡ map eventLine b ++ eventLine e ∷ map eventLine k = text-lines h ∙ ap (map eventLine) p ∙ map-append eventLine b (e ∷ k) in
-    let size : length (map eventLine b) ≡ n - 1 = omega (arith, length-map b eventLine) in
+    parted h n from (omega (arith, ap length (text-readings h), length-map h eventReads)) (λ b e k p q.
+    let rs : readingsOf (textOf h) ≡ map eventReads b ++ eventReads e ∷ map eventReads k = text-readings h ∙ ap (map eventReads) p ∙ map-append eventReads b (e ∷ k) in
+    let size : length (map eventReads b) ≡ n - 1 = omega (arith, length-map b eventReads) in
     record {
       before = b;
       event = e;
       after = k;
       parts = p;
-      ahead = rw ls (take-at (map eventLine b) (eventLine e ∷ map eventLine k) (n - 1) size);
-      bytes = rw ls (getD-at (map eventLine b) (eventLine e) (map eventLine k) [] (n - 1) size);
+      ahead = rw rs (take-at (map eventReads b) (eventReads e ∷ map eventReads k) (n - 1) size);
+      reads = rw rs (getD-at (map eventReads b) (eventReads e) (map eventReads k) Bad (n - 1) size);
     })
 
 -- the event of a line is within the limit that the history is within
@@ -134,11 +144,11 @@ event-within last h n l w =
     and-first (within last (l .event)) (allWithin last (l .after)) (parts-within last (l .before) (l .event ∷ l .after) (subst (λ x. allWithin last x ≡ true) (l .parts) w) .1)
 
 -- what the table says of line n, by its event and those before
-pub row-of : (h : History) (n : ℕ) (l : Line h n) (why : Refusal) → holdsAt (linesOf (textOf h)) n why ≡ holds n (map eventLine (l .before)) (readLine ofHistories (eventLine (l .event))) why
-row-of h n l why = ap₂ (λ before line. holds n before (readLine ofHistories line) why) (l .ahead) (l .bytes)
+pub row-of : (h : History) (n : ℕ) (l : Line h n) (why : Refusal) → holdsAt (readingsOf (textOf h)) n why ≡ holds n (map (λ e. readLine ofHistories (eventLine e)) (l .before)) (readLine ofHistories (eventLine (l .event))) why
+row-of h n l why = ap₂ (λ before r. holds n before r why) (l .ahead) (l .reads)
 
 -- every line of the text is read back, where jobs are 1 to 4,294,967,295, cells 0 to 63, and no line of a job follows its c or a
-pub written-read-back : (h : History) → allWithin lastNumber h ≡ true → endsForGood h ≡ true → AllReadBack (linesOf (textOf h))
+pub written-read-back : (h : History) → allWithin lastNumber h ≡ true → endsForGood h ≡ true → AllReadBack (readingsOf (textOf h))
 unfolding holds
 written-read-back h w g n from to =
     let l = line-of h n from to in
@@ -146,7 +156,7 @@ written-read-back h w g n from to =
     (row-of h n l BadLine ∙ r .0, row-of h n l CellAbove ∙ r .1, row-of h n l Ended ∙ r .2)
 
 -- of lines that are read back the judge refuses one only as line 4,097 or for a job outside 1 to 255
-pub only-limits : (ls : List (List ℕ)) → AllReadBack ls → (n : ℕ) (why : Refusal) → FirstFault ls n why → (why ≡ TooManyLines) ⊎ (why ≡ JobOutside)
+pub only-limits : (ls : List Reading) → AllReadBack ls → (n : ℕ) (why : Refusal) → FirstFault ls n why → (why ≡ TooManyLines) ⊎ (why ≡ JobOutside)
 only-limits ls all n why f = by-row why (due-holds ls n why (f .due))
   where
     rows : (holdsAt ls n BadLine ≡ false) × (holdsAt ls n CellAbove ≡ false) × (holdsAt ls n Ended ≡ false)

@@ -103,7 +103,7 @@ says-event (Does a) w =
 says-event (Ends m j) w = ap eventOf (reads-mark m j w) ∙ mark-back m j
 
 -- the records of a history say it
-pub records-say : (h : History) → allWithin lastNumber h ≡ true → eventsIn (map eventLine h) ≡ h
+pub records-say : (h : History) → allWithin lastNumber h ≡ true → eventsIn (map (λ e. readLine ofHistories (eventLine e)) h) ≡ h
 unfolding eventsIn allWithin
 records-say [] w = refl
 records-say (e ∷ h) w = ap₂ (λ x y. x ++ y) (says-event e (and-first (within lastNumber e) (allWithin lastNumber h) w)) (records-say h (and-second (within lastNumber e) (allWithin lastNumber h) w))

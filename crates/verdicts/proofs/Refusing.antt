@@ -11,13 +11,12 @@ use lib.ListN.{length, take, drop}
 use Rattle.laws.specs.Choice.{by-test}
 use Rattle.terms.specs.declared.refusals.Refusal.{Refusal}
 use Rattle.terms.specs.declared.refusals.Refusal.the-variants.{ShortOrder}
-use Rattle.terms.specs.Letters.{ofHistories}
 use Rattle.terms.specs.Limits.{judgedJobs}
-use Rattle.formats.specs.Lines.{readLine}
-use Rattle.formats.specs.Split.{linesOf}
+use Rattle.formats.specs.declared.Reading.{Reading}
 use Rattle.verdicts.specs.declared.verdict.Verdict.the-variants.{No}
+use Rattle.verdicts.specs.HistoryText.{readingsOf}
 use Rattle.verdicts.specs.Judgement.{Judgement, judgementOf, lineFrom}
-use Rattle.verdicts.specs.LineTable.{lineAt, linesBefore, holds, order, firstOf, tableSays, Due, FirstFault}
+use Rattle.verdicts.specs.LineTable.{readingAt, linesBefore, holds, order, firstOf, tableSays, Due, FirstFault}
 use Rattle.verdicts.specs.Answers.{Stands, Answers}
 use Rattle.verdicts.specs.Answers.Answers.{short, faulty, in-order, in-knot}
 use Rattle.verdicts.proofs.Answering.{answers}
@@ -28,7 +27,7 @@ module _ (text buffer : List ℕ) where
   -- a refusal said is 14 for a short buffer, or the one that is due for the first faulty line, handed back; the buffer stays
   refused-cases : {P : Type 0} (j : Judgement) → Answers text buffer j → (n : ℕ) (why : Refusal) → j .said ≡ No n why →
       (n ≡ 0 → why ≡ ShortOrder → length buffer < judgedJobs → j .line ≡ [] → j .order ≡ buffer → P) →
-      (judgedJobs ≤ length buffer → FirstFault (linesOf text) n why → Stands text n (j .line) → j .order ≡ buffer → P) → P
+      (judgedJobs ≤ length buffer → FirstFault (readingsOf text) n why → Stands text n (j .line) → j .order ≡ buffer → P) → P
   refused-cases j (short h) n why e one′ two′ = one′ (cc) (cc) h refl refl
   refused-cases j (faulty {n = m} {why = x} {line = l} room f s) n why e one′ two′ =
       let p : m ≡ n = cc in
@@ -50,7 +49,7 @@ module _ (text buffer : List ℕ) where
       refused-cases (judgementOf text buffer) (answers text buffer) 0 why e (λ n w h l o. w) (λ room f s o. let one : 1 ≤ 0 = f .from in absurd (omega arith))
 
   -- a line is refused exactly where the buffer has its 255 places, the lines before it are faultless, and the refusal is the first of 11, 9, 12, 2, 13 whose row holds for it
-  pub refused-exactly : (n : ℕ) (why : Refusal) → 1 ≤ n → (judgementOf text buffer .said ≡ No n why) ↔ ((judgedJobs ≤ length buffer) × FirstFault (linesOf text) n why)
+  pub refused-exactly : (n : ℕ) (why : Refusal) → 1 ≤ n → (judgementOf text buffer .said ≡ No n why) ↔ ((judgedJobs ≤ length buffer) × FirstFault (readingsOf text) n why)
   refused-exactly n why h = (
     λ e. refused-cases (judgementOf text buffer) (answers text buffer) n why e (λ z w g l o. absurd (omega arith)) (λ room f s o. (room, f)),
     λ g. ap (λ j. j .said) (answers-exactly text buffer _ .0 (faulty (g .0) (g .1) (bare-stands text n (g .1 .from) (g .1 .to)))),
@@ -99,6 +98,6 @@ first-holds f (y ∷ ys) x e =
     same-row y x q = cc
 
 -- a refusal that is due for a line is one whose row of the table holds for it
-pub due-holds : (ls : List (List ℕ)) (n : ℕ) (why : Refusal) → Due ls n why → holds n (linesBefore ls n) (readLine ofHistories (lineAt ls n)) why ≡ true
+pub due-holds : (rs : List Reading) (n : ℕ) (why : Refusal) → Due rs n why → holds n (linesBefore rs n) (readingAt rs n) why ≡ true
 unfolding tableSays
-due-holds ls n why e = first-holds (holds n (linesBefore ls n) (readLine ofHistories (lineAt ls n))) order why e
+due-holds rs n why e = first-holds (holds n (linesBefore rs n) (readingAt rs n)) order why e

@@ -18,16 +18,15 @@ use Rattle.terms.specs.declared.refusals.Refusal.the-variants.{CellAbove, BadLi
 use Rattle.terms.specs.Letters.{ofHistories}
 use Rattle.terms.specs.Limits.{lastNumber, judgedJobs, judgedLines, judgedBytes}
 use Rattle.formats.specs.Lines.{readLine}
-use Rattle.formats.specs.Split.{linesOf}
+use Rattle.formats.specs.declared.Reading.{Reading}
 use Rattle.verdicts.specs.declared.verdict.Verdict.the-variants.{Orderly}
-use Rattle.verdicts.specs.HistoryText.{eventsIn}
+use Rattle.verdicts.specs.HistoryText.{readingsOf, eventsIn}
 use Rattle.verdicts.specs.Judgement.{judgementOf}
 use Rattle.verdicts.specs.LineTable.{outside, holds, order, firstOf, tableSays, holdsAt, AllFaultless}
 use Rattle.verdicts.specs.Written.{eventLine, textOf, within, allWithin}
 use Rattle.verdicts.proofs.JudgedTexts.{orderly-said-exactly}
-use Rattle.verdicts.proofs.RecordLines.{text-lines}
 use Rattle.verdicts.proofs.RecordsSay.{action-within, mark-within, within-more, reads-action, reads-mark, records-say, text-short}
-use Rattle.verdicts.proofs.ReadBack.{line-of, event-within, row-of, written-read-back}
+use Rattle.verdicts.proofs.ReadBack.{text-readings, line-of, event-within, row-of, written-read-back}
 
 -- a record whose job is 1 to 255 is for no job outside
 record-inside : (e : Event) → within judgedJobs e ≡ true → within lastNumber e ≡ true → outside (readLine ofHistories (eventLine e)) ≡ false
@@ -35,14 +34,14 @@ record-inside (Does a) w v = let b = action-within judgedJobs a w in rw (reads-a
 record-inside (Ends m j) w v = let b = mark-within judgedJobs m j w in rw (reads-mark m j v, le-leb 1 j (b .0), le-leb j judgedJobs (b .1))
 
 -- no line of the text is for a job outside
-lines-inside : (h : History) → allWithin judgedJobs h ≡ true → (n : ℕ) → 1 ≤ n → n ≤ length (linesOf (textOf h)) → holdsAt (linesOf (textOf h)) n JobOutside ≡ false
+lines-inside : (h : History) → allWithin judgedJobs h ≡ true → (n : ℕ) → 1 ≤ n → n ≤ length (readingsOf (textOf h)) → holdsAt (readingsOf (textOf h)) n JobOutside ≡ false
 unfolding holds
 lines-inside h w n from to =
     let l = line-of h n from to in
     row-of h n l JobOutside ∙ record-inside (l .event) (event-within judgedJobs h n l w) (event-within lastNumber h n l (within-more judgedJobs lastNumber (omega arith) h w))
 
 -- nor is a line up to 4,096 line 4,097
-few-lines : (ls : List (List ℕ)) (n : ℕ) → n ≤ judgedLines → holdsAt ls n TooManyLines ≡ false
+few-lines : (ls : List Reading) (n : ℕ) → n ≤ judgedLines → holdsAt ls n TooManyLines ≡ false
 unfolding holds
 few-lines ls n h = ne-eqb n (suc judgedLines) (omega arith)
 
@@ -52,16 +51,16 @@ unfolding firstOf order
 no-row f a b c d e = rw (a, b, c, d, e)
 
 -- the lines of the text say the history
-pub written-says : (h : History) → allWithin lastNumber h ≡ true → eventsIn (linesOf (textOf h)) ≡ h
-written-says h w = ap eventsIn (text-lines h) ∙ records-say h w
+pub written-says : (h : History) → allWithin lastNumber h ≡ true → eventsIn (readingsOf (textOf h)) ≡ h
+written-says h w = ap eventsIn (text-readings h) ∙ records-say h w
 
 -- the text of a history of at most 4,096 events, with jobs 1 to 255 and cells 0 to 63, in which no line of a job follows its c or a, is faultless
-pub written-faultless : (h : History) → allWithin judgedJobs h ≡ true → endsForGood h ≡ true → length h ≤ judgedLines → AllFaultless (linesOf (textOf h))
+pub written-faultless : (h : History) → allWithin judgedJobs h ≡ true → endsForGood h ≡ true → length h ≤ judgedLines → AllFaultless (readingsOf (textOf h))
 unfolding tableSays
 written-faultless h w g few n from to =
     let r = written-read-back h (within-more judgedJobs lastNumber (omega arith) h w) g n from to in
-    let less : n ≤ judgedLines = omega (arith, ap length (text-lines h), length-map h eventLine) in
-    no-row (holdsAt (linesOf (textOf h)) n) (few-lines (linesOf (textOf h)) n less) (r .0) (lines-inside h w n from to) (r .1) (r .2)
+    let less : n ≤ judgedLines = omega (arith, ap length (text-readings h), length-map h (λ e. readLine ofHistories (eventLine e))) in
+    no-row (holdsAt (readingsOf (textOf h)) n) (few-lines (readingsOf (textOf h)) n less) (r .0) (lines-inside h w n from to) (r .1) (r .2)
 
 -- nor is it longer than the verdict program reads
 pub written-fits : (h : History) → allWithin judgedJobs h ≡ true → length h ≤ judgedLines → length (textOf h) ≤ judgedBytes

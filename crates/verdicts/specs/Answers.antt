@@ -17,8 +17,8 @@ use Rattle.verdicts.specs.declared.verdict.Verdict.the-variants.{Orderly
 use Rattle.verdicts.specs.Judged.{jobsOf}
 use Rattle.verdicts.specs.Meant.{SmallestFirst, Knotted, Takes, Shown}
 use Rattle.verdicts.specs.Judgement.{Judgement}
-use Rattle.verdicts.specs.HistoryText.{eventsIn}
-use Rattle.verdicts.specs.LineTable.{lineAt, linesBefore, FirstFault, AllFaultless}
+use Rattle.verdicts.specs.HistoryText.{readingsOf, lineAt, eventsIn}
+use Rattle.verdicts.specs.LineTable.{linesBefore, FirstFault, AllFaultless}
 
 -- whether no byte is a newline
 unfoldable pub noNewline : List ℕ → Bool
@@ -72,9 +72,9 @@ pub record InKnot (h : History) (before after : List ℕ) (n : ℕ) : Type 0 whe
 -- and the buffer stays; or of a faultless text orderly or a knot, and no line is handed back
 pub data Answers (text buffer : List ℕ) : Judgement → Type 0 where
   short : length buffer < judgedJobs → Answers text buffer (record { said = No 0 ShortOrder; order = buffer; line = [] })
-  faulty : {n : ℕ} {why : Refusal} {line : List ℕ} → judgedJobs ≤ length buffer → FirstFault (linesOf text) n why → Stands text n line →
+  faulty : {n : ℕ} {why : Refusal} {line : List ℕ} → judgedJobs ≤ length buffer → FirstFault (readingsOf text) n why → Stands text n line →
       Answers text buffer (record { said = No n why; order = buffer; line = line })
-  in-order : {n : ℕ} {after : List ℕ} → judgedJobs ≤ length buffer → AllFaultless (linesOf text) → InOrder (eventsIn (linesOf text)) buffer after n →
+  in-order : {n : ℕ} {after : List ℕ} → judgedJobs ≤ length buffer → AllFaultless (readingsOf text) → InOrder (eventsIn (readingsOf text)) buffer after n →
       Answers text buffer (record { said = Orderly n; order = after; line = [] })
-  in-knot : {n : ℕ} {after : List ℕ} → judgedJobs ≤ length buffer → AllFaultless (linesOf text) → InKnot (eventsIn (linesOf text)) buffer after n →
+  in-knot : {n : ℕ} {after : List ℕ} → judgedJobs ≤ length buffer → AllFaultless (readingsOf text) → InKnot (eventsIn (readingsOf text)) buffer after n →
       Answers text buffer (record { said = Knot n; order = after; line = [] })

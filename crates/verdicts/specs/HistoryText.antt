@@ -1,10 +1,10 @@
--- A history as text: its lines, the first faulty one with its refusal, and the events that a faultless text says (01, Refusals by number; 01, Lines).
-use Prim.Native.Nat.{ℕ, suc, _+_}
-use mathlib.Core.Path.{_≡_}
+-- A history as text: how its lines read, the first faulty one with its refusal, and the events that faultless lines say (01, Refusals by number; 01, Lines).
+use Prim.Native.Nat.{ℕ, suc, _+_, _-_}
 use mathlib.Core.Bool.{_&&_, _||_}
-use mathlib.Core.List.{List, [], _∷_, _++_}
+use mathlib.Core.List.{List, [], _∷_, _++_, map}
 use mathlib.Core.Option.{Option, none, some}
 use lib.Dec.{eqb, ltb, leb}
+use lib.ListN.{getD}
 use Rattle.laws.specs.Choice.{pick}
 use Rattle.laws.specs.Lists.{member}
 use Rattle.terms.specs.declared.letters.Letter.{Letter}
@@ -21,7 +21,16 @@ use Rattle.conflict.specs.History.{History}
 use Rattle.formats.specs.declared.Reading.{Reading}
 use Rattle.formats.specs.declared.Reading.the-variants.{Good, Bad}
 use Rattle.formats.specs.Lines.{refusalOf, readLine}
-use Rattle.verdicts.specs.LineTable.{lineAt, FirstFault, AllFaultless}
+use Rattle.formats.specs.Split.{linesOf}
+use Rattle.verdicts.specs.LineTable.{FirstFault, AllFaultless}
+
+-- what the reader makes of each line of a history text; all that is said of the lines is said of this (01, Lines)
+unfoldable pub readingsOf : List ℕ → List Reading
+readingsOf text = map (readLine ofHistories) (linesOf text)
+
+-- line n of the lines as it stands, numbered from 1
+abbrev pub lineAt : List (List ℕ) → ℕ → List ℕ
+lineAt ls n = getD ls (n - 1) []
 
 -- the fault of a good line, given the jobs that have committed or given up: 12, then 2, then 13 (01, Refusals by number)
 unfoldable pub faultOfGood : List ℕ → Letter → ℕ → ℕ → Option Refusal
@@ -35,8 +44,8 @@ faultOf ended Bad = refusalOf Bad
 faultOf ended (Good l job cell) = faultOfGood ended l job cell
 
 -- the fault of line n: 11 where it is line 4,097, before anything else on it
-unfoldable pub lineFault : ℕ → List ℕ → List ℕ → Option Refusal
-lineFault n ended line = pick (ltb judgedLines n) (some TooManyLines) (faultOf ended (readLine ofHistories line))
+unfoldable pub lineFault : ℕ → List ℕ → Reading → Option Refusal
+lineFault n ended r = pick (ltb judgedLines n) (some TooManyLines) (faultOf ended r)
 
 -- the jobs that have committed or given up, after one more line
 unfoldable pub endedAfter : List ℕ → Reading → List ℕ
@@ -48,23 +57,22 @@ endedAfter ended (Good Retry job cell) = ended
 endedAfter ended (Good Back job cell) = ended
 endedAfter ended (Good (Asks a) job cell) = ended
 
--- a faulty line: its number from 1, its refusal, and its bytes
+-- a faulty line: its number from 1, and its refusal
 pub record Faulty : Type 0 where
   pub number : ℕ
   pub why : Refusal
-  pub bytes : List ℕ
 
 -- the fault of this line where it has one, else what the lines after it say
-unfoldable pub orLater : Option Refusal → ℕ → List ℕ → Option Faulty → Option Faulty
-orLater none n line later = later
-orLater (some why) n line later = some (record { number = n; why = why; bytes = line })
+unfoldable pub orLater : Option Refusal → ℕ → Option Faulty → Option Faulty
+orLater none n later = later
+orLater (some why) n later = some (record { number = n; why = why })
 
 -- lines in order, and the first faulty line decides (01, Refusals by number)
-unfoldable pub firstFaulty : ℕ → List ℕ → List (List ℕ) → Option Faulty
+unfoldable pub firstFaulty : ℕ → List ℕ → List Reading → Option Faulty
 firstFaulty n ended [] = none
-firstFaulty n ended (l ∷ ls) =
-    let later = firstFaulty (suc n) (endedAfter ended (readLine ofHistories l)) ls in
-    orLater (lineFault n ended l) n l later
+firstFaulty n ended (r ∷ rs) =
+    let later = firstFaulty (suc n) (endedAfter ended r) rs in
+    orLater (lineFault n ended r) n later
 
 -- the event that a line says: an action, or the end of a run
 unfoldable pub eventOf : Reading → History
@@ -77,16 +85,16 @@ eventOf (Good Back job cell) = Ends goes-back job ∷ []
 eventOf (Good (Asks a) job cell) = Does (record { kind = recorded a; job = job; cell = cell }) ∷ []
 
 -- the history that lines say
-unfoldable pub eventsIn : List (List ℕ) → History
+unfoldable pub eventsIn : List Reading → History
 eventsIn [] = []
-eventsIn (l ∷ ls) = eventOf (readLine ofHistories l) ++ eventsIn ls
+eventsIn (r ∷ rs) = eventOf r ++ eventsIn rs
 
 -- a line without its newline (01, Lines: the line handed back)
 unfoldable pub bare : List ℕ → List ℕ
 bare [] = []
 bare (b ∷ l) = pick (eqb b newline) [] (b ∷ bare l)
 
--- what is said of the lines is so by the table: the first faulty one with its bytes, or that there is none
-abbrev pub Tells : List (List ℕ) → Option Faulty → Type 0
-Tells ls none = AllFaultless ls
-Tells ls (some f) = FirstFault ls (f .number) (f .why) × (f .bytes ≡ lineAt ls (f .number))
+-- what is said of the lines is so by the table: the first faulty one, or that there is none
+abbrev pub Tells : List Reading → Option Faulty → Type 0
+Tells rs none = AllFaultless rs
+Tells rs (some f) = FirstFault rs (f .number) (f .why)

@@ -1,4 +1,4 @@
--- The judge's verdict on jobs and their edges, and on a history (01, The judge's rules).
+-- What the judge finds of jobs and their edges, and of a history; the verdict that it says of this is in Judgement.antt (01, The judge's rules).
 use Prim.Native.Nat.{ℕ}
 use mathlib.Core.Bool.{Bool, true, false, cond}
 use mathlib.Core.List.{List, [], _∷_}
@@ -9,24 +9,24 @@ use Rattle.conflict.specs.History.{History, committedPart, commitOrder}
 use Rattle.verdicts.specs.Order.{Edges, orderOf, stuck}
 use Rattle.verdicts.specs.Knot.{knotIn}
 
--- orderly, with an order, or a knot (01, The judge's rules)
-pub data Verdict : Type 0 where
-  orderly : List ℕ → Verdict
-  knotted : List ℕ → Verdict
+-- what is found of a history: orderly, with an order, or a knot (01, The judge's rules)
+pub data Finding : Type 0 where
+  orderly : List ℕ → Finding
+  knotted : List ℕ → Finding
 
--- whether a verdict is orderly
-unfoldable pub isOrderly : Verdict → Bool
+-- whether that is orderly
+unfoldable pub isOrderly : Finding → Bool
 isOrderly (orderly order) = true
 isOrderly (knotted js) = false
 
 -- orderly where no job remains, else the knot among those that do
-unfoldable pub verdictBy : Edges → List ℕ → List ℕ → Verdict
-verdictBy e order [] = orderly order
-verdictBy e order (j ∷ left) = knotted (knotIn e (j ∷ left))
+unfoldable pub findingBy : Edges → List ℕ → List ℕ → Finding
+findingBy e order [] = orderly order
+findingBy e order (j ∷ left) = knotted (knotIn e (j ∷ left))
 
--- the verdict on jobs in ascending order
-unfoldable pub judged : Edges → List ℕ → Verdict
-judged e jobs = verdictBy e (orderOf e jobs) (stuck e jobs)
+-- what is found of jobs in ascending order
+unfoldable pub judged : Edges → List ℕ → Finding
+judged e jobs = findingBy e (orderOf e jobs) (stuck e jobs)
 
 -- one more job in its place among others in ascending order, where it is not there already
 unfoldable pub insert : ℕ → List ℕ → List ℕ
@@ -42,6 +42,6 @@ sorted (j ∷ js) = insert j (sorted js)
 unfoldable pub jobsOf : History → List ℕ
 jobsOf h = sorted (commitOrder h)
 
--- the verdict on a history: on its committed jobs by the edges of its committed part (01, The judge's rules)
-unfoldable pub verdictOf : History → Verdict
-verdictOf h = judged (edge (committedPart h)) (jobsOf h)
+-- what is found of a history: of its committed jobs by the edges of its committed part (01, The judge's rules)
+unfoldable pub findingOf : History → Finding
+findingOf h = judged (edge (committedPart h)) (jobsOf h)

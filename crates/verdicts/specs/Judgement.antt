@@ -12,9 +12,8 @@ use Rattle.terms.specs.Limits.{judgedJobs}
 use Rattle.formats.specs.Split.{linesOf, joined}
 use Rattle.verdicts.specs.declared.verdict.Verdict.{Verdict}
 use Rattle.verdicts.specs.declared.verdict.Verdict.the-variants.{Orderly, Knot, No}
-use Rattle.verdicts.specs.Judged.{orderly, knotted, verdictOf}
-use Rattle.verdicts.specs.Judged as judged
-use Rattle.verdicts.specs.HistoryText.{Faulty, firstFaulty, eventsIn, bare}
+use Rattle.verdicts.specs.Judged.{Finding, orderly, knotted, findingOf}
+use Rattle.verdicts.specs.HistoryText.{readingsOf, lineAt, Faulty, firstFaulty, eventsIn, bare}
 use Rattle.verdicts.specs.LineTable.{linesBefore}
 
 -- what is said, what the buffer then holds, and the line handed back
@@ -27,21 +26,21 @@ pub record Judgement : Type 0 where
 unfoldable pub filled : List ℕ → List ℕ → List ℕ
 filled jobs buffer = jobs ++ drop (length jobs) buffer
 
--- a verdict on a faultless history: its length is said, its jobs fill the buffer, and no line is handed back
-unfoldable pub sayVerdict : List ℕ → judged.Verdict → Judgement
-sayVerdict buffer (orderly order) = record { said = Orderly (length order); order = filled order buffer; line = [] }
-sayVerdict buffer (knotted js) = record { said = Knot (length js); order = filled js buffer; line = [] }
+-- the verdict on a faultless history, by what is found of it: the length is said, the jobs fill the buffer, and no line is handed back
+unfoldable pub sayFinding : List ℕ → Finding → Judgement
+sayFinding buffer (orderly order) = record { said = Orderly (length order); order = filled order buffer; line = [] }
+sayFinding buffer (knotted js) = record { said = Knot (length js); order = filled js buffer; line = [] }
 
 -- a faulty line is handed back without its newline, with its number and refusal, and the buffer stays; else the verdict on what the lines say
-unfoldable pub sayLines : List ℕ → List (List ℕ) → Option Faulty → Judgement
-sayLines buffer ls none = sayVerdict buffer (verdictOf (eventsIn ls))
-sayLines buffer ls (some f) = record { said = No (f .number) (f .why); order = buffer; line = bare (f .bytes) }
+unfoldable pub sayLines : List ℕ → List ℕ → Option Faulty → Judgement
+sayLines buffer text none = sayFinding buffer (findingOf (eventsIn (readingsOf text)))
+sayLines buffer text (some f) = record { said = No (f .number) (f .why); order = buffer; line = bare (lineAt (linesOf text) (f .number)) }
 
 -- the judge: 14 first, with line number 0; then the lines in order (01, Refusals by number)
 unfoldable pub judgementOf : List ℕ → List ℕ → Judgement
 judgementOf text buffer =
     pick (ltb (length buffer) judgedJobs) (record { said = No 0 ShortOrder; order = buffer; line = [] })
-    (sayLines buffer (linesOf text) (firstFaulty 1 [] (linesOf text)))
+    (sayLines buffer text (firstFaulty 1 [] (readingsOf text)))
 
 -- where in the text the part handed back starts: with a refusal of a line behind all lines before it; in all other answers, and for 14, whose line number is 0,
 -- at the text's start (01, Lines: as it stands in the caller's text)

@@ -1,4 +1,4 @@
--- The judge's refusals of a line as the paper's table prints them: each row by itself, then the order in which the rows are tested. Nothing here speaks of the judge (01, Refusals by number).
+-- The judge's refusals of a line as the paper's table prints them: each row by itself, then the order in which the rows are tested. Lines are what the reader made of them; nothing here speaks of bytes or of the judge (01, Refusals by number).
 use Prim.Native.Nat.{ℕ, suc, _-_, _≤_, _<_}
 use mathlib.Core.Path.{_≡_}
 use mathlib.Core.Bool.{Bool, true, false, not, _&&_, _||_}
@@ -10,18 +10,17 @@ use Rattle.laws.specs.Choice.{pick}
 use Rattle.terms.specs.declared.letters.Letter.the-variants.{Begin, Commit, GiveUp, Retry, Back, Asks}
 use Rattle.terms.specs.declared.refusals.Refusal.{Refusal}
 use Rattle.terms.specs.declared.refusals.Refusal.the-variants.{UnknownKind, CellAbove, NotOpen, Waiting, SentBack, AllOpen, NoNumberLeft, Running, BadLine, StartedAtZero, TooManyLines, JobOutside, Ended, ShortOrder, NoRoom, TooLong}
-use Rattle.terms.specs.Letters.{ofHistories, hasCell}
+use Rattle.terms.specs.Letters.{hasCell}
 use Rattle.terms.specs.Limits.{cells, judgedJobs, judgedLines}
 use Rattle.formats.specs.declared.Reading.{Reading}
 use Rattle.formats.specs.declared.Reading.the-variants.{Good, Bad}
-use Rattle.formats.specs.Lines.{readLine}
 
--- line n of the lines, which are numbered from 1
-abbrev pub lineAt : List (List ℕ) → ℕ → List ℕ
-lineAt ls n = getD ls (n - 1) []
+-- how line n reads; lines are numbered from 1
+abbrev pub readingAt : List Reading → ℕ → Reading
+readingAt rs n = getD rs (n - 1) Bad
 
--- the lines before line n
-abbrev pub linesBefore : List (List ℕ) → ℕ → List (List ℕ)
+-- the lines before line n, as they read or as bytes
+abbrev pub linesBefore : {A : Type 0} → List A → ℕ → List A
 linesBefore ls n = take (n - 1) ls
 
 -- 11: history has a line 4,097
@@ -54,17 +53,17 @@ ends j (Good Back job cell) = false
 ends j (Good (Asks a) job cell) = false
 
 -- one of the lines is a c or an a of this job
-unfoldable pub endedIn : ℕ → List (List ℕ) → Bool
+unfoldable pub endedIn : ℕ → List Reading → Bool
 endedIn j [] = false
-endedIn j (l ∷ ls) = ends j (readLine ofHistories l) || endedIn j ls
+endedIn j (r ∷ rs) = ends j r || endedIn j rs
 
 -- 13: line for a job that has committed or given up, on one of the lines before it
-abbrev pub overAlready : List (List ℕ) → Reading → Bool
+abbrev pub overAlready : List Reading → Reading → Bool
 overAlready before Bad = false
 overAlready before (Good l job cell) = endedIn job before
 
 -- the table: when the row of each refusal holds for line n, by the lines before it and by what it reads. The other rows are not a line's, or not the judge's
-unfoldable pub holds : ℕ → List (List ℕ) → Reading → Refusal → Bool
+unfoldable pub holds : ℕ → List Reading → Reading → Refusal → Bool
 holds n before r UnknownKind = false
 holds n before r CellAbove = above r
 holds n before r NotOpen = false
@@ -83,12 +82,12 @@ holds n before r NoRoom = false
 holds n before r TooLong = false
 
 -- the row of this refusal holds for line n of the lines
-abbrev pub holdsAt : List (List ℕ) → ℕ → Refusal → Bool
-holdsAt ls n why = holds n (linesBefore ls n) (readLine ofHistories (lineAt ls n)) why
+abbrev pub holdsAt : List Reading → ℕ → Refusal → Bool
+holdsAt rs n why = holds n (linesBefore rs n) (readingAt rs n) why
 
 -- every line is read back: none is a bad line, none has a cell above 63, and none is for a job that has committed or given up before it (01, refusals 9, 2 and 13)
-abbrev pub AllReadBack : List (List ℕ) → Type 0
-AllReadBack ls = (n : ℕ) → 1 ≤ n → n ≤ length ls → (holdsAt ls n BadLine ≡ false) × (holdsAt ls n CellAbove ≡ false) × (holdsAt ls n Ended ≡ false)
+abbrev pub AllReadBack : List Reading → Type 0
+AllReadBack rs = (n : ℕ) → 1 ≤ n → n ≤ length rs → (holdsAt rs n BadLine ≡ false) × (holdsAt rs n CellAbove ≡ false) × (holdsAt rs n Ended ≡ false)
 
 -- the order of the tests: on one line 11, 9, 12, 2, 13
 unfoldable pub order : List Refusal
@@ -99,25 +98,25 @@ unfoldable pub firstOf : (Refusal → Bool) → List Refusal → Option Refusal
 firstOf f [] = none
 firstOf f (x ∷ xs) = pick (f x) (some x) (firstOf f xs)
 
--- what the table says of a line, by its number, the lines before it and its bytes
-unfoldable pub tableSays : ℕ → List (List ℕ) → List ℕ → Option Refusal
-tableSays n before line = firstOf (holds n before (readLine ofHistories line)) order
+-- what the table says of a line, by its number, the lines before it and how it reads
+unfoldable pub tableSays : ℕ → List Reading → Reading → Option Refusal
+tableSays n before r = firstOf (holds n before r) order
 
 -- the refusal is due for line n: it is the first whose row holds
-abbrev pub Due : List (List ℕ) → ℕ → Refusal → Type 0
-Due ls n why = tableSays n (linesBefore ls n) (lineAt ls n) ≡ some why
+abbrev pub Due : List Reading → ℕ → Refusal → Type 0
+Due rs n why = tableSays n (linesBefore rs n) (readingAt rs n) ≡ some why
 
 -- line n is faultless: no row holds
-abbrev pub Faultless : List (List ℕ) → ℕ → Type 0
-Faultless ls n = tableSays n (linesBefore ls n) (lineAt ls n) ≡ none
+abbrev pub Faultless : List Reading → ℕ → Type 0
+Faultless rs n = tableSays n (linesBefore rs n) (readingAt rs n) ≡ none
 
 -- lines in order, and the first faulty line decides: there is a line n, those before it are faultless, and for it the refusal is due
-pub record FirstFault (ls : List (List ℕ)) (n : ℕ) (why : Refusal) : Type 0 where
+pub record FirstFault (rs : List Reading) (n : ℕ) (why : Refusal) : Type 0 where
   pub from : 1 ≤ n
-  pub to : n ≤ length ls
-  pub before : (m : ℕ) → 1 ≤ m → m < n → Faultless ls m
-  pub due : Due ls n why
+  pub to : n ≤ length rs
+  pub before : (m : ℕ) → 1 ≤ m → m < n → Faultless rs m
+  pub due : Due rs n why
 
 -- all lines are faultless
-abbrev pub AllFaultless : List (List ℕ) → Type 0
-AllFaultless ls = (n : ℕ) → 1 ≤ n → n ≤ length ls → Faultless ls n
+abbrev pub AllFaultless : List Reading → Type 0
+AllFaultless rs = (n : ℕ) → 1 ≤ n → n ≤ length rs → Faultless rs n

@@ -28,7 +28,7 @@ same-length c = search needs
 returns : tie.Need-returns
 returns c =
     let j = c .before .before .before .before .judgement .ensures in
-    (j .place, part-starts _ _ _ _ _ j, j .order-is, c .before .in-numbers .ensures ∙ ap inNumbers (j .said-is))
+    (j .place, (part-starts _ _ _ _ _ j, (j .order-is, c .before .in-numbers .ensures ∙ ap inNumbers (j .said-is))))
 
 pub judge-spec : {M : Type 1} → statement M
 judge-spec =
