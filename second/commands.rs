@@ -1,0 +1,331 @@
+//! The commands that read standard input, and the steps drawn for the bench.
+
+use crate::desk::{history_of, Answer, Desk, Outcome};
+use crate::judge::{judge, Verdict};
+use crate::lines::{put_event, put_field, put_outcome, put_record, read_history, read_request, words_of};
+use crate::words::*;
+use std::io::{self, ErrorKind, Read, Write};
+
+/// Bytes of a line that are kept from one read to the next. No good line is as long, so
+/// a longer one, cut here and without its newline, is the same bad line.
+pub const KEPT: usize = 64;
+pub const READ_AT_ONCE: usize = 1 << 17;
+pub const WRITE_AT_ONCE: usize = 1 << 16;
+
+/// docs/DECISIONS.md, "A read that fails": it ends the input, and the records so far stand.
+pub fn read_some(input: &mut impl Read, buffer: &mut [u8]) -> usize {
+    loop {
+        match input.read(buffer) {
+            Ok(count) => return count,
+            Err(error) if error.kind() == ErrorKind::Interrupted => {}
+            Err(_) => return 0,
+        }
+    }
+}
+
+pub fn keep(kept: &mut Vec<u8>, bytes: &[u8]) {
+    let room = (KEPT - kept.len()).min(bytes.len());
+    kept.extend_from_slice(&bytes[..room]);
+}
+
+pub fn write_out(output: &mut impl Write, out: &mut Vec<u8>) -> io::Result<()> {
+    output.write_all(out)?;
+    output.flush()?;
+    out.clear();
+    Ok(())
+}
+
+/// Gives each line of the input to `work`, which puts its records, until `work` says
+/// false. All records of complete lines are written before more input is awaited.
+/// docs/DECISIONS.md, "What a line is": bytes after the last newline are one more line.
+pub fn each_line(
+    mut input: impl Read,
+    output: &mut impl Write,
+    mut work: impl FnMut(&[u8], &mut Vec<u8>) -> bool,
+) -> io::Result<()> {
+    let mut buffer = vec![0; READ_AT_ONCE];
+    let mut kept = Vec::with_capacity(KEPT);
+    let mut out = Vec::new();
+    loop {
+        write_out(output, &mut out)?;
+        let count = read_some(&mut input, &mut buffer);
+        if count == 0 {
+            break;
+        }
+        let mut rest = &buffer[..count];
+        while let Some(end) = rest.iter().position(|&byte| byte == b'\n') {
+            let (line, after) = rest.split_at(end + 1);
+            rest = after;
+            let more = if kept.is_empty() {
+                work(line, &mut out)
+            } else {
+                keep(&mut kept, line);
+                let more = work(&kept, &mut out);
+                kept.clear();
+                more
+            };
+            if !more {
+                return write_out(output, &mut out);
+            }
+            if out.len() >= WRITE_AT_ONCE {
+                write_out(output, &mut out)?;
+            }
+        }
+        keep(&mut kept, rest);
+    }
+    if !kept.is_empty() {
+        work(&kept, &mut out);
+    }
+    write_out(output, &mut out)
+}
+
+/// 01, What is delivered: the desk programs, started at 1, which read 1,000,000 lines and
+/// stop. `put` puts the records of one step.
+pub fn desk_program(
+    input: impl Read,
+    output: &mut impl Write,
+    put: impl Fn(&mut Vec<u8>, u64, Line, &Outcome),
+) -> io::Result<()> {
+    let mut desk = Desk::start(1).expect("1 is a number to start at");
+    let mut number = 0;
+    each_line(input, output, |line, out| {
+        number += 1;
+        match read_request(line) {
+            Some(asked) => put(out, number, asked, &desk.step(asked)),
+            None => {
+                let nothing = Line { letter: BEGIN, job: 0, cell: 0 };
+                put(out, number, nothing, &Outcome::alone(Answer::No(BAD_LINE)));
+            }
+        }
+        number < DESK_LINES
+    })
+}
+
+/// The program that prints the desk's answers.
+pub fn answers(input: impl Read, output: &mut impl Write) -> io::Result<()> {
+    desk_program(input, output, |out, number, _, outcome| put_outcome(out, number, outcome))
+}
+
+/// The program that prints the desk's history.
+pub fn history(input: impl Read, output: &mut impl Write) -> io::Result<()> {
+    desk_program(input, output, |out, _, asked, outcome| {
+        for event in history_of(asked, outcome) {
+            put_event(out, event);
+        }
+    })
+}
+
+/// 01, The judge's rules, last paragraph: the verdict program. docs/DECISIONS.md, "A read that
+/// fails": there is no verdict on a history that could not be read whole.
+pub fn verdict(input: impl Read, output: &mut impl Write) -> io::Result<()> {
+    let mut text = Vec::new();
+    if input.take(HISTORY_BYTES as u64 + 1).read_to_end(&mut text).is_ok() {
+        output.write_all(&verdict_line(&text))?;
+    }
+    output.flush()
+}
+
+/// 01, The judge's rules, last paragraph: 16 is tested before anything else.
+pub fn judge_within<'a>(text: &'a [u8], order: &mut [u8]) -> Verdict<'a> {
+    if text.len() > HISTORY_BYTES {
+        Verdict::No { line: 0, refusal: TEXT_LONG, text: b"" }
+    } else {
+        judge(text, order)
+    }
+}
+
+pub fn verdict_line(text: &[u8]) -> Vec<u8> {
+    let mut order = [0; HISTORY_JOBS];
+    let verdict = judge_within(text, &mut order);
+    let mut out = Vec::new();
+    put_verdict(&mut out, &verdict, &order);
+    out
+}
+
+pub fn put_verdict(out: &mut Vec<u8>, verdict: &Verdict, order: &[u8]) {
+    let (word, numbers): (&str, Vec<u64>) = match *verdict {
+        Verdict::Orderly(count) => ("orderly", order[..count].iter().map(|&job| u64::from(job)).collect()),
+        Verdict::Knot(count) => ("knot", order[..count].iter().map(|&job| u64::from(job)).collect()),
+        Verdict::No { line, refusal, .. } => ("no", vec![line as u64, u64::from(refusal)]),
+    };
+    out.extend_from_slice(word.as_bytes());
+    for number in numbers {
+        put_field(out, number);
+    }
+    out.push(b'\n');
+}
+
+/// The most places that a case lends, and what its header begins with.
+pub const CASE_PLACES: usize = 300;
+pub const CASE_MARK: u8 = b'=';
+
+/// The judge by cases. A line that begins with `=` is a header: its digits tell how many
+/// places are lent, 300 at most, and the lines up to the next header are the history. What
+/// stands before the first header, and a header without its newline, is no case. A read that fails
+/// leaves the case under way without a verdict.
+pub fn cases(mut input: impl Read, output: &mut impl Write) -> io::Result<()> {
+    let mut all = Vec::new();
+    let whole = input.read_to_end(&mut all).is_ok();
+    let mut case: Option<(usize, Vec<u8>)> = None;
+    let mut out = Vec::new();
+    for line in all.split_inclusive(|&byte| byte == b'\n') {
+        if line[0] == CASE_MARK {
+            put_case(&mut out, case.take());
+            if line.ends_with(b"\n") {
+                case = Some((places_of(line), Vec::new()));
+            }
+        } else if let Some((_, text)) = &mut case {
+            text.extend_from_slice(line);
+        }
+    }
+    if whole {
+        put_case(&mut out, case);
+    }
+    write_out(output, &mut out)
+}
+
+pub fn places_of(header: &[u8]) -> usize {
+    let digits = header.iter().filter(|byte| byte.is_ascii_digit());
+    digits.fold(0, |places, &digit| (10 * places + usize::from(digit - b'0')).min(CASE_PLACES))
+}
+
+/// The verdict's line, and the line handed back where there is one.
+pub fn put_case(out: &mut Vec<u8>, case: Option<(usize, Vec<u8>)>) {
+    let Some((places, text)) = case else {
+        return;
+    };
+    let mut order = vec![0; places];
+    let verdict = judge_within(&text, &mut order);
+    put_verdict(out, &verdict, &order);
+    if let Verdict::No { line: 1.., text, .. } = verdict {
+        out.extend_from_slice(b"line\t");
+        out.extend_from_slice(text);
+        out.push(b'\n');
+    }
+}
+
+/// For tests of the text layer: what the two line readers say of each line.
+pub fn lines(input: impl Read, output: &mut impl Write) -> io::Result<()> {
+    let mut number = 0;
+    each_line(input, output, |line, out| {
+        number += 1;
+        put_request_reading(out, number, line);
+        put_history_reading(out, number, line);
+        true
+    })
+}
+
+pub fn put_request_reading(out: &mut Vec<u8>, number: u64, line: &[u8]) {
+    let Some(read) = read_request(line) else {
+        return put_record(out, number, "no", u64::from(BAD_LINE));
+    };
+    put_record(out, number, "go", u64::from(read.letter));
+    if has_job(read.letter) {
+        put_record(out, number, "wait", u64::from(read.job));
+    }
+    if has_cell(read.letter) {
+        put_record(out, number, "back", u64::from(read.cell));
+    }
+}
+
+pub fn put_history_reading(out: &mut Vec<u8>, number: u64, line: &[u8]) {
+    match read_history(line) {
+        Some(event) => put_event(out, event),
+        None => put_record(out, number, "wake", u64::from(BAD_LINE)),
+    }
+}
+
+/// For tests of the desk by numbers: one step a line, `kind job cell`. True if every line
+/// was such a step; the first that was not ends it.
+pub fn steps(first: u32, input: impl Read, output: &mut impl Write) -> io::Result<bool> {
+    let mut desk = match Desk::start(first) {
+        Ok(desk) => desk,
+        Err(refusal) => {
+            let mut out = b"no".to_vec();
+            put_field(&mut out, u64::from(refusal));
+            out.push(b'\n');
+            write_out(output, &mut out)?;
+            return Ok(true);
+        }
+    };
+    let mut all_steps = true;
+    each_line(input, output, |line, out| {
+        let Some(asked) = read_step(line) else {
+            all_steps = false;
+            return false;
+        };
+        put_step(out, &desk.step(asked));
+        true
+    })?;
+    Ok(all_steps)
+}
+
+pub fn read_step(line: &[u8]) -> Option<Line> {
+    let line = std::str::from_utf8(line.strip_suffix(b"\n").unwrap_or(line)).ok()?;
+    let mut numbers = line.split(' ');
+    let letter = numbers.next()?.parse().ok()?;
+    let job = numbers.next()?.parse().ok()?;
+    let cell = numbers.next()?.parse().ok()?;
+    match numbers.next() {
+        Some(_) => None,
+        None => Some(Line { letter, job, cell }),
+    }
+}
+
+pub fn put_step(out: &mut Vec<u8>, outcome: &Outcome) {
+    let (word, number) = words_of(outcome.answer);
+    out.extend_from_slice(word.as_bytes());
+    put_field(out, number);
+    for wake in &outcome.wakes {
+        out.extend_from_slice(b"\twake");
+        put_field(out, u64::from(wake.job));
+        put_field(out, u64::from(wake.cell));
+        put_field(out, u64::from(wake.letter));
+    }
+    out.push(b'\n');
+}
+
+/// For the bench: 24 hands, each with a job of its own, and a mix of steps drawn from a fixed
+/// sequence (x becomes 1,103,515,245 x + 12,345 modulo 2^32, and a draw is its upper half modulo a
+/// limit): hand, kind, cell. A hand without a job begins one, a hand whose job was sent back retries;
+/// of 32 other steps 15 read, 6 write, 4 increment, 5 commit, 1 gives up and 1 retries. Tells how many
+/// went, waited, went back and were refused, and how many woke.
+pub fn mix(count: u32) -> [usize; 5] {
+    let mut x: u32 = 1;
+    let mut draw = |limit: u32| {
+        let drawn = (x >> 16) % limit;
+        x = x.wrapping_mul(1_103_515_245).wrapping_add(12_345);
+        drawn
+    };
+    let mut desk = Desk::start(1).expect("1 is a first number");
+    let mut jobs = [0; 24];
+    let mut backs = [false; 24];
+    let mut tally = [0; 5];
+    for _ in 0..count {
+        let hand = draw(24) as usize;
+        let letter = match draw(32) {
+            _ if jobs[hand] == 0 => BEGIN,
+            _ if backs[hand] => RETRY,
+            0..=14 => READ,
+            15..=20 => WRITE,
+            21..=24 => INCREMENT,
+            25..=29 => COMMIT,
+            30 => GIVE_UP,
+            _ => RETRY,
+        };
+        let outcome = desk.step(Line { letter, job: jobs[hand], cell: draw(64) });
+        let place = match outcome.answer {
+            Answer::Go(job) => {
+                jobs[hand] = if letter == COMMIT || letter == GIVE_UP { 0 } else { job };
+                0
+            }
+            Answer::Wait(_) => 1,
+            Answer::Back(_) => 2,
+            Answer::No(_) => 3,
+        };
+        backs[hand] = place == 2;
+        tally[place] += 1;
+        tally[4] += outcome.wakes.len();
+    }
+    tally
+}

@@ -1,0 +1,148 @@
+//! The judge: a history text to an order, a knot or a refusal.
+
+use crate::lines::read_history;
+use crate::words::*;
+
+/// 01, The judge's rules: the two verdicts with the count of places filled, or the first
+/// faulty line: its number, the refusal and the line as it stands, without its newline.
+#[derive(PartialEq, Debug)]
+pub enum Verdict<'a> {
+    Orderly(usize),
+    Knot(usize),
+    No { line: usize, refusal: u8, text: &'a [u8] },
+}
+
+/// What the judge keeps of a history: the actions of runs not sent back, in order, and
+/// for each job whether it has committed or given up.
+pub struct History {
+    pub actions: Vec<Line>,
+    pub committed: [bool; HISTORY_JOBS + 1],
+    pub ended: [bool; HISTORY_JOBS + 1],
+}
+
+impl History {
+    pub fn empty() -> History {
+        let no_job = [false; HISTORY_JOBS + 1];
+        History { actions: Vec::new(), committed: no_job, ended: no_job }
+    }
+
+    /// 01, The judge's rules: the actions after the last `k` count.
+    pub fn take(&mut self, event: Line) {
+        match event.letter {
+            SENT_BACK => self.actions.retain(|action| action.job != event.job),
+            COMMIT => self.committed[event.job as usize] = true,
+            GIVE_UP => {}
+            _ => self.actions.push(event),
+        }
+        self.ended[event.job as usize] |= matches!(event.letter, COMMIT | GIVE_UP);
+    }
+}
+
+/// 01, Refusals by number and The judge's rules: the whole judge.
+pub fn judge<'a>(text: &'a [u8], order: &mut [u8]) -> Verdict<'a> {
+    if order.len() < HISTORY_JOBS {
+        return Verdict::No { line: 0, refusal: BUFFER_SHORT, text: b"" };
+    }
+    let mut history = History::empty();
+    for (before, line) in text.split_inclusive(|&byte| byte == b'\n').enumerate() {
+        match judge_line(&history, before + 1, line) {
+            Ok(event) => history.take(event),
+            Err(refusal) => {
+                let text = line.strip_suffix(b"\n").unwrap_or(line);
+                return Verdict::No { line: before + 1, refusal, text };
+            }
+        }
+    }
+    decide(&history, order)
+}
+
+/// 01, Refusals by number: "on one line 11, 9, 12, 2, 13".
+pub fn judge_line(history: &History, number: usize, line: &[u8]) -> Result<Line, u8> {
+    if number > HISTORY_LINES {
+        return Err(LINE_TOO_MANY);
+    }
+    let event = read_history(line).ok_or(BAD_LINE)?;
+    if event.job < 1 || event.job as usize > HISTORY_JOBS {
+        return Err(JOB_OUTSIDE);
+    }
+    if has_cell(event.letter) && event.cell as usize >= CELLS {
+        return Err(NO_SUCH_CELL);
+    }
+    if history.ended[event.job as usize] {
+        return Err(JOB_ENDED);
+    }
+    Ok(event)
+}
+
+/// `edges[from][to]`.
+pub type Edges = Vec<[bool; HISTORY_JOBS + 1]>;
+
+/// 01, The judge's rules: in the committed part, an earlier action gives an edge from its
+/// job to that of a later, conflicting one.
+pub fn edges_of(history: &History) -> Edges {
+    let mut cells: Vec<Vec<Line>> = vec![Vec::new(); CELLS];
+    for action in &history.actions {
+        if history.committed[action.job as usize] {
+            cells[action.cell as usize].push(*action);
+        }
+    }
+    let mut edges = vec![[false; HISTORY_JOBS + 1]; HISTORY_JOBS + 1];
+    for actions in &cells {
+        for (place, later) in actions.iter().enumerate() {
+            for earlier in &actions[..place] {
+                if earlier.job != later.job && conflict(earlier.letter, later.letter) {
+                    edges[earlier.job as usize][later.job as usize] = true;
+                }
+            }
+        }
+    }
+    edges
+}
+
+/// 01, The judge's rules: take away, again and again, the smallest job without a remaining
+/// predecessor. All gone: that is the order. Otherwise what remains holds a knot.
+pub fn decide<'a>(history: &History, order: &mut [u8]) -> Verdict<'a> {
+    let edges = edges_of(history);
+    let mut remaining = history.committed;
+    let mut predecessors = [0usize; HISTORY_JOBS + 1];
+    for row in &edges {
+        for job in 1..=HISTORY_JOBS {
+            predecessors[job] += usize::from(row[job]);
+        }
+    }
+    let mut taken = Vec::new();
+    while let Some(job) = (1..=HISTORY_JOBS).find(|&job| remaining[job] && predecessors[job] == 0) {
+        remaining[job] = false;
+        taken.push(job as u8);
+        for later in 1..=HISTORY_JOBS {
+            predecessors[later] -= usize::from(edges[job][later]);
+        }
+    }
+    if remaining.contains(&true) {
+        let cycle = knot_of(&edges, &remaining);
+        order[..cycle.len()].copy_from_slice(&cycle);
+        Verdict::Knot(cycle.len())
+    } else {
+        order[..taken.len()].copy_from_slice(&taken);
+        Verdict::Orderly(taken.len())
+    }
+}
+
+/// 01, The judge's rules, "Knot": from the smallest remaining job to the smallest remaining
+/// predecessor until a job comes again; the cycle along its edges, from its smallest.
+pub fn knot_of(edges: &Edges, remaining: &[bool]) -> Vec<u8> {
+    let smallest =
+        |may: &dyn Fn(usize) -> bool| (1..=HISTORY_JOBS).find(|&job| remaining[job] && may(job)).unwrap();
+    let mut walk = vec![smallest(&|_| true)];
+    loop {
+        let here = walk[walk.len() - 1];
+        let before = smallest(&|job| edges[job][here]);
+        if let Some(place) = walk.iter().position(|&job| job == before) {
+            let mut cycle: Vec<u8> = walk[place..].iter().rev().map(|&job| job as u8).collect();
+            let first = (0..cycle.len()).min_by_key(|&at| cycle[at]).unwrap();
+            cycle.rotate_left(first);
+            return cycle;
+        }
+        walk.push(before);
+    }
+}

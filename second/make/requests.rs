@@ -1,0 +1,289 @@
+//! Requests, as lines and as numbers, by a desk that runs beside.
+
+use super::lines::{odd_line, spoil_line};
+use super::Chance;
+use crate::desk::{Cell, Desk, Job, Status};
+use crate::lines::put_fields;
+use crate::words::*;
+
+/// How requests are chosen for some tens of steps; shares are percents.
+pub struct Mix {
+    pub hot: Vec<u32>,
+    pub hot_share: usize,
+    pub jobs: usize,
+    pub begin: usize,
+    pub reads: usize,
+    pub writes: usize,
+    pub end: usize,
+    pub commit: usize,
+    pub leave: usize,
+    pub seek_wait: usize,
+    pub seek_promotion: usize,
+    pub prod: usize,
+}
+
+/// Makes requests that mostly make sense, by running a desk beside.
+pub struct Maker {
+    pub chance: Chance,
+    pub desk: Desk,
+    pub mix: Mix,
+    pub mix_left: usize,
+    pub hottest: bool,
+    pub spoil: usize,
+    pub last_begin: u64,
+    pub hoard: bool,
+}
+
+impl Maker {
+    /// `last_begin` is the largest number the maker asks to be given.
+    pub fn new(seed: u64, first: u32, last_begin: u32, hottest: bool) -> Maker {
+        let mut chance = Chance(seed);
+        let spoil = chance.of(&[0, 2, 5, 10, 20, 30]);
+        let hoard = chance.percent(50);
+        let mix = Maker::mix(&mut chance, hottest);
+        let desk = Desk::start(first.max(1)).expect("not 0");
+        Maker { chance, desk, mix, mix_left: 60, hottest, spoil, last_begin: u64::from(last_begin), hoard }
+    }
+
+    pub fn mix(chance: &mut Chance, hottest: bool) -> Mix {
+        let heat = if hottest { 0 } else { chance.below(4) };
+        let hot_cells = match heat {
+            0 => chance.between(1, 3),
+            1 => chance.between(2, 5),
+            2 => chance.between(4, 12),
+            _ => chance.between(12, 64),
+        };
+        let mut cells: Vec<u32> = (0..CELLS as u32).collect();
+        chance.shuffle(&mut cells);
+        cells.truncate(hot_cells);
+        cells.push(chance.of(&[0, 63]));
+        let full = chance.percent(45);
+        Mix {
+            hot: cells,
+            hot_share: chance.of(&[80, 95, 100]),
+            // 33 asks for one more than there are places
+            jobs: match chance.below(3) {
+                _ if full => PLACES + 1,
+                0 => chance.between(2, 5),
+                1 => chance.between(4, 12),
+                _ => chance.between(8, 31),
+            },
+            begin: if full { 60 } else { chance.of(&[10, 25, 50]) },
+            reads: chance.of(&[10, 35, 50, 70]),
+            writes: chance.of(&[10, 15, 20, 30]),
+            end: chance.of(&[3, 8, 15, 25]),
+            commit: chance.of(&[50, 80, 95]),
+            leave: chance.of(&[5, 15, 30]),
+            seek_wait: chance.of(&[0, 20, 40]),
+            seek_promotion: chance.of(&[0, 10, 25]),
+            prod: if hottest { 2 } else { chance.of(&[2, 8, 15]) },
+        }
+    }
+
+    /// The next request, by numbers a desk may be asked for in good faith, or now and
+    /// then one that asks for a refusal.
+    pub fn choose(&mut self) -> Line {
+        if self.mix_left == 0 {
+            self.mix = Maker::mix(&mut self.chance, self.hottest);
+            self.mix_left = self.chance.between(30, 150);
+        }
+        self.mix_left -= 1;
+        if self.chance.percent(self.mix.prod) {
+            return self.prod();
+        }
+        let open = self.desk.jobs.len();
+        let begin = Line { letter: BEGIN, job: 0, cell: 0 };
+        let share = if open == PLACES { 4 } else { self.mix.begin };
+        let wanted = if self.hoards() { PLACES } else { self.mix.jobs };
+        if self.may_begin() && open < wanted && (open < 2 || self.chance.percent(share)) {
+            return begin;
+        }
+        if self.desk.next > u64::from(LAST_NUMBER) && self.chance.percent(3) {
+            return begin;
+        }
+        for _ in 0..20 {
+            if let Some(asked) = self.sensible() {
+                return asked;
+            }
+        }
+        if self.may_begin() {
+            begin
+        } else {
+            self.prod()
+        }
+    }
+
+    pub fn may_begin(&self) -> bool {
+        self.desk.next <= self.last_begin
+    }
+
+    /// Some makers keep every job open once the numbers left just fill the places, so that
+    /// all 32 are open when the numbers are out.
+    pub fn hoards(&self) -> bool {
+        let left = (self.last_begin + 1).saturating_sub(self.desk.next);
+        self.hoard && left > 0 && self.desk.jobs.len() as u64 + left <= PLACES as u64
+    }
+
+    /// With no begin left, closing is rare and the last job stays open.
+    pub fn may_close(&mut self) -> bool {
+        if self.may_begin() {
+            !self.hoards()
+        } else {
+            self.desk.jobs.len() > 1 && self.chance.percent(20)
+        }
+    }
+
+    /// A request of some open job, as its status allows; None to look at another.
+    pub fn sensible(&mut self) -> Option<Line> {
+        let open = self.desk.jobs.len();
+        if open == 0 {
+            return None;
+        }
+        let Job { number: job, status } = self.desk.jobs[self.chance.below(open)];
+        let letter = match status {
+            Status::Running if self.chance.percent(self.mix.end) && self.may_close() => {
+                if self.chance.percent(self.mix.commit) {
+                    COMMIT
+                } else {
+                    GIVE_UP
+                }
+            }
+            Status::Running => return Some(Line { letter: self.action(), job, cell: self.cell_for(job) }),
+            Status::Waiting if self.chance.percent(self.mix.leave) && self.may_close() => GIVE_UP,
+            Status::SentBack if self.chance.percent(self.mix.leave / 2) && self.may_close() => GIVE_UP,
+            Status::SentBack if self.chance.percent(60) => RETRY,
+            _ => return None,
+        };
+        Some(Line { letter, job, cell: 0 })
+    }
+
+    pub fn action(&mut self) -> u8 {
+        let drawn = self.chance.below(100);
+        if drawn < self.mix.reads {
+            READ
+        } else if drawn < self.mix.reads + self.mix.writes {
+            WRITE
+        } else {
+            INCREMENT
+        }
+    }
+
+    pub fn cell(&mut self) -> u32 {
+        if self.chance.percent(self.mix.hot_share) {
+            self.chance.of(&self.mix.hot)
+        } else {
+            self.chance.below(CELLS) as u32
+        }
+    }
+
+    /// A cell to ask for; at times one whose holders and waiters are all younger, or one
+    /// that the job holds in S or I.
+    pub fn cell_for(&mut self, job: u32) -> u32 {
+        let younger = |cell: &Cell| {
+            let others = cell.holders.iter().any(|holder| holder.job != job);
+            others && cell.older_than_holders(job) && cell.older_than_waiters(job)
+        };
+        let weak = |cell: &Cell| cell.held_by(job).is_some_and(|mode| mode != Mode::X);
+        let mut found = Vec::new();
+        if self.chance.percent(self.mix.seek_wait) {
+            found = self.cells_that(younger);
+        } else if self.chance.percent(self.mix.seek_promotion) {
+            found = self.cells_that(weak);
+        }
+        if found.is_empty() {
+            self.cell()
+        } else {
+            self.chance.of(&found)
+        }
+    }
+
+    pub fn cells_that(&self, fit: impl Fn(&Cell) -> bool) -> Vec<u32> {
+        (0..CELLS as u32).filter(|&number| fit(&self.desk.cells[number as usize])).collect()
+    }
+
+    /// A request that asks for one of the refusals 2, 3, 4, 5, 6, 8, if the desk has a job for it.
+    pub fn prod(&mut self) -> Line {
+        let any = self.chance.of(b"catrwi");
+        let (letter, status) = match self.chance.below(6) {
+            0 => (self.action(), Some(Status::Running)),
+            1 => (any, Some(Status::Waiting)),
+            2 => (any, Some(Status::SentBack)),
+            3 => (RETRY, Some(Status::Running)),
+            4 if self.desk.refusal_of_begin().is_some() => (BEGIN, None),
+            _ => (any, None),
+        };
+        let jobs: Vec<u32> = self
+            .desk
+            .jobs
+            .iter()
+            .filter(|open| Some(open.status) == status)
+            .map(|open| open.number)
+            .collect();
+        let job = if jobs.is_empty() { self.stranger() } else { self.chance.of(&jobs) };
+        let closing = matches!(letter, COMMIT | GIVE_UP);
+        let letter = if closing && !self.may_close() { READ } else { letter };
+        let cell = if self.chance.percent(70) { self.chance.of(&[64, 65, 99]) } else { self.cell() };
+        Line { letter, job, cell }
+    }
+
+    /// A job that is most likely not open.
+    pub fn stranger(&mut self) -> u32 {
+        let next = self.desk.next as u32;
+        let past = self.chance.below(40) as u32;
+        self.chance.of(&[
+            0,
+            LAST_NUMBER,
+            next,
+            next.wrapping_add(1),
+            next.wrapping_sub(past),
+            past,
+            256,
+            65_536,
+        ])
+    }
+
+    /// For numbers: the request, now and then spoilt, with anything in unused fields.
+    pub fn choose_step(&mut self) -> Line {
+        let mut asked = self.choose();
+        if self.chance.percent(self.spoil) {
+            self.spoil_step(&mut asked);
+        }
+        if !has_cell(asked.letter) {
+            asked.cell = self.chance.of(&[0, 5, 63, 64, LAST_NUMBER]);
+        }
+        if !has_job(asked.letter) {
+            asked.job = self.chance.of(&[0, 1, asked.job, LAST_NUMBER]);
+        }
+        asked
+    }
+
+    pub fn spoil_step(&mut self, asked: &mut Line) {
+        let anything = self.chance.number() as u32;
+        match self.chance.below(6) {
+            0 => asked.letter = self.chance.below(256) as u8,
+            1 => asked.letter = self.chance.of(&[0, 1, b'k', b'B', b'R', b'C', asked.letter ^ 128, 255]),
+            2 => {
+                asked.cell = self.chance.of(&[64, 65, 127, 128, 255, 256, 320, 65_536, 1 << 31, LAST_NUMBER])
+            }
+            3 => {
+                asked.cell = self.chance.of(&[anything, asked.cell.wrapping_add(256), asked.cell ^ (1 << 31)])
+            }
+            4 => asked.job = self.chance.of(&[anything, asked.job.wrapping_add(256), asked.job ^ (1 << 31)]),
+            _ => asked.job = self.stranger(),
+        }
+    }
+
+    /// For lines: the request as text without its newline, now and then spoilt.
+    pub fn choose_line(&mut self) -> Vec<u8> {
+        let mut line = Vec::new();
+        put_fields(&mut line, self.choose());
+        if self.chance.percent(self.spoil) {
+            line = if self.chance.percent(80) {
+                spoil_line(&mut self.chance, &line)
+            } else {
+                odd_line(&mut self.chance)
+            };
+        }
+        line
+    }
+}
