@@ -41,6 +41,15 @@ field there n = pick there (tab ∷ decimal n) []
 unfoldable pub lineRecord : Letter → ℕ → ℕ → List ℕ
 lineRecord l job cell = byteOf l ∷ field (hasJob l) job ++ field (hasCell l) cell ++ newline ∷ []
 
+-- numbers, a tab before each
+unfoldable pub tabbed : List ℕ → List ℕ
+tabbed [] = []
+tabbed (n ∷ ns) = tab ∷ decimal n ++ tabbed ns
+
+-- a line of a word and numbers: the verdict (01, The judge's rules)
+unfoldable pub wordLine : Word → List ℕ → List ℕ
+wordLine w ns = spelt w ++ tabbed ns ++ newline ∷ []
+
 -- a record fits from the place given: it ends within the buffer, so the place is not past the end either (01, refusal 15)
 unfoldable pub fits : List ℕ → ℕ → List ℕ → Bool
 fits buffer at bytes = leb (at + length bytes) (length buffer)

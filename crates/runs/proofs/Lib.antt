@@ -19,4 +19,5 @@ pub mod StartedTexts
 pub mod EndToEnd
 pub mod BadLines
 pub mod FromOne
-pub mod VerdictLine
+pub mod MillionLines
+pub mod AnswerBytes
