@@ -12,7 +12,7 @@ use Rattle.laws.specs.Choice.{by-test}
 use Rattle.terms.specs.Words.{newline}
 use Rattle.formats.specs.declared.splitter.Splitter.{Splitter}
 use Rattle.formats.specs.declared.splitter.Cut.{Cut}
-use Rattle.formats.specs.Split.{kept, following, taken, underWay, through, used, cutOf}
+use Rattle.formats.specs.Split.{kept, following, taken, underWay, through, used, part, cutOf}
 
 -- a line is no longer than the text
 pub used-within : (t : List ℕ) → used t ≤ length t
@@ -58,10 +58,6 @@ begun s (b ∷ t) e h = rw (first-byte s b e)
 going : (s : Splitter) → s .ended ≡ false → s ≡ underWay (s .kept) (s .len) (s .line)
 unfolding underWay
 going s e = λ i. record { kept = s .kept; len = s .len; ended = e i; line = s .line }
-
--- the bytes from a place to another
-abbrev part : List ℕ → ℕ → ℕ → List ℕ
-part t from next = take (next - from) (drop from t)
 
 module _ (t : List ℕ) (from next : ℕ) (h : next ≡ from + used (drop from t)) where
   -- nothing is left of the chunk

@@ -1,6 +1,6 @@
 -- The lines of a text are what they should be: joined they are the text, each is one line, all but the last have a newline; and no other lines are.
 -- Assumes nothing.
-use Prim.Native.Nat.{ℕ, _+_, _<_}
+use Prim.Native.Nat.{ℕ, _+_, _-_, _<_}
 use mathlib.Core.Path.{_≡_, refl, ap, _∙_}
 use mathlib.Core.Bool.{Bool, true, false, not, _&&_}
 use mathlib.Core.List.{List, [], _∷_, _++_, dropLast}
@@ -11,7 +11,7 @@ use lib.ListN.{length, take, drop, length-drop}
 use lib.Seq.{drop-drop}
 use Rattle.laws.specs.Choice.{by-test, not-both}
 use Rattle.terms.specs.Words.{newline}
-use Rattle.formats.specs.Split.{inFront, linesOf, used, joined, oneLine, hasNewline, every}
+use Rattle.formats.specs.Split.{inFront, linesOf, used, part, joined, oneLine, hasNewline, every}
 
 -- a byte in front of the first line is in front of the text
 joined-front : (b : ℕ) (ls : List (List ℕ)) → joined (inFront b ls) ≡ b ∷ joined ls
@@ -112,3 +112,9 @@ lines-step (b ∷ c ∷ t) h =
 pub lines-at : (t : List ℕ) (from : ℕ) → from < length t →
     linesOf (drop from t) ≡ take (used (drop from t)) (drop from t) ∷ linesOf (drop (from + used (drop from t)) t)
 lines-at t from h = lines-step (drop from t) (omega (arith, length-drop from t)) ∙ rw drop-drop
+
+-- and where the place after the line is known: the lines from a place on are the part up to there and those after it
+pub next-line : (t : List ℕ) (from to : ℕ) → from < length t → to ≡ from + used (drop from t) → linesOf (drop from t) ≡ part t from to ∷ linesOf (drop to t)
+next-line t from to h e =
+    let u : to - from ≡ used (drop from t) = omega arith in
+    rw (u, e) (lines-at t from h)

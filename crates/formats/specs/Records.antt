@@ -3,7 +3,7 @@ use Prim.Native.Nat.{ℕ, _+_}
 use mathlib.Core.Bool.{Bool, true, false}
 use mathlib.Core.List.{List, [], _∷_, _++_}
 use lib.Dec.{leb}
-use lib.ListN.{length, take, drop}
+use lib.ListN.{length}
 use Rattle.laws.specs.Choice.{pick}
 use Rattle.terms.specs.declared.letters.Letter.{Letter}
 use Rattle.terms.specs.declared.words.Word.{Word}
@@ -14,6 +14,7 @@ use Rattle.terms.specs.Words.{tab, newline, spelt}
 use Rattle.formats.specs.declared.Written.{Written}
 use Rattle.formats.specs.declared.Written.the-variants.{Next, Refused}
 use Rattle.formats.specs.Decimal.{decimal}
+use Rattle.formats.specs.Wrote.{putFrom}
 
 -- the words of answer records: go, wait, back, no and wake (01, Lines)
 abbrev pub ofAnswers : Word → Bool
@@ -60,4 +61,4 @@ told buffer at bytes = pick (fits buffer at bytes) (Next (at + length bytes)) (R
 
 -- what the buffer then holds: the record from the place given and not before it, all other bytes as they were; after a refusal every byte (01, Lines)
 unfoldable pub left : List ℕ → ℕ → List ℕ → List ℕ
-left buffer at bytes = pick (fits buffer at bytes) (take at buffer ++ bytes ++ drop (at + length bytes) buffer) buffer
+left buffer at bytes = pick (fits buffer at bytes) (putFrom buffer at bytes) buffer

@@ -55,6 +55,10 @@ unfoldable pub used : List ℕ → ℕ
 used [] = 0
 used (b ∷ t) = pick (eqb b newline) 1 (suc (used t))
 
+-- the bytes of a text from one place to another
+abbrev pub part : List ℕ → ℕ → ℕ → List ℕ
+part text from to = take (to - from) (drop from text)
+
 -- the splitter after the chunk's bytes from a place up to and with the next newline, and the place after them
 unfoldable pub cutOf : Splitter → List ℕ → ℕ → Cut
 cutOf s chunk from = record { splitter = through s (drop from chunk); next = from + used (drop from chunk) }

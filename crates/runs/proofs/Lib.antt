@@ -2,7 +2,7 @@ pub mod Turns
 pub mod Ends
 pub mod Unique
 pub mod Tellings
-pub mod Portions
+pub mod Parts
 pub mod Records
 pub mod OneCall
 pub mod Progress
