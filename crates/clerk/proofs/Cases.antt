@@ -16,7 +16,7 @@ use Rattle.rules.specs.declared.Answer.{Answer}
 use Rattle.runs.specs.declared.View.{View}
 use Rattle.runs.specs.declared.View.the-variants.{Answers, History}
 use Rattle.rules.specs.Step.{recordsOf, ownRecords, wakeRecords}
-use Rattle.verdicts.specs.Written.{askBy, textOf}
+use Rattle.formats.specs.EventRecords.{askBy, textOf}
 use Rattle.rules.specs.AnswerWords.{wordOf, numberBeside}
 use Rattle.runs.specs.Run.{answerLines, historyLines, wakeLines}
 use Rattle.runs.specs.Work.{viewed, unended}

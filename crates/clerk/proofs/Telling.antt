@@ -21,8 +21,8 @@ use Rattle.rules.specs.Desk.{Request}
 use Rattle.rules.specs.Step.{wentBy, ownRecords, recordsOf}
 use Rattle.rules.specs.Step as step
 use Rattle.board.specs.declared.state.Said.{Said}
-use Rattle.verdicts.specs.Written.{askBy, markLetter, eventLine, textOf}
-use Rattle.verdicts.proofs.RecordLines.{text-append}
+use Rattle.formats.specs.EventRecords.{askBy, markLetter, eventLine, textOf}
+use Rattle.formats.proofs.RecordLines.{text-append}
 use Rattle.runs.specs.declared.View.{View}
 use Rattle.runs.specs.declared.View.the-variants.{Answers, History as TheHistory}
 use Rattle.runs.specs.Run.{wakeLines, answerLines, historyLines}

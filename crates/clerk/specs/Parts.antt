@@ -13,7 +13,7 @@ use Rattle.rules.specs.declared.Answer.the-variants.{Go, Wait, Back as goes-bac
 use Rattle.board.specs.declared.state.Said.{Said}
 use Rattle.runs.specs.declared.View.{View}
 use Rattle.runs.specs.declared.View.the-variants.{Answers, History}
-use Rattle.verdicts.specs.Written.{askBy}
+use Rattle.formats.specs.EventRecords.{askBy}
 use Rattle.rules.specs.AnswerWords.{wordOf, numberBeside}
 use Rattle.clerk.specs.declared.records.Noted.{Noted}
 use Rattle.clerk.specs.declared.records.Noted.the-variants.{Nothing, Line}

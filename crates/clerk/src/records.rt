@@ -20,7 +20,7 @@ ghost use Rattle.terms.specs.Limits.{requestLines, lastNumber};
 ghost use Rattle.formats.specs.Records.{ofAnswers, answerRecord, longestRecord, lineRecord};
 ghost use Rattle.formats.specs.Wrote.{Wrote};
 ghost use Rattle.rules.specs.AnswerWords.{wordOf, numberBeside};
-ghost use Rattle.verdicts.specs.Written.{askBy};
+ghost use Rattle.formats.specs.EventRecords.{askBy};
 ghost use Rattle.runs.specs.Work.{viewed, unended, wakesRoom, lineRoom};
 ghost use Rattle.clerk.specs.Parts.{Added, notedGo, noted, notedBytes, firstRecord, wakeRecord, wakeRecords, lineRecords};
 

@@ -134,6 +134,11 @@ good-exactly which bytes l job cell = (
   λ g. ap (readLine which) (g .0) ∙ reads-record which l job cell (g .1) (g .2) (g .3) (g .4) (g .5),
 )
 
+-- in the paper's numbers: a job of at most 4,294,967,295, and a cell of one or two digits
+pub good-numbers : (which : Letter → Bool) (bytes : List ℕ) (l : Letter) (job cell : ℕ) →
+    (readLine which bytes ≡ Good l job cell) ↔ ((bytes ≡ lineRecord l job cell) × (which l ≡ true) × (job ≤ 4_294_967_295) × (cell ≤ 99) × (hasJob l ≡ false → job ≡ 0) × (hasCell l ≡ false → cell ≡ 0))
+good-numbers = good-exactly
+
 -- all else is bad
 pub all-else-bad : (which : Letter → Bool) (bytes : List ℕ) → ((l : Letter) (job cell : ℕ) → GoodLine which bytes l job cell → ⊥) → readLine which bytes ≡ Bad
 all-else-bad which bytes other = go (readLine which bytes) refl

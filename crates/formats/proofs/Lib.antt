@@ -22,3 +22,6 @@ pub mod Length
 pub mod RoomLaws
 pub mod WriterLaws
 pub mod WroteLaws
+pub mod RecordLines
+pub mod EventsRead
+pub mod RecordBytes

@@ -36,7 +36,7 @@ newline-ends (x ∷ []) ys h = newline-ends [] ys (one-line-tail x newline ys h)
 newline-ends (x ∷ y ∷ xs) ys h = newline-ends (y ∷ xs) ys (one-line-tail x y (xs ++ newline ∷ ys) h)
 
 -- a good line has at most 16 bytes
-pub good-length : (which : Letter → Bool) (bytes : List ℕ) (l : Letter) (job cell : ℕ) → readLine which bytes ≡ Good l job cell → length bytes ≤ kept
+pub good-length : (which : Letter → Bool) (bytes : List ℕ) (l : Letter) (job cell : ℕ) → readLine which bytes ≡ Good l job cell → length bytes ≤ 16
 good-length which bytes l job cell e =
     let g = good-is-record which bytes l job cell e in
     rw (g .0) (line-at-most-16 l job cell (g .2) (g .3))
@@ -59,7 +59,7 @@ good-part which n bytes l job cell o e =
     sym (append-nil (take n bytes)) ∙ ap (λ q. take n bytes ++ q) (sym none-left) ∙ whole
 
 -- a line is decided by its first 16 bytes
-pub short-reads : (which : Letter → Bool) (bytes : List ℕ) → oneLine bytes ≡ true → readLine which (take kept bytes) ≡ readLine which bytes
+pub short-reads : (which : Letter → Bool) (bytes : List ℕ) → oneLine bytes ≡ true → readLine which (take 16 bytes) ≡ readLine which bytes
 short-reads which bytes o = go (readLine which (take kept bytes)) (readLine which bytes) refl refl
   where
     go : (r s : Reading) → readLine which (take kept bytes) ≡ r → readLine which bytes ≡ s → readLine which (take kept bytes) ≡ readLine which bytes
@@ -76,5 +76,5 @@ all-short which (l ∷ ls) h =
     (λ o. not-both (rw o at h) refl)
 
 -- every line of every text is decided by its first 16 bytes
-pub short-lines : (which : Letter → Bool) (t : List ℕ) → map (λ l. readLine which (take kept l)) (linesOf t) ≡ map (readLine which) (linesOf t)
+pub short-lines : (which : Letter → Bool) (t : List ℕ) → map (λ l. readLine which (take 16 l)) (linesOf t) ≡ map (readLine which) (linesOf t)
 short-lines which t = all-short which (linesOf t) (lines-one t)

@@ -1,6 +1,7 @@
 pub mod Decimal
 pub mod Wrote
 pub mod Records
+pub mod EventRecords
 pub mod Lines
 pub mod GoodLine
 pub mod Fields

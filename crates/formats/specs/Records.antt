@@ -3,7 +3,7 @@ use Prim.Native.Nat.{ℕ, _+_}
 use mathlib.Core.Bool.{Bool, true, false}
 use mathlib.Core.List.{List, [], _∷_, _++_}
 use lib.Dec.{leb}
-use lib.ListN.{length, take, drop}
+use lib.ListN.{length}
 use Rattle.laws.specs.Choice.{pick}
 use Rattle.terms.specs.declared.letters.Letter.{Letter}
 use Rattle.terms.specs.declared.words.Word.{Word}
@@ -14,6 +14,7 @@ use Rattle.terms.specs.Words.{tab, newline, spelt}
 use Rattle.formats.specs.declared.Written.{Written}
 use Rattle.formats.specs.declared.Written.the-variants.{Next, Refused}
 use Rattle.formats.specs.Decimal.{decimal}
+use Rattle.formats.specs.Wrote.{putFrom}
 
 -- the words of answer records: go, wait, back, no and wake (01, Lines)
 abbrev pub ofAnswers : Word → Bool
@@ -41,6 +42,15 @@ field there n = pick there (tab ∷ decimal n) []
 unfoldable pub lineRecord : Letter → ℕ → ℕ → List ℕ
 lineRecord l job cell = byteOf l ∷ field (hasJob l) job ++ field (hasCell l) cell ++ newline ∷ []
 
+-- numbers, a tab before each
+unfoldable pub tabbed : List ℕ → List ℕ
+tabbed [] = []
+tabbed (n ∷ ns) = tab ∷ decimal n ++ tabbed ns
+
+-- a line of a word and numbers: the verdict (01, The judge's rules)
+unfoldable pub wordLine : Word → List ℕ → List ℕ
+wordLine w ns = spelt w ++ tabbed ns ++ newline ∷ []
+
 -- a record fits from the place given: it ends within the buffer, so the place is not past the end either (01, refusal 15)
 unfoldable pub fits : List ℕ → ℕ → List ℕ → Bool
 fits buffer at bytes = leb (at + length bytes) (length buffer)
@@ -51,4 +61,4 @@ told buffer at bytes = pick (fits buffer at bytes) (Next (at + length bytes)) (R
 
 -- what the buffer then holds: the record from the place given and not before it, all other bytes as they were; after a refusal every byte (01, Lines)
 unfoldable pub left : List ℕ → ℕ → List ℕ → List ℕ
-left buffer at bytes = pick (fits buffer at bytes) (take at buffer ++ bytes ++ drop (at + length bytes) buffer) buffer
+left buffer at bytes = pick (fits buffer at bytes) (putFrom buffer at bytes) buffer

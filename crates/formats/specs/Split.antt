@@ -146,6 +146,11 @@ hasNewline [] = false
 hasNewline (b ∷ []) = eqb b newline
 hasNewline (b ∷ c ∷ l) = hasNewline (c ∷ l)
 
+-- whether no byte is a newline
+unfoldable pub noNewline : List ℕ → Bool
+noNewline [] = true
+noNewline (b ∷ l) = not (eqb b newline) && noNewline l
+
 -- whether a test holds of every line
 unfoldable pub every : (List ℕ → Bool) → List (List ℕ) → Bool
 every f [] = true

@@ -9,3 +9,7 @@ pub record Wrote (from to : ℕ) (bytes before after : List ℕ) : Type 0 where
   pub ends : to ≡ from + length bytes
   pub within : to ≤ length before
   pub holds : after ≡ take from before ++ bytes ++ drop to before
+
+-- bytes put into a buffer from a place on; all other bytes stay
+abbrev pub putFrom : List ℕ → ℕ → List ℕ → List ℕ
+putFrom buffer at bytes = take at buffer ++ bytes ++ drop (at + length bytes) buffer

@@ -10,16 +10,16 @@ use lib.ListN.{length, length-append, length-take}
 use borrow.Author.Tests.{lt-ltb, le-leb, ltb-true}
 use Rattle.laws.specs.Choice.{by-test}
 use Rattle.formats.specs.Split.{cutOf}
+use Rattle.formats.specs.Wrote.{putFrom}
 use Rattle.formats.proofs.Cuts.{cut-ahead}
 use Rattle.runs.specs.declared.Clerk.{Clerk}
 use Rattle.runs.specs.declared.View.{View}
 use Rattle.runs.specs.declared.Worked.{Worked}
 use Rattle.runs.specs.declared.Finished.{Finished}
-use Rattle.runs.specs.Work.{lineRoom, roomy, put, due, owing, answering, turning, cutting, stopped, workBy, workOf, finishOf}
+use Rattle.runs.specs.Work.{lineRoom, roomy, due, owing, answering, turning, cutting, stopped, workBy, workOf, finishOf}
 
 -- bytes that are put into a buffer end within it
-put-within : (out bytes : List ℕ) (at : ℕ) → at ≤ length out → at + length bytes ≤ length (put out at bytes)
-unfolding put
+put-within : (out bytes : List ℕ) (at : ℕ) → at ≤ length out → at + length bytes ≤ length (putFrom out at bytes)
 put-within out bytes at h = simp (length-append, length-take) (omega arith)
 
 -- so do the records of a line

@@ -25,7 +25,7 @@ use Rattle.terms.proofs.Numbers.{one-to-sixteen}
 use Rattle.conflict.specs.History.{isCommit, marked}
 use Rattle.formats.specs.declared.Written.the-variants.{Next}
 use Rattle.formats.specs.Decimal.{decimal}
-use Rattle.formats.specs.Records.{fits, told, left}
+use Rattle.formats.specs.Records.{fits, told, left, tabbed, wordLine}
 use Rattle.formats.specs.declared.Reading.{Reading}
 use Rattle.formats.proofs.DigitLaws.{digits-at-most}
 use Rattle.text.proofs.WordLaws.{word-at-most-7}
@@ -38,8 +38,7 @@ use Rattle.verdicts.proofs.FewJobs.{at-most-255, committed-within}
 use Rattle.verdicts.proofs.Histories.{jobs-committed, order-once, order-names, knot-shows}
 use Rattle.verdicts.proofs.LineFaults.{finds-fault}
 use Rattle.judge.proofs.FewLines.{number-few}
-use Rattle.runs.specs.Programs.{tabbed, wordLine, sayLine, judgedLine, verdictOf}
-use Rattle.runs.specs.VerdictLine.{lineLimit}
+use Rattle.verdicts.specs.VerdictLine.{sayLine, judgedLine, verdictOf, lineLimit}
 use Rattle.reporter.proofs.WordLines.{word-line-length, two-numbers-length}
 
 -- jobs of at most three digits have at most four bytes each, the tab among them

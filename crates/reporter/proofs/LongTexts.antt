@@ -13,7 +13,8 @@ use Rattle.terms.specs.declared.refusals.Refusal.the-variants.{TooLong}
 use Rattle.terms.specs.declared.words.Word.the-variants.{No}
 use Rattle.terms.specs.Limits.{judgedBytes}
 use Rattle.terms.specs.Refusals.{numberOf}
-use Rattle.runs.specs.Programs.{wordLine, verdictOf}
+use Rattle.formats.specs.Records.{wordLine}
+use Rattle.verdicts.specs.VerdictLine.{verdictOf}
 
 -- a text longer than 65,536 bytes is refused, whatever it says
 pub too-long : (text : List ℕ) → judgedBytes < length text → verdictOf text ≡ wordLine No (0 ∷ numberOf TooLong ∷ [])

@@ -11,11 +11,11 @@ use Rattle.terms.specs.declared.words.Word as word
 use Rattle.terms.specs.Limits.{judgedBytes, judgedJobs}
 use Rattle.terms.specs.Refusals.{numberOf}
 use Rattle.formats.specs.declared.Written.{Written}
-use Rattle.formats.specs.Records.{told, left}
+use Rattle.formats.specs.Records.{told, left, wordLine}
 use Rattle.verdicts.specs.declared.verdict.Verdict.{Verdict}
 use Rattle.verdicts.specs.declared.verdict.Verdict.the-variants.{Orderly, Knot, No}
 use Rattle.verdicts.specs.Judgement.{judgementOf}
-use Rattle.runs.specs.Programs.{wordLine, sayLine, judgedLine, verdictOf}
+use Rattle.verdicts.specs.VerdictLine.{sayLine, judgedLine, verdictOf}
 
 -- what is told and left of a line at the buffer's first place
 abbrev pub Says : Written → List ℕ → List ℕ → List ℕ → Type 0

@@ -9,7 +9,7 @@ use borrow.Author.Tests.{le-leb, lt-leb}
 use lib.Dec.{leb}
 use lib.ListN.{length, take, getD}
 use Rattle.formats.specs.Decimal.{decimal}
-use Rattle.runs.specs.Programs.{tabbed}
+use Rattle.formats.specs.Records.{tabbed}
 use Rattle.reporter.proofs.TabbedLaws.{next-length, first-shorter, tabbed-all}
 
 -- what is left, and the fields of the first numbers, make the room

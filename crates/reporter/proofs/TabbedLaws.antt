@@ -11,7 +11,7 @@ use Rattle.terms.specs.Words.{tab}
 use Rattle.formats.specs.Decimal.{decimal}
 use Rattle.formats.specs.Wrote.{Wrote}
 use Rattle.formats.proofs.WroteLaws.{wrote-none}
-use Rattle.runs.specs.Programs.{tabbed}
+use Rattle.formats.specs.Records.{tabbed}
 
 -- numbers and then more numbers
 pub tabbed-more : (xs ys : List ℕ) → tabbed (xs ++ ys) ≡ tabbed xs ++ tabbed ys

@@ -11,7 +11,7 @@ use lib.ListN.{length, length-append}
 use Rattle.terms.specs.declared.words.Word.{Word}
 use Rattle.terms.specs.Words.{tab, newline, spelt}
 use Rattle.formats.specs.Decimal.{decimal}
-use Rattle.runs.specs.Programs.{tabbed, wordLine}
+use Rattle.formats.specs.Records.{tabbed, wordLine}
 
 -- how many bytes a line of a word and numbers has
 pub word-line-length : (w : Word) (ns : List ℕ) → length (wordLine w ns) ≡ length (spelt w) + length (tabbed ns) + 1

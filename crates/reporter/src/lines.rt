@@ -15,9 +15,8 @@ ghost use lib.ListN.{length};
 ghost use Rattle.terms.specs.declared.words.Word.the-variants.{No};
 ghost use Rattle.terms.specs.Words.{tab, newline, spelt};
 ghost use Rattle.formats.specs.Decimal.{decimal};
-ghost use Rattle.formats.specs.Records.{told, left};
+ghost use Rattle.formats.specs.Records.{told, left, tabbed, wordLine};
 ghost use Rattle.formats.specs.Wrote.{Wrote};
-ghost use Rattle.runs.specs.Programs.{tabbed, wordLine};
 
 // A word that there is room for, and the place after it.
 fn put_word(out: &mut [u8], at: usize, word: Word) -> usize

@@ -12,7 +12,7 @@ use verdicts::verdict::Verdict;
 ghost use mathlib.Core.Path.{_≡_};
 ghost use lib.ListN.{take};
 ghost use Rattle.formats.specs.Records.{told, left};
-ghost use Rattle.runs.specs.Programs.{sayLine, verdictOf};
+ghost use Rattle.verdicts.specs.VerdictLine.{sayLine, verdictOf};
 
 // The first n places of the order, or all where there are fewer.
 fn first_places(order: &[u8], n: usize) -> &[u8]

@@ -8,7 +8,7 @@ use native.Mathlib.Omega.{arith}
 use lib.ListN.{length, take}
 use Rattle.laws.specs.Choice.{pick, by-test}
 use Rattle.formats.specs.declared.splitter.Splitter.{Splitter}
-use Rattle.formats.specs.Split.{following, fresh, linesOf, joined, afterAll, foundIn, foundLast, foundOver, numberedOn}
+use Rattle.formats.specs.Split.{part, following, fresh, linesOf, joined, afterAll, foundIn, foundLast, foundOver, numberedOn}
 use Rattle.formats.proofs.Found.{finds-all}
 use Rattle.formats.proofs.TextLines.{lines-one}
 use Rattle.board.specs.Steps.{emptyDesk}
@@ -17,7 +17,7 @@ use Rattle.runs.specs.declared.View.{View}
 use Rattle.runs.specs.Run.{Told, written}
 use Rattle.runs.specs.Programs.{onBoard, firstNumber, boardRun}
 use Rattle.runs.specs.Work.{startedClerk, viewed, roomy, unended, owing, workOf, finishOf}
-use Rattle.runs.specs.Callers.{portion, Course, starts, works, empties, Standing}
+use Rattle.runs.specs.Callers.{Course, starts, works, empties, Standing}
 use Rattle.runs.specs.Tellings.{tellings, deskAfter, clerkAfter, recordsIn}
 use Rattle.runs.proofs.Tellings.{tellings-append, tellings-run}
 use Rattle.runs.proofs.Records.{written-append, clerk-append, records-append, clerk-none, records-none}
@@ -26,7 +26,7 @@ use Rattle.runs.proofs.LastLine.{open-always, last-told}
 
 -- one call, whatever the chunk and the place
 pub call-did : (view : View) (c : Clerk) (chunk : List ℕ) (from : ℕ) (out : List ℕ) (at : ℕ) → at ≤ length out →
-    Did view c (portion chunk from (workOf view c chunk from out at .worked .next)) out at (workOf view c chunk from out at .worked .clerk) (workOf view c chunk from out at .out) (workOf view c chunk from out at .worked .at)
+    Did view c (part chunk from (workOf view c chunk from out at .worked .next)) out at (workOf view c chunk from out at .worked .clerk) (workOf view c chunk from out at .out) (workOf view c chunk from out at .worked .at)
 unfolding workOf
 call-did view c chunk from out at h = called (length chunk) view c chunk from out at h .did
 

@@ -3,22 +3,23 @@
 use Prim.Native.Nat.{ℕ, _≤_, _<_}
 use mathlib.Core.Path.{_≡_, sym, ap, _∙_, subst}
 use mathlib.Core.Logic.{_≢_, _⊎_}
-use mathlib.Core.List.{List}
+use mathlib.Core.Bool.{true}
+use mathlib.Core.List.{List, [], _∷_, _++_, map}
 use native.Mathlib.Omega.{arith}
 use lib.Dec.{eqb}
-use lib.ListN.{length, length-replicate, take, replicate}
-use borrow.Author.Tests.{eqb-true, eqb-false, le-ltb}
+use lib.ListN.{length}
+use borrow.Author.Tests.{eqb-true, eqb-false}
 use Rattle.laws.specs.Choice.{by-test}
-use Rattle.terms.specs.declared.words.Word.the-variants.{Orderly as the-word-orderly}
 use Rattle.terms.specs.declared.refusals.Refusal.{Refusal}
 use Rattle.terms.specs.declared.refusals.Refusal.the-variants.{TooManyLines, JobOutside}
-use Rattle.terms.specs.Limits.{judgedBytes, judgedJobs, judgedLines}
-use Rattle.conflict.specs.Schedule.{ConflictSerializable, edge}
-use Rattle.conflict.specs.History.{committedPart, commitOrder}
-use Rattle.formats.specs.Split.{linesOf}
+use Rattle.laws.specs.Lists.{member, distinct}
+use Rattle.conflict.specs.Schedule.{Equivalent, serial, ConflictSerializable, edge}
+use Rattle.conflict.specs.History.{History, isCommit, marked, committedPart, commitOrder}
+use Rattle.conflict.proofs.Marks.{listed}
+use Rattle.formats.specs.Decimal.{decimal}
+use Rattle.formats.specs.Split.{joined}
 use Rattle.rules.specs.Step.{Started}
-use Rattle.rules.proofs.Serial.{committed-jobs-serializable}
-use Rattle.verdicts.specs.declared.verdict.Verdict.{Verdict}
+use Rattle.rules.proofs.Serial.{serial-by-commits, commits-once, committed-jobs-serializable}
 use Rattle.verdicts.specs.declared.verdict.Verdict.the-variants.{Orderly, Knot, No}
 use Rattle.verdicts.specs.HistoryText.{readingsOf, eventsIn}
 use Rattle.verdicts.specs.Judged.{jobsOf}
@@ -26,36 +27,18 @@ use Rattle.verdicts.specs.Judgement.{judgementOf}
 use Rattle.verdicts.specs.Meant.{SmallestFirst}
 use Rattle.verdicts.specs.LineTable.{FirstFault, AllReadBack, AllFaultless}
 use Rattle.verdicts.specs.Answers.{InOrder}
-use Rattle.verdicts.specs.Written.{KeepsLimits}
+use Rattle.verdicts.specs.KeepsLimits.{KeepsLimits}
+use Rattle.verdicts.specs.VerdictLine.{verdictOf}
 use Rattle.verdicts.proofs.JudgedTexts.{knot-said, knot-said-exactly}
 use Rattle.verdicts.proofs.ReadBack.{only-limits}
+use Rattle.verdicts.proofs.Printed.{printed-orderly}
 use Rattle.verdicts.proofs.Refusing.{short-exactly, line-0-short, refused-exactly}
-use Rattle.runs.specs.Programs.{runOn, historyOf, wordLine, sayLine, judgedLine, verdictOf}
+use Rattle.runs.specs.Programs.{runOn, historyOf}
 use Rattle.runs.specs.Shown.{givenIn, historyOn}
 use Rattle.runs.proofs.SameShown.{history-is}
 use Rattle.runs.proofs.StartedRun.{history-started, history-jobs}
 use Rattle.runs.proofs.RunLength.{history-no-longer}
 use Rattle.runs.proofs.StartedTexts.{started-read-back, started-says, started-fits, started-faultless, started-orderly, started-order}
-
--- the order buffer of the verdict program
-abbrev places : List ℕ
-places = replicate judgedJobs 0
-
--- an order that is said is printed after its word
-said-line : (v : Verdict) (order : List ℕ) (n : ℕ) → v ≡ Orderly n → sayLine v order ≡ wordLine the-word-orderly (take n order)
-unfolding sayLine
-said-line v order n e = rw e
-
--- a text that is not too long gets the judge's line
-short-text : (text : List ℕ) → length text ≤ judgedBytes → verdictOf text ≡ judgedLine text
-unfolding verdictOf
-short-text text h = rw (le-ltb judgedBytes (length text) h)
-
--- where an order fills the buffer, the program prints it
-prints-order : (text : List ℕ) (n : ℕ) → length text ≤ judgedBytes → judgementOf text places .said ≡ Orderly n →
-    verdictOf text ≡ wordLine the-word-orderly (take n (judgementOf text places .order))
-unfolding judgedLine
-prints-order text n h e = short-text text h ∙ said-line (judgementOf text places .said) (judgementOf text places .order) n e
 
 module _ (text : List ℕ) where
   -- what is written is the history of a started desk
@@ -70,12 +53,25 @@ module _ (text : List ℕ) where
   pub history-says : eventsIn (readingsOf (historyOf text)) ≡ historyOn text
   history-says = ap (λ t. eventsIn (readingsOf t)) (history-is text) ∙ started-says started
 
+  -- the history that is read in what is written
+  abbrev pub readIn : History
+  readIn = eventsIn (readingsOf (historyOf text))
+
+  -- its order of commits names each job with a c once, and no other job
+  pub history-commits-once : (distinct (commitOrder readIn) ≡ true) × ((j : ℕ) → member j (commitOrder readIn) ≡ marked isCommit j readIn)
+  history-commits-once = (subst (λ h. distinct (commitOrder h) ≡ true) (sym history-says) (commits-once started), λ j. listed j readIn)
+
+  -- DEMAND 2, OF TEXTS ALONE: whatever comes in, the history that is read in what `history` writes has a committed part that is conflict-equivalent to its jobs
+  -- one after another in the order of their commits, and that order names each of them once
+  pub history-serial : Equivalent (committedPart readIn) (serial (commitOrder readIn) (committedPart readIn)) × (distinct (commitOrder readIn) ≡ true) × ((j : ℕ) → member j (commitOrder readIn) ≡ marked isCommit j readIn)
+  history-serial = (subst (λ h. Equivalent (committedPart h) (serial (commitOrder h) (committedPart h))) (sym history-says) (serial-by-commits started), history-commits-once .0, history-commits-once .1)
+
   -- so the first faulty line of it, if there is one, is line 4,097 or is for a job outside 1 to 255
   pub history-fault : (n : ℕ) (why : Refusal) → FirstFault (readingsOf (historyOf text)) n why → (why ≡ TooManyLines) ⊎ (why ≡ JobOutside)
   history-fault n why f = only-limits (readingsOf (historyOf text)) history-read-back n why f
 
   -- and where the order buffer has its 255 places, the judge has no other refusal for it
-  pub history-refused : (buffer : List ℕ) → judgedJobs ≤ length buffer → (n : ℕ) (why : Refusal) → judgementOf (historyOf text) buffer .said ≡ No n why → (why ≡ TooManyLines) ⊎ (why ≡ JobOutside)
+  pub history-refused : (buffer : List ℕ) → 255 ≤ length buffer → (n : ℕ) (why : Refusal) → judgementOf (historyOf text) buffer .said ≡ No n why → (why ≡ TooManyLines) ⊎ (why ≡ JobOutside)
   history-refused buffer room n why e =
       by-test (eqb n 0)
       (λ t.
@@ -92,7 +88,7 @@ module _ (text : List ℕ) where
       knot-said-exactly (historyOf text) buffer (k .0) (k .1) .0 (n, e) (subst (λ h. ConflictSerializable (committedPart h)) (sym history-says) (committed-jobs-serializable started))
 
   -- the judge's limits by what comes in alone: at most 255 begins that go, and at most 4,096 lines
-  pub small-input : length (givenIn (runOn text)) ≤ judgedJobs → length (linesOf text) ≤ judgedLines → KeepsLimits (historyOn text)
+  pub small-input : length (givenIn (runOn text)) ≤ 255 → length (linesOf text) ≤ 4_096 → KeepsLimits (historyOn text)
   small-input begun lines = record { jobs = λ j l. omega (arith, history-jobs text j l); events = omega (arith, history-no-longer text) }
 
   module _ (limits : KeepsLimits (historyOn text)) where
@@ -101,24 +97,20 @@ module _ (text : List ℕ) where
     history-faultless = subst (λ t. AllFaultless (readingsOf t)) (sym (history-is text)) (started-faultless started limits)
 
     -- THE HISTORY IS ORDERLY: the judge says so, with the number of committed jobs
-    pub history-orderly : (buffer : List ℕ) → judgedJobs ≤ length buffer → judgementOf (historyOf text) buffer .said ≡ Orderly (length (commitOrder (historyOn text)))
+    pub history-orderly : (buffer : List ℕ) → 255 ≤ length buffer → judgementOf (historyOf text) buffer .said ≡ Orderly (length (commitOrder (historyOn text)))
     history-orderly buffer room = subst (λ t. judgementOf t buffer .said ≡ Orderly (length (commitOrder (historyOn text)))) (sym (history-is text)) (started-orderly started limits buffer room)
 
     -- and their serial order, smallest first, fills the buffer's first places
-    pub history-order : (buffer : List ℕ) → judgedJobs ≤ length buffer → InOrder (historyOn text) buffer (judgementOf (historyOf text) buffer .order) (length (commitOrder (historyOn text)))
+    pub history-order : (buffer : List ℕ) → 255 ≤ length buffer → InOrder (historyOn text) buffer (judgementOf (historyOf text) buffer .order) (length (commitOrder (historyOn text)))
     history-order buffer room = subst (λ t. InOrder (historyOn text) buffer (judgementOf t buffer .order) (length (commitOrder (historyOn text)))) (sym (history-is text)) (started-order started limits buffer room)
 
     -- it is no longer than the verdict program reads
-    pub history-fits : length (historyOf text) ≤ judgedBytes
-    history-fits = subst (λ t. length t ≤ judgedBytes) (sym (history-is text)) (started-fits started limits)
+    pub history-fits : length (historyOf text) ≤ 65_536
+    history-fits = subst (λ t. length t ≤ 65_536) (sym (history-is text)) (started-fits started limits)
 
-    -- THE VERDICT ON IT: the program `verdict` prints `orderly` and the order that takes at each place the smallest number whose predecessors all stand already
-    pub history-verdict : (order : List ℕ) × (SmallestFirst (edge (committedPart (historyOn text))) (jobsOf (historyOn text)) order) × (verdictOf (historyOf text) ≡ wordLine the-word-orderly order)
+    -- THE VERDICT ON IT: the program `verdict` prints `orderly` and the order that takes at each place the smallest number whose predecessors all stand already, a tab before each job
+    pub history-verdict : (order : List ℕ) × SmallestFirst (edge (committedPart (historyOn text))) (jobsOf (historyOn text)) order
+        × (verdictOf (historyOf text) ≡ 111 ∷ 114 ∷ 100 ∷ 101 ∷ 114 ∷ 108 ∷ 121 ∷ joined (map (λ j. 9 ∷ decimal j) order) ++ 10 ∷ [])
     history-verdict =
-        let room : judgedJobs ≤ length places = omega (arith, length-replicate {A = ℕ} judgedJobs 0) in
-        let o = history-order places room in (
-          o .order,
-          o .smallest,
-          prints-order (historyOf text) (length (commitOrder (historyOn text))) history-fits (history-orderly places room)
-              ∙ ap (wordLine the-word-orderly) (ap (λ n. take n (judgementOf (historyOf text) places .order)) (o .count) ∙ o .fills .first),
-        )
+        let p = printed-orderly (historyOf text) history-fits history-faultless (subst (λ h. ConflictSerializable (committedPart h)) (sym history-says) (committed-jobs-serializable started)) in
+        (p .0, subst (λ h. SmallestFirst (edge (committedPart h)) (jobsOf h) (p .0)) history-says (p .1), p .2)

@@ -14,7 +14,7 @@ use Rattle.formats.specs.Wrote.{Wrote}
 use Rattle.runs.specs.declared.Clerk.{Clerk}
 use Rattle.runs.specs.declared.View.{View}
 use Rattle.runs.specs.declared.Finished.{Finished}
-use Rattle.runs.specs.Work.{viewed, roomy, put, unended, owing, Finishing, finishOf}
+use Rattle.runs.specs.Work.{viewed, roomy, unended, owing, Finishing, finishOf}
 
 -- what the end of the input leaves
 abbrev pub Ends : View → Clerk → List ℕ → ℕ → Finished → List ℕ → Type 0
@@ -34,7 +34,7 @@ module _ (view : View) (c : Clerk) (out : List ℕ) (at : ℕ) where
   -- the record is written
   pub ends-put : {to : ℕ} {after : List ℕ} → owing (c .splitter) ≡ true → roomy out at ≡ true → Wrote at to (viewed view (unended (c .splitter .line))) out after →
       Ends view c out at (record { at = to; full = false }) after
-  unfolding finishOf put
+  unfolding finishOf
   ends-put e f w = (rw (e, f) (ap (λ n. record { at = n; full = false }) (w .ends)), rw (e, f) (w .holds ∙ rw (w .ends)))
 
 -- the number of a line that is owed is at most 1,000,000

@@ -2,7 +2,7 @@ pub mod Turns
 pub mod Ends
 pub mod Unique
 pub mod Tellings
-pub mod Portions
+pub mod Parts
 pub mod Records
 pub mod OneCall
 pub mod Progress
@@ -19,4 +19,5 @@ pub mod StartedTexts
 pub mod EndToEnd
 pub mod BadLines
 pub mod FromOne
-pub mod VerdictLine
+pub mod MillionLines
+pub mod AnswerBytes

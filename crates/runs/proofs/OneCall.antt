@@ -11,28 +11,26 @@ use lib.Seq.{length-take-le, take-at}
 use borrow.Author.Tests.{ltb-true}
 use Rattle.laws.specs.Choice.{by-test}
 use Rattle.formats.specs.declared.splitter.Splitter.{Splitter}
-use Rattle.formats.specs.Split.{cutOf, foundAt, foundNow}
+use Rattle.formats.specs.Split.{part, cutOf, foundAt, foundNow}
+use Rattle.formats.specs.Wrote.{putFrom}
 use Rattle.formats.proofs.Cuts.{cut-ahead}
 use Rattle.board.specs.declared.state.Desk.{Desk}
 use Rattle.runs.specs.declared.Clerk.{Clerk}
 use Rattle.runs.specs.declared.View.{View}
 use Rattle.runs.specs.Run.{Told, Lined, written}
 use Rattle.runs.specs.Programs.{onBoard}
-use Rattle.runs.specs.Work.{viewed, roomy, put, due, answering, turning, cutting, Working, stopped, workBy}
-use Rattle.runs.specs.Callers.{portion}
+use Rattle.runs.specs.Work.{viewed, roomy, due, answering, turning, cutting, Working, stopped, workBy}
 use Rattle.runs.specs.Tellings.{telling, tellings, deskAfter, clerkAfter, recordsIn}
-use Rattle.runs.proofs.Portions.{portion-none, portion-split, cut-leads, cut-finds}
+use Rattle.runs.proofs.Parts.{part-none, part-split, cut-leads, cut-finds}
 use Rattle.runs.proofs.Records.{clerk-append, records-append, clerk-none, records-none, due-told, due-desk, not-due-told, not-due-desk}
 
 -- what bytes put into a buffer leave in front of the place after them
-pub put-take : (out : List ℕ) (at : ℕ) (bytes : List ℕ) → at ≤ length out → take (at + length bytes) (put out at bytes) ≡ take at out ++ bytes
-unfolding put
+pub put-take : (out : List ℕ) (at : ℕ) (bytes : List ℕ) → at ≤ length out → take (at + length bytes) (putFrom out at bytes) ≡ take at out ++ bytes
 put-take out at bytes h =
     take-at (take at out ++ bytes) (drop (at + length bytes) out) (at + length bytes) (length-append (take at out) bytes ∙ ap (λ n. n + length bytes) (length-take-le at out h))
 
 -- and how long the buffer then is
-put-length : (out : List ℕ) (at : ℕ) (bytes : List ℕ) → at ≤ length out → (at + length bytes ≤ length (put out at bytes)) × (length out ≤ length (put out at bytes))
-unfolding put
+put-length : (out : List ℕ) (at : ℕ) (bytes : List ℕ) → at ≤ length out → (at + length bytes ≤ length (putFrom out at bytes)) × (length out ≤ length (putFrom out at bytes))
 put-length out at bytes h =
     let e = length-append (take at out ++ bytes) (drop (at + length bytes) out) in
     let f = length-append (take at out) bytes in
@@ -88,7 +86,7 @@ module _ (view : View) (c : Clerk) (chunk : List ℕ) (from : ℕ) (h : from < l
 
   -- the bytes that the cut takes
   abbrev line : List ℕ
-  line = portion chunk from (cutOf (c .splitter) chunk from .next)
+  line = part chunk from (cutOf (c .splitter) chunk from .next)
 
   -- the line that ends in them, answered
   abbrev told : Lined Desk
@@ -106,7 +104,7 @@ module _ (view : View) (c : Clerk) (chunk : List ℕ) (from : ℕ) (h : from < l
 
   module _ (out : List ℕ) (at : ℕ) (g : at ≤ length out) where
     -- a line that is answered
-    answered-did : due cut ≡ true → Did view c line out at (record { desk = told .desk; splitter = cut }) (put out at (viewed view (told .told))) (at + length (viewed view (told .told)))
+    answered-did : due cut ≡ true → Did view c line out at (record { desk = told .desk; splitter = cut }) (putFrom out at (viewed view (told .told))) (at + length (viewed view (told .told)))
     answered-did e =
         let l = put-length out at (viewed view (told .told)) g in
         record {
@@ -138,22 +136,22 @@ module _ (view : View) (c : Clerk) (chunk : List ℕ) (from : ℕ) (h : from < l
 -- a call, whatever the fuel
 pub record Called (view : View) (c : Clerk) (chunk : List ℕ) (from : ℕ) (out : List ℕ) (at : ℕ) (w : Working) : Type 0 where
   pub forward : from ≤ w .worked .next
-  pub did : Did view c (portion chunk from (w .worked .next)) out at (w .worked .clerk) (w .out) (w .worked .at)
+  pub did : Did view c (part chunk from (w .worked .next)) out at (w .worked .clerk) (w .out) (w .worked .at)
 
 -- the work ends here
 called-stopped : (view : View) (c : Clerk) (chunk : List ℕ) (from : ℕ) (out : List ℕ) (at : ℕ) (full : Bool) → at ≤ length out → Called view c chunk from out at (stopped c from out at full)
 unfolding stopped
 called-stopped view c chunk from out at full h =
-    record { forward = omega arith; did = subst (λ p. Did view c p out at c out at) (sym (portion-none chunk from)) (did-none view c out at h) }
+    record { forward = omega arith; did = subst (λ p. Did view c p out at c out at) (sym (part-none chunk from)) (did-none view c out at h) }
 
 -- a turn, and then the rest
-called-on : {view : View} {c d : Clerk} {chunk out mid : List ℕ} {from next at a : ℕ} {w : Working} → from ≤ next → Did view c (portion chunk from next) out at d mid a → Called view d chunk next mid a w →
+called-on : {view : View} {c d : Clerk} {chunk out mid : List ℕ} {from next at a : ℕ} {w : Working} → from ≤ next → Did view c (part chunk from next) out at d mid a → Called view d chunk next mid a w →
     Called view c chunk from out at w
 called-on {view} {c} {chunk = chunk} {out} {from = from} {next} {at} {w = w} h t r =
     let f = r .forward in
     record {
       forward = omega arith;
-      did = subst (λ p. Did view c p out at (w .worked .clerk) (w .out) (w .worked .at)) (sym (portion-split chunk from next (w .worked .next) h f)) (did-more t (r .did));
+      did = subst (λ p. Did view c p out at (w .worked .clerk) (w .out) (w .worked .at)) (sym (part-split chunk from next (w .worked .next) h f)) (did-more t (r .did));
     }
 
 -- EVERY CALL: behind what stood in the buffer stand the records of the lines that end in the bytes worked on, and the clerk has seen these bytes

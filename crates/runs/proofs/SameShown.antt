@@ -14,8 +14,8 @@ use Rattle.rules.specs.declared.Answer.{Answer}
 use Rattle.rules.specs.declared.Answer.the-variants.{Go, Wait, Back as goes-back, No}
 use Rattle.rules.specs.Desk.{Request}
 use Rattle.rules.specs.Step.{wentBy, ownRecords, wakeRecords, recordsOf}
-use Rattle.verdicts.specs.Written.{textOf}
-use Rattle.verdicts.proofs.RecordLines.{text-append}
+use Rattle.formats.specs.EventRecords.{textOf}
+use Rattle.formats.proofs.RecordLines.{text-append}
 use Rattle.runs.specs.Run.{Told, historyLines, written}
 use Rattle.runs.specs.Programs.{runOn, historyOf}
 use Rattle.runs.specs.Shown.{Shown, granted, ended, goShows, answerShows, wakesShow, answersShow, answersShowAll, historyShows, historyOfRun}

@@ -25,10 +25,11 @@ use Rattle.verdicts.specs.HistoryText.{readingsOf, eventsIn}
 use Rattle.verdicts.specs.Judgement.{judgementOf}
 use Rattle.verdicts.specs.LineTable.{AllReadBack, AllFaultless}
 use Rattle.verdicts.specs.Answers.{InOrder}
-use Rattle.verdicts.specs.Written.{textOf, within, allWithin, KeepsLimits}
+use Rattle.formats.specs.EventRecords.{textOf, within, allWithin}
+use Rattle.verdicts.specs.KeepsLimits.{KeepsLimits}
 use Rattle.verdicts.proofs.Walking.{no-more}
 use Rattle.verdicts.proofs.JudgedTexts.{orderly-said}
-use Rattle.verdicts.proofs.RecordsSay.{within-action, within-mark}
+use Rattle.formats.proofs.EventsRead.{within-action, within-mark}
 use Rattle.verdicts.proofs.ReadBack.{written-read-back}
 use Rattle.verdicts.proofs.WrittenHistories.{written-says, written-faultless, written-fits, written-judged}
 

@@ -16,7 +16,7 @@ use Rattle.formats.specs.declared.Reading.the-variants.{Good, Bad}
 use Rattle.formats.specs.declared.splitter.Splitter.{Splitter}
 use Rattle.formats.specs.Lines.{readLine}
 use Rattle.formats.specs.Split.{cutOf, foundAt}
-use Rattle.formats.specs.Wrote.{Wrote}
+use Rattle.formats.specs.Wrote.{Wrote, putFrom}
 use Rattle.formats.proofs.Cuts.{cut-ahead}
 use Rattle.board.specs.declared.state.Said.{Said}
 use Rattle.board.specs.declared.state.Outcome.{Outcome}
@@ -25,7 +25,7 @@ use Rattle.runs.specs.declared.Clerk.{Clerk}
 use Rattle.runs.specs.declared.View.{View}
 use Rattle.runs.specs.Run.{Told, Lined, noRequest, answered, lineBy}
 use Rattle.runs.specs.Programs.{onBoard}
-use Rattle.runs.specs.Work.{viewed, roomy, put, due, unended, Turn, answering, turning, cutting, Working, stopped, workBy}
+use Rattle.runs.specs.Work.{viewed, roomy, due, unended, Turn, answering, turning, cutting, Working, stopped, workBy}
 
 module _ (view : View) (c : Clerk) (chunk : List ℕ) (from : ℕ) (out : List ℕ) (at : ℕ) where
   -- at the chunk's end
@@ -55,13 +55,12 @@ module _ (view : View) (c : Clerk) (chunk : List ℕ) (from : ℕ) (out : List �
       record { turns = n; enough = omega arith; same = rw (lt-ltb from (length chunk) h, f) }
 
 -- bytes that were written are put there
-pub put-is : {at to : ℕ} {bytes out after : List ℕ} → Wrote at to bytes out after → after ≡ put out at bytes
-unfolding put
+pub put-is : {at to : ℕ} {bytes out after : List ℕ} → Wrote at to bytes out after → after ≡ putFrom out at bytes
 put-is w = w .holds ∙ rw (w .ends)
 
 -- a turn whose records were written
 turn-is : (c : Clerk) {at to : ℕ} {bytes out after : List ℕ} → Wrote at to bytes out after →
-    _≡_ {A = Turn} (record { clerk = c; at = at + length bytes; out = put out at bytes }) (record { clerk = c; at = to; out = after })
+    _≡_ {A = Turn} (record { clerk = c; at = at + length bytes; out = putFrom out at bytes }) (record { clerk = c; at = to; out = after })
 turn-is c w = λ i. record { clerk = c; at = sym (w .ends) i; out = sym (put-is w) i }
 
 -- what is told of a good line whose request has had this answer

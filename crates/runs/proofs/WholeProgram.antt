@@ -9,13 +9,13 @@ use lib.ListN.{length, take, drop, take-append-drop}
 use lib.Seq.{drop-drop}
 use borrow.Author.Tests.{le-leb}
 use Rattle.laws.specs.Choice.{by-test}
-use Rattle.formats.specs.Split.{joined}
+use Rattle.formats.specs.Split.{part, joined}
 use Rattle.runs.specs.declared.View.{View}
 use Rattle.runs.specs.Run.{written}
 use Rattle.runs.specs.Work.{startedClerk, viewed, lineRoom, roomy, workOf}
-use Rattle.runs.specs.Callers.{portion, Course, starts, works, empties, Calling, callsOn, callsOver, sentOver}
+use Rattle.runs.specs.Callers.{Course, starts, works, empties, Calling, callsOn, callsOver, sentOver}
 use Rattle.runs.specs.Programs.{boardRun}
-use Rattle.runs.proofs.Portions.{portion-all}
+use Rattle.runs.proofs.Parts.{part-all}
 use Rattle.runs.proofs.Progress.{call-forward, call-used, call-moved, call-left}
 use Rattle.runs.proofs.AnyCourse.{call-did, course-finishes}
 
@@ -25,9 +25,8 @@ unfolding roomy
 roomy-empty out h = le-leb (0 + lineRoom) (length out) (omega arith)
 
 -- the bytes up to a place and those from there on
-portion-rest : (chunk : List ℕ) (from to : ℕ) → from ≤ to → portion chunk from to ++ drop to chunk ≡ drop from chunk
-unfolding portion
-portion-rest chunk from to h =
+part-rest : (chunk : List ℕ) (from to : ℕ) → from ≤ to → part chunk from to ++ drop to chunk ≡ drop from chunk
+part-rest chunk from to h =
     let e : from + (to - from) ≡ to = omega arith in
     ap (λ n. take (to - from) (drop from chunk) ++ drop n chunk) (sym e) ∙ ap (λ l. take (to - from) (drop from chunk) ++ l) (sym (drop-drop (to - from) from chunk)) ∙ take-append-drop (to - from) (drop from chunk)
 
@@ -48,7 +47,7 @@ module _ (view : View) (s : Calling) (chunk : List ℕ) (from : ℕ) where
       record { clerk = w .worked .clerk; sent = s .sent ++ take (w .worked .at) (w .out); out = w .out }
 
   -- one call
-  called-once : {text : List ℕ} → Called view text s → Called view (text ++ portion chunk from next) after
+  called-once : {text : List ℕ} → Called view text s → Called view (text ++ part chunk from next) after
   called-once k =
       let d = call-did view (s .clerk) chunk from (s .out) 0 (omega arith) in
       let l = d .long in
@@ -62,18 +61,18 @@ module _ (view : View) (s : Calling) (chunk : List ℕ) (from : ℕ) {text : Lis
   called-last n e =
       let f = call-forward view (s .clerk) chunk from (s .out) 0 (omega arith) in
       let u = call-used view (s .clerk) chunk from (s .out) 0 e in
-      rw e (subst (λ p. Called view (text ++ p) (after view s chunk from)) (portion-all chunk from (next view s chunk from) f u) (called-once view s chunk from k))
+      rw e (subst (λ p. Called view (text ++ p) (after view s chunk from)) (part-all chunk from (next view s chunk from) f u) (called-once view s chunk from k))
 
   -- after a full one come the others
   called-again : (n : ℕ) → workOf view (s .clerk) chunk from (s .out) 0 .worked .full ≡ true →
-      Called view ((text ++ portion chunk from (next view s chunk from)) ++ drop (next view s chunk from) chunk) (callsOn n view (after view s chunk from) chunk (next view s chunk from)) →
+      Called view ((text ++ part chunk from (next view s chunk from)) ++ drop (next view s chunk from) chunk) (callsOn n view (after view s chunk from) chunk (next view s chunk from)) →
       Called view (text ++ drop from chunk) (callsOn (suc n) view s chunk from)
   unfolding callsOn
   called-again n e r =
       let f = call-forward view (s .clerk) chunk from (s .out) 0 (omega arith) in
       rw e
       (subst (λ p. Called view p (callsOn n view (after view s chunk from) chunk (next view s chunk from)))
-      (append-assoc text (portion chunk from (next view s chunk from)) (drop (next view s chunk from) chunk) ∙ ap (λ l. text ++ l) (portion-rest chunk from (next view s chunk from) f))
+      (append-assoc text (part chunk from (next view s chunk from)) (drop (next view s chunk from) chunk) ∙ ap (λ l. text ++ l) (part-rest chunk from (next view s chunk from) f))
       r)
 
   -- a full call has moved on, and has left a byte

@@ -1,17 +1,14 @@
 -- Who calls the clerk, and what has been written out in all: any course of calls, and the one that the programs take (01, Lines).
-use Prim.Native.Nat.{ℕ, zero, suc, _-_, _≤_}
+use Prim.Native.Nat.{ℕ, zero, suc, _≤_}
 use mathlib.Core.Path.{_≡_}
 use mathlib.Core.List.{List, [], _∷_, _++_}
-use lib.ListN.{length, take, drop}
+use lib.ListN.{length, take}
 use Rattle.laws.specs.Choice.{pick}
+use Rattle.formats.specs.Split.{part}
 use Rattle.runs.specs.declared.Clerk.{Clerk}
 use Rattle.runs.specs.declared.View.{View}
 use Rattle.runs.specs.Work.{startedClerk, workOf, finishOf}
 use Rattle.runs.specs.Tellings.{clerkAfter, recordsIn}
-
--- the bytes of a chunk from one place up to another
-unfoldable pub portion : List ℕ → ℕ → ℕ → List ℕ
-portion chunk from to = take (to - from) (drop from chunk)
 
 -- any course of calls: the bytes that the clerk has worked on, what has been written out, the clerk, the buffer, and the place after its last record
 pub data Course (view : View) : List ℕ → List ℕ → Clerk → List ℕ → ℕ → Type 0 where
@@ -19,7 +16,7 @@ pub data Course (view : View) : List ℕ → List ℕ → Clerk → List ℕ →
   starts : (out : List ℕ) → Course view [] [] startedClerk out 0
   -- he may call the work on any chunk, from any place
   works : {text sent : List ℕ} {c : Clerk} {out : List ℕ} {at : ℕ} → Course view text sent c out at → (chunk : List ℕ) (from : ℕ) →
-      Course view (text ++ portion chunk from (workOf view c chunk from out at .worked .next)) sent
+      Course view (text ++ part chunk from (workOf view c chunk from out at .worked .next)) sent
       (workOf view c chunk from out at .worked .clerk)
       (workOf view c chunk from out at .out)
       (workOf view c chunk from out at .worked .at)

@@ -5,4 +5,3 @@ pub mod Tellings
 pub mod Callers
 pub mod Shown
 pub mod LinesTold
-pub mod VerdictLine

@@ -18,7 +18,7 @@ use Rattle.rules.specs.declared.Answer.the-variants.{No}
 use Rattle.rules.specs.AnswerWords.{wordOf, numberBeside}
 use Rattle.rules.specs.Desk.{Request}
 use Rattle.rules.specs.Step.{recordsOf}
-use Rattle.verdicts.specs.Written.{textOf}
+use Rattle.formats.specs.EventRecords.{textOf}
 
 -- what a step of some desk leaves and says
 pub record Stepped (S : Type 0) : Type 0 where

@@ -1,15 +1,16 @@
 -- A clerk's work: from a place of a chunk on, line after line, as long as there is a byte left and room for a line's records (01, Lines).
 use Prim.Native.Nat.{ℕ, zero, suc, _+_, _*_}
 use mathlib.Core.Bool.{Bool, true, false, not, _&&_}
-use mathlib.Core.List.{List, [], _∷_, _++_}
+use mathlib.Core.List.{List, []}
 use lib.Dec.{ltb, leb}
-use lib.ListN.{length, take, drop}
+use lib.ListN.{length}
 use Rattle.laws.specs.Choice.{pick}
 use Rattle.terms.specs.declared.refusals.Refusal.the-variants.{BadLine}
 use Rattle.terms.specs.Limits.{places, requestLines}
 use Rattle.formats.specs.declared.splitter.Splitter.{Splitter}
 use Rattle.formats.specs.Records.{longestRecord}
 use Rattle.formats.specs.Split.{fresh, cutOf, Found, foundAt}
+use Rattle.formats.specs.Wrote.{putFrom}
 use Rattle.rules.specs.declared.Answer.the-variants.{No}
 use Rattle.board.specs.Steps.{emptyDesk}
 use Rattle.board.specs.declared.state.Desk as board
@@ -42,10 +43,6 @@ lineRoom = longestRecord + wakesRoom
 unfoldable pub roomy : List ℕ → ℕ → Bool
 roomy out at = leb (at + lineRoom) (length out)
 
--- bytes put into a buffer from a place on; all other bytes stay
-unfoldable pub put : List ℕ → ℕ → List ℕ → List ℕ
-put out at bytes = take at out ++ bytes ++ drop (at + length bytes) out
-
 -- the line in the splitter is to be answered: its newline has come, and its number is at most 1,000,000 (01, Lines)
 unfoldable pub due : Splitter → Bool
 due s = s .ended && leb (s .line) requestLines
@@ -61,7 +58,7 @@ unfoldable pub answering : View → Clerk → List ℕ → ℕ → Turn
 answering view c out at =
     let l : Lined board.Desk = lineBy onBoard (c .desk) (c .splitter .line) (foundAt (c .splitter) .bytes) in
     let bytes = viewed view (l .told) in
-    record { clerk = record { desk = l .desk; splitter = c .splitter }; at = at + length bytes; out = put out at bytes }
+    record { clerk = record { desk = l .desk; splitter = c .splitter }; at = at + length bytes; out = putFrom out at bytes }
 
 -- after a cut: the line is answered if it is to be, and else nothing changes
 unfoldable pub turning : View → Clerk → List ℕ → ℕ → Turn
@@ -115,6 +112,6 @@ finishOf view c out at =
     let bytes = viewed view (unended (c .splitter .line)) in
     pick (owing (c .splitter))
     (pick (roomy out at)
-    (record { finished = record { at = at + length bytes; full = false }; out = put out at bytes })
+    (record { finished = record { at = at + length bytes; full = false }; out = putFrom out at bytes })
     (record { finished = record { at = at; full = true }; out = out }))
     (record { finished = record { at = at; full = false }; out = out })

@@ -3,7 +3,8 @@ use Prim.Native.Nat.{ℕ}
 use Prim.Native.Char.{code}
 use Prim.Native.String.{String, [] as none, _∷_ as _then_}
 use mathlib.Core.List.{List, [], _∷_}
-use Rattle.runs.specs.Programs.{answersOf, historyOf, verdictOf}
+use Rattle.verdicts.specs.VerdictLine.{verdictOf}
+use Rattle.runs.specs.Programs.{answersOf, historyOf}
 
 -- the bytes of a quoted text
 unfoldable pub bytes : String → List ℕ
@@ -36,7 +37,15 @@ S1 = "b\nb\nr\t2\t5\nw\t1\t5\nw\t2\t5\nr\t1\t5\nc\t2\nr\t2\t5\nc\t1\n"
 abbrev pub S1-history : String
 S1-history = "r\t2\t5\nw\t2\t5\nc\t2\nw\t1\t5\nc\t1\n"
 
--- the starred samples, S1 to S9; jobs are begun first, cell 5 unless said
+-- a run of ours in which one commit wakes three jobs: 1 on cell 3, and on cell 5 first 3 and then 2, who reads beside it (01, rule 4)
+abbrev pub wakes : String
+wakes = "b\nb\nb\nb\nw\t4\t5\nw\t4\t3\nr\t3\t5\nr\t2\t5\nw\t1\t3\nc\t4\n"
+
+-- a run of ours with a sending back, a retry and a give-up that wakes the job before it
+abbrev pub returns : String
+returns = "b\nb\nr\t1\t5\nw\t2\t5\nt\t2\nr\t2\t5\nw\t1\t5\na\t2\nt\t1\n"
+
+-- the starred samples, S1 to S9, and after them ours; jobs are begun first, cell 5 unless said
 abbrev pub samples : List Sample
 samples =
     -- S1, whole
@@ -84,4 +93,22 @@ samples =
     -- S9: increments of two jobs; then with a read put in after the second line
     ∷ record { program = verdict; input = "i\t1\t0\ni\t2\t0\ni\t1\t0\nc\t1\nc\t2\n"; output = "orderly\t1\t2\n" }
     ∷ record { program = verdict; input = "i\t1\t0\ni\t2\t0\nr\t2\t0\ni\t1\t0\nc\t1\nc\t2\n"; output = "knot\t1\t2\n" }
+    -- ours: three wakes of one step, on two cells and two of one queue
+    ∷ record {
+      program = answers;
+      input = wakes;
+      output = "1\tgo\t1\n2\tgo\t2\n3\tgo\t3\n4\tgo\t4\n5\tgo\t4\n6\tgo\t4\n7\twait\t3\n8\twait\t2\n9\twait\t1\n10\tgo\t4\n10\twake\t1\n10\twake\t3\n10\twake\t2\n";
+    }
+    ∷ record { program = history; input = wakes; output = "w\t4\t5\nw\t4\t3\nc\t4\nw\t1\t3\nr\t3\t5\nr\t2\t5\n" }
+    -- ours: back, retry and give-up; a retry of a running job is refused
+    ∷ record {
+      program = answers;
+      input = returns;
+      output = "1\tgo\t1\n2\tgo\t2\n3\tgo\t1\n4\tback\t2\n5\tgo\t2\n6\tgo\t2\n7\twait\t1\n8\tgo\t2\n8\twake\t1\n9\tno\t8\n";
+    }
+    ∷ record { program = history; input = returns; output = "r\t1\t5\nk\t2\nr\t2\t5\na\t2\nw\t1\t5\n" }
+    -- ours: what job 1 read before its k does not count; after an a there is no further line; t is of no history
+    ∷ record { program = verdict; input = "r\t1\t0\nw\t2\t0\nk\t1\nr\t1\t0\nc\t1\nc\t2\n"; output = "orderly\t2\t1\n" }
+    ∷ record { program = verdict; input = "r\t1\t0\na\t1\nc\t1\n"; output = "no\t3\t13\n" }
+    ∷ record { program = verdict; input = "r\t1\t0\nt\t1\nc\t1\n"; output = "no\t2\t9\n" }
     ∷ []

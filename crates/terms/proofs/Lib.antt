@@ -1,3 +1,4 @@
 pub mod Alphabet
 pub mod Numbers
+pub mod PaperNumbers
 pub mod Unique

@@ -4,24 +4,35 @@ ghost use Rattle.terms.specs.Letters.{byteOf, letterOf, ofRequests, ofHi
 
 // What a job may ask of a cell.
 pub enum Ask {
+    // r
     Read,
+    // w
     Write,
+    // i
     Increment,
 }
 
-// Every letter of the paper: b, c, a, t, k, and r, w, i for what a job asks.
+// Every letter of the paper.
 pub enum Letter {
+    // b: open a new job
     Begin,
+    // c: commit
     Commit,
+    // a: give up
     GiveUp,
+    // t: retry, in requests alone
     Retry,
+    // k: sent back, in histories alone
     Back,
+    // r, w and i: read, write or increment a cell
     Asks(Ask),
 }
 
 // A byte is one of the letters, or it is none.
 pub enum Lettered {
+    // the letter that has this byte
     Known(Letter),
+    // no letter has it
     Unknown,
 }
 

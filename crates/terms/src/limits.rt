@@ -1,4 +1,4 @@
-// The limits of the paper. The code takes each from here, and `all_limits` holds them against the definitions' own.
+// The limits of the paper, as the code has them; `all_limits` holds them against the definitions' own. Lengths of arrays, and loops over them, have 32, 64 and 256 written out: their contracts hold them to the definitions.
 ghost use mathlib.Core.Path.{_≡_};
 ghost use Rattle.terms.specs.Limits.{limitsOf};
 

@@ -4,21 +4,37 @@ ghost use Rattle.terms.specs.Refusals.{numberOf};
 
 // Why a request, a line, a history or a buffer is refused, in the order of the paper's table.
 pub enum Refusal {
+    // 1: request kind other than the seven
     UnknownKind,
+    // 2: cell above 63
     CellAbove,
+    // 3: job is not open (0 never is)
     NotOpen,
+    // 4: job is waiting, request is not give-up
     Waiting,
+    // 5: job was sent back, request is read, write, increment or commit
     SentBack,
+    // 6: begin with 32 open jobs
     AllOpen,
+    // 7: begin after 4,294,967,295 was given
     NoNumberLeft,
+    // 8: retry of a running job
     Running,
+    // 9: bad line
     BadLine,
+    // 10: desk started at number 0
     StartedAtZero,
+    // 11: history has a line 4,097
     TooManyLines,
+    // 12: job outside 1 to 255
     JobOutside,
+    // 13: line for a job that has committed or given up
     Ended,
+    // 14: order buffer shorter than 255 places
     ShortOrder,
+    // 15: record does not fit from the place given, or the place is past the end
     NoRoom,
+    // 16: history text longer than 65,536 bytes
     TooLong,
 }
 

@@ -2,18 +2,28 @@
 ghost use mathlib.Core.Path.{_≡_};
 ghost use Rattle.terms.specs.Words.{spellingOf};
 
+// The words of records and lines.
 pub enum Word {
+    // an answer: the request was done
     Go,
+    // an answer: the job waits
     Wait,
+    // an answer: the job was sent back
     Back,
+    // a refusal, in answers and verdicts
     No,
+    // a job that waited was granted its cell
     Wake,
+    // a verdict: there is a serial order
     Orderly,
+    // a verdict: there is a cycle of conflicts
     Knot,
 }
 
+// What parts fields.
 pub const TAB: u8 = b'\t';
 
+// What ends a line.
 pub const NEWLINE: u8 = b'\n';
 
 // A word's bytes from the first place on, and how many they are.

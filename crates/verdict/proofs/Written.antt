@@ -9,8 +9,7 @@ use Rattle.terms.specs.declared.refusals.Refusal.{Refusal}
 use Rattle.formats.specs.declared.Written.{Written}
 use Rattle.formats.specs.declared.Written.the-variants.{Next, Refused}
 use Rattle.formats.specs.Records.{told, left}
-use Rattle.runs.specs.Programs.{verdictOf}
-use Rattle.runs.specs.VerdictLine.{lineLimit}
+use Rattle.verdicts.specs.VerdictLine.{verdictOf, lineLimit}
 use Rattle.reporter.proofs.LineLength.{verdict-at-most, verdict-told, verdict-left}
 
 module _ (b text : List ℕ) (w : Written) (room : lineLimit ≤ length b) (said : w ≡ told b 0 (verdictOf text)) where

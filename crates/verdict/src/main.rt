@@ -7,8 +7,7 @@ use terms::limits::JUDGED_BYTES;
 ghost use mathlib.Core.Path.{_≡_};
 ghost use Prim.Native.Nat.{_≤_};
 ghost use lib.ListN.{length, take};
-ghost use Rattle.runs.specs.Programs.{verdictOf};
-ghost use Rattle.runs.specs.VerdictLine.{lineLimit};
+ghost use Rattle.verdicts.specs.VerdictLine.{verdictOf, lineLimit};
 
 // One byte more than a text may have is enough of a longer one.
 const READ: usize = JUDGED_BYTES + 1;

@@ -24,8 +24,9 @@ pub mod OneAnswer
 pub mod Refusing
 pub mod VerdictNumbers
 pub mod JudgedTexts
-pub mod RecordLines
 pub mod RecordsSay
 pub mod ReadBack
 pub mod WrittenHistories
+pub mod VerdictLine
+pub mod Printed
 pub mod Examples

@@ -12,11 +12,11 @@ use borrow.Author.Tests.{eqb-true, not-true}
 use Rattle.laws.specs.Choice.{by-test, not-both}
 use Rattle.laws.proofs.Parts.{and-first, and-second}
 use Rattle.terms.specs.Words.{newline}
-use Rattle.formats.specs.Split.{linesOf, joined, oneLine, every}
+use Rattle.formats.specs.Split.{linesOf, joined, oneLine, noNewline, every}
 use Rattle.formats.proofs.TextLines.{lines-join, lines-one}
 use Rattle.verdicts.specs.HistoryText.{readingsOf, lineAt, bare}
 use Rattle.verdicts.specs.LineTable.{linesBefore}
-use Rattle.verdicts.specs.Answers.{noNewline, NewlineOff, Stands}
+use Rattle.verdicts.specs.Answers.{NewlineOff, Stands}
 use Rattle.verdicts.specs.Answers.NewlineOff.{taken-off, lacks-it}
 use Rattle.verdicts.proofs.Readings.{readings-length}
 

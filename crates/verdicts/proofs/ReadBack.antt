@@ -31,9 +31,9 @@ use Rattle.formats.specs.declared.Reading.the-variants.{Good, Bad}
 use Rattle.formats.specs.Lines.{readLine}
 use Rattle.verdicts.specs.HistoryText.{readingsOf}
 use Rattle.verdicts.specs.LineTable.{readingAt, linesBefore, isBad, above, ends, endedIn, overAlready, holds, holdsAt, AllReadBack, FirstFault}
-use Rattle.verdicts.specs.Written.{markLetter, eventLine, textOf, within, allWithin}
-use Rattle.verdicts.proofs.RecordLines.{text-lines}
-use Rattle.verdicts.proofs.RecordsSay.{action-within, reads-action, reads-mark}
+use Rattle.formats.specs.EventRecords.{markLetter, eventLine, textOf, within, allWithin}
+use Rattle.formats.proofs.RecordLines.{text-lines}
+use Rattle.formats.proofs.EventsRead.{action-within, reads-action, reads-mark}
 use Rattle.verdicts.proofs.Refusing.{due-holds}
 
 -- a history in two parts is within a limit if each part is

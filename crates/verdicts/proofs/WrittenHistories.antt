@@ -23,9 +23,10 @@ use Rattle.verdicts.specs.declared.verdict.Verdict.the-variants.{Orderly
 use Rattle.verdicts.specs.HistoryText.{readingsOf, eventsIn}
 use Rattle.verdicts.specs.Judgement.{judgementOf}
 use Rattle.verdicts.specs.LineTable.{outside, holds, order, firstOf, tableSays, holdsAt, AllFaultless}
-use Rattle.verdicts.specs.Written.{eventLine, textOf, within, allWithin}
+use Rattle.formats.specs.EventRecords.{eventLine, textOf, within, allWithin}
 use Rattle.verdicts.proofs.JudgedTexts.{orderly-said-exactly}
-use Rattle.verdicts.proofs.RecordsSay.{action-within, mark-within, within-more, reads-action, reads-mark, records-say, text-short}
+use Rattle.formats.proofs.EventsRead.{action-within, mark-within, within-more, reads-action, reads-mark, text-short}
+use Rattle.verdicts.proofs.RecordsSay.{records-say}
 use Rattle.verdicts.proofs.ReadBack.{text-readings, line-of, event-within, row-of, written-read-back}
 
 -- a record whose job is 1 to 255 is for no job outside

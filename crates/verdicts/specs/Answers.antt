@@ -1,9 +1,8 @@
 -- What the judge has to answer, with no way to find it: the three cases of the paper (01, Refusals by number; 01, Lines; 01, The judge's rules).
 use Prim.Native.Nat.{ℕ, _≤_, _<_}
 use mathlib.Core.Path.{_≡_}
-use mathlib.Core.Bool.{Bool, true, not, _&&_}
+use mathlib.Core.Bool.{true}
 use mathlib.Core.List.{List, [], _∷_, _++_}
-use lib.Dec.{eqb}
 use lib.ListN.{length, take, drop}
 use Rattle.laws.specs.Lists.{member, distinct}
 use Rattle.terms.specs.declared.refusals.Refusal.{Refusal}
@@ -12,18 +11,13 @@ use Rattle.terms.specs.Words.{newline}
 use Rattle.terms.specs.Limits.{judgedJobs}
 use Rattle.conflict.specs.Schedule.{Equivalent, serial, edge}
 use Rattle.conflict.specs.History.{History, isCommit, marked, committedPart}
-use Rattle.formats.specs.Split.{linesOf, joined}
+use Rattle.formats.specs.Split.{linesOf, joined, noNewline}
 use Rattle.verdicts.specs.declared.verdict.Verdict.the-variants.{Orderly, Knot, No}
 use Rattle.verdicts.specs.Judged.{jobsOf}
 use Rattle.verdicts.specs.Meant.{SmallestFirst, Knotted, Takes, Shown}
 use Rattle.verdicts.specs.Judgement.{Judgement}
 use Rattle.verdicts.specs.HistoryText.{readingsOf, lineAt, eventsIn}
 use Rattle.verdicts.specs.LineTable.{linesBefore, FirstFault, AllFaultless}
-
--- whether no byte is a newline
-unfoldable pub noNewline : List ℕ → Bool
-noNewline [] = true
-noNewline (b ∷ l) = not (eqb b newline) && noNewline l
 
 -- the bytes are a line without its newline, which the last line of a text may lack
 pub data NewlineOff : List ℕ → List ℕ → Type 0 where

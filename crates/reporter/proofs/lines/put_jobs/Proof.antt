@@ -6,7 +6,7 @@ use borrow.Author.Needs.{needs}
 use lib.ListN.{length, take}
 use Rattle.formats.specs.Wrote.{Wrote}
 use Rattle.formats.proofs.WroteLaws.{wrote-as, wrote-then, wrote-length}
-use Rattle.runs.specs.Programs.{tabbed}
+use Rattle.formats.specs.Records.{tabbed}
 use Rattle.reporter.proofs.TabbedLaws.{none-written, tabbed-next, tabbed-all, next-length, first-shorter}
 use Rattle.reporter.proofs.lines.put_jobs.Statement.{statement}
 use Rattle.reporter.proofs.lines.put_jobs.Tie as tie

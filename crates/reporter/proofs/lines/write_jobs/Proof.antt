@@ -9,7 +9,7 @@ use Rattle.terms.specs.Words.{spelt}
 use Rattle.formats.proofs.RoomLaws.{written, refused}
 use Rattle.text.proofs.WordLaws.{spelling-length}
 use Rattle.formats.proofs.WroteLaws.{wrote-as, wrote-then, wrote-length}
-use Rattle.runs.specs.Programs.{tabbed}
+use Rattle.formats.specs.Records.{tabbed}
 use Rattle.reporter.proofs.WordLines.{word-line-is, line-fits, line-too-long, word-too-long}
 use Rattle.reporter.proofs.lines.write_jobs.Statement.{statement}
 use Rattle.reporter.proofs.lines.write_jobs.Tie as tie

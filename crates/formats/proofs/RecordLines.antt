@@ -16,14 +16,13 @@ use Rattle.terms.specs.Words.{newline}
 use Rattle.conflict.specs.declared.action.Event.{Event}
 use Rattle.conflict.specs.declared.action.Event.the-variants.{Does, Ends}
 use Rattle.conflict.specs.History.{History}
 use Rattle.formats.specs.Lines.{isDigit, digitsOnly}
 use Rattle.formats.specs.Decimal.{decimal}
 use Rattle.formats.specs.Records.{field, lineRecord}
-use Rattle.formats.specs.Split.{linesOf, joined, oneLine, hasNewline, every}
+use Rattle.formats.specs.Split.{linesOf, joined, oneLine, hasNewline, noNewline, every}
 use Rattle.formats.proofs.DecimalLaws.{decimal-digits}
 use Rattle.formats.proofs.TextLines.{lines-only}
-use Rattle.verdicts.specs.Answers.{noNewline}
-use Rattle.verdicts.specs.Written.{askBy, markLetter, eventLine, textOf}
+use Rattle.formats.specs.EventRecords.{askBy, markLetter, eventLine, textOf}
 
 -- digits are no newlines
 pub digits-plain : (ds : List ℕ) → digitsOnly ds ≡ true → noNewline ds ≡ true

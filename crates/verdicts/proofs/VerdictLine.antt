@@ -21,14 +21,14 @@ use Rattle.formats.specs.Lines.{shortest, valueFrom}
 use Rattle.formats.specs.Decimal.{decimal}
 use Rattle.formats.proofs.DigitLaws.{decimal-0}
 use Rattle.formats.proofs.DecimalLaws.{decimal-digits, decimal-shortest, decimal-value}
 use Rattle.verdicts.specs.declared.verdict.Verdict.{Verdict}
 use Rattle.verdicts.specs.declared.verdict.Verdict.the-variants.{Orderly as is-orderly, Knot as is-knot, No as is-refused}
-use Rattle.verdicts.specs.Answers.{noNewline}
+use Rattle.formats.specs.Records.{tabbed, wordLine}
+use Rattle.formats.specs.Split.{noNewline}
 use Rattle.verdicts.specs.Judgement.{judgementOf}
-use Rattle.verdicts.proofs.RecordLines.{digits-plain, plain-append}
+use Rattle.formats.proofs.RecordLines.{digits-plain, plain-append}
 use Rattle.verdicts.proofs.Refusing.{short-exactly, line-0-short}
-use Rattle.runs.specs.Programs.{tabbed, wordLine, sayLine, judgedLine, verdictOf}
-use Rattle.runs.specs.VerdictLine.{OneLine}
+use Rattle.verdicts.specs.VerdictLine.{sayLine, judgedLine, verdictOf, OneLine}
 
 -- no word has a newline
 word-plain : (w : Word) → noNewline (spelt w) ≡ true

@@ -1,23 +1,21 @@
--- A history as the text of its records, one after another, as the desk writes them (01, Lines: History records).
-use Prim.Native.Nat.{ℕ, _≤_}
-use mathlib.Core.Path.{_≡_}
+-- The history record of an event, and the text of a history: its records, one after another (01, Lines: History records).
+use Prim.Native.Nat.{ℕ}
 use mathlib.Core.Bool.{Bool, true, _&&_}
 use mathlib.Core.List.{List, [], _∷_, _++_}
 use lib.Dec.{leb, ltb}
-use lib.ListN.{length}
 use Rattle.terms.specs.declared.letters.Ask.{Ask}
 use Rattle.terms.specs.declared.letters.Ask.the-variants.{Read as asks-read, Write as asks-write, Increment as asks-increment}
 use Rattle.terms.specs.declared.letters.Letter.{Letter}
 use Rattle.terms.specs.declared.letters.Letter.the-variants.{Commit, GiveUp, Back, Asks}
-use Rattle.terms.specs.Limits.{cells, judgedJobs, judgedLines}
+use Rattle.terms.specs.Limits.{cells}
 use Rattle.conflict.specs.declared.action.Kind.{Kind}
 use Rattle.conflict.specs.declared.action.Kind.the-variants.{Read, Write, Increment}
 use Rattle.conflict.specs.declared.action.Mark.{Mark}
 use Rattle.conflict.specs.declared.action.Mark.the-variants.{Commit as commits, GiveUp as gives-up, Back as goes-back}
 use Rattle.conflict.specs.declared.action.Event.{Event}
 use Rattle.conflict.specs.declared.action.Event.the-variants.{Does, Ends}
-use Rattle.conflict.specs.History.{History, lineOf}
+use Rattle.conflict.specs.History.{History}
 use Rattle.formats.specs.Records.{lineRecord}
 
 -- r, w or i, by the kind of the action
 unfoldable pub askBy : Kind → Ask
@@ -50,8 +48,3 @@ within last (Ends m j) = leb 1 j && leb j last
 unfoldable pub allWithin : ℕ → History → Bool
 allWithin last [] = true
 allWithin last (e ∷ h) = within last e && allWithin last h
-
--- a history keeps within the judge's limits: no job above 255, and no event after the 4,096th (01, refusals 12 and 11)
-pub record KeepsLimits (h : History) : Type 0 where
-  pub jobs : (j : ℕ) → lineOf j h ≡ true → j ≤ judgedJobs
-  pub events : length h ≤ judgedLines
