@@ -17,7 +17,7 @@ use Rattle.conflict.specs.Schedule.{Equivalent, serial, ConflictSerializable, e
 use Rattle.conflict.specs.History.{History, isCommit, marked, committedPart, commitOrder}
 use Rattle.conflict.proofs.Marks.{listed}
 use Rattle.formats.specs.Decimal.{decimal}
-use Rattle.formats.specs.Split.{joined}
+use Rattle.formats.specs.Split.{linesOf, joined}
 use Rattle.rules.specs.Step.{Started}
 use Rattle.rules.proofs.Serial.{serial-by-commits, commits-once, committed-jobs-serializable}
 use Rattle.verdicts.specs.declared.verdict.Verdict.the-variants.{Orderly, Knot, No}
