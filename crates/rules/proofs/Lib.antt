@@ -67,3 +67,4 @@ pub mod OthersLocks
 pub mod OneMove
 pub mod OneCourse
 pub mod Promised
+pub mod Examples

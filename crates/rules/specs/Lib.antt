@@ -29,3 +29,4 @@ pub mod Wakes
 pub mod Recorded
 pub mod DeskLimits
 pub mod Orderly
+pub mod Examples
