@@ -17,7 +17,7 @@ use Rattle.conflict.specs.Schedule.{ConflictSerializable, edge}
 use Rattle.conflict.specs.History.{committedPart, commitOrder}
 use Rattle.formats.specs.Split.{linesOf}
 use Rattle.rules.specs.Step.{Started}
-use Rattle.rules.proofs.Serial.{committed-jobs-serializable}
+use Rattle.rules.proofs.Serial.{serial-history}
 use Rattle.verdicts.specs.declared.verdict.Verdict.{Verdict}
 use Rattle.verdicts.specs.declared.verdict.Verdict.the-variants.{Orderly, Knot, No}
 use Rattle.verdicts.specs.HistoryText.{eventsIn}
@@ -89,7 +89,7 @@ module _ (text : List ℕ) where
   pub history-no-knot : (buffer : List ℕ) (n : ℕ) → judgementOf (historyOf text) buffer .said ≡ Knot n → ⊥
   history-no-knot buffer n e =
       let k = knot-said (historyOf text) buffer n e in
-      knot-said-exactly (historyOf text) buffer (k .0) (k .1) .0 (n, e) (subst (λ h. ConflictSerializable (committedPart h)) (sym history-says) (committed-jobs-serializable started))
+      knot-said-exactly (historyOf text) buffer (k .0) (k .1) .0 (n, e) (subst (λ h. ConflictSerializable (committedPart h)) (sym history-says) (serial-history started .serializable))
 
   -- the judge's limits by what comes in alone: at most 255 begins that go, and at most 4,096 lines
   pub small-input : length (givenIn (runOn text)) ≤ judgedJobs → length (linesOf text) ≤ judgedLines → KeepsLimits (historyOn text)

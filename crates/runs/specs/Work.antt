@@ -1,7 +1,7 @@
 -- A clerk's work: from a place of a chunk on, line after line, as long as there is a byte left and room for a line's records (01, Lines).
 use Prim.Native.Nat.{ℕ, zero, suc, _+_, _*_}
 use mathlib.Core.Bool.{Bool, true, false, not, _&&_}
-use mathlib.Core.List.{List, [], _∷_, _++_}
+use mathlib.Core.List.{List, [], _++_}
 use lib.Dec.{ltb, leb}
 use lib.ListN.{length, take, drop}
 use Rattle.laws.specs.Choice.{pick}
@@ -9,7 +9,7 @@ use Rattle.terms.specs.declared.refusals.Refusal.the-variants.{BadLine}
 use Rattle.terms.specs.Limits.{places, requestLines}
 use Rattle.formats.specs.declared.splitter.Splitter.{Splitter}
 use Rattle.formats.specs.Records.{longestRecord}
-use Rattle.formats.specs.Split.{fresh, cutOf, Found, foundAt}
+use Rattle.formats.specs.Split.{fresh, cutOf, foundAt}
 use Rattle.rules.specs.declared.Answer.the-variants.{No}
 use Rattle.board.specs.Steps.{emptyDesk}
 use Rattle.board.specs.declared.state.Desk as board
@@ -19,7 +19,8 @@ use Rattle.runs.specs.declared.View.the-variants.{Answers, History}
 use Rattle.runs.specs.declared.Worked.{Worked}
 use Rattle.runs.specs.declared.Finished.{Finished}
 use Rattle.runs.specs.Run.{Told, Lined, noRequest, lineBy, answerLines, historyLines}
-use Rattle.runs.specs.Programs.{onBoard, firstNumber}
+use Rattle.board.specs.Running.{onBoard}
+use Rattle.runs.specs.Programs.{firstNumber}
 
 -- before any byte: the desk is started at 1
 unfoldable pub startedClerk : Clerk
