@@ -1,26 +1,34 @@
--- THE PROMISES, of the desk that runs; and some of them written out, to be read.
+-- THE PROMISES, of the desk that runs; and the foremost of them written out of its step, to be read.
 -- Assumes nothing.
 use Prim.Native.Nat.{ℕ, _<_, _≤_}
 use mathlib.Core.Path.{_≡_}
-use mathlib.Core.Logic.{_≢_}
-use mathlib.Core.List.{List, [], _++_}
+use mathlib.Core.Logic.{_≢_, _↔_}
+use mathlib.Core.List.{List}
 use Rattle.terms.specs.declared.letters.Ask.{Ask}
 use Rattle.terms.specs.declared.letters.Letter.the-variants.{Begin, Asks}
 use Rattle.terms.specs.declared.letters.Lettered.the-variants.{Known}
+use Rattle.terms.specs.declared.refusals.Refusal.{Refusal}
 use Rattle.terms.specs.Letters.{letterOf}
 use Rattle.terms.specs.Limits.{lastNumber}
-use Rattle.conflict.specs.History.{History}
-use Rattle.rules.specs.declared.Answer.the-variants.{Go, Wait, Back}
-use Rattle.rules.specs.Desk.{Request, freshDesk}
-use Rattle.rules.specs.Step.{fresh}
+use Rattle.conflict.specs.Schedule.{Equivalent, serial}
+use Rattle.conflict.specs.History.{History, committedPart, commitOrder}
+use Rattle.rules.specs.declared.Answer.the-variants.{Go, Wait, Back, No}
+use Rattle.rules.specs.Desk.{Request, freshDesk, waiting}
+use Rattle.rules.specs.Desk as paper
+use Rattle.rules.specs.Table.{Due}
+use Rattle.rules.specs.Asked.{asker}
+use Rattle.rules.specs.Step.{step, fresh}
 use Rattle.rules.specs.Stepping.{through}
-use Rattle.rules.specs.Runs.{writes, historyOf}
-use Rattle.rules.specs.Course.{from}
-use Rattle.rules.specs.Waiting.{OldestLive, ServedInTime, asker}
-use Rattle.rules.specs.Effects.{Begins}
+use Rattle.rules.specs.Runs.{writes}
+use Rattle.rules.specs.Course.{from, shown}
+use Rattle.rules.specs.Examples.{answersOf}
+use Rattle.rules.specs.Waiting.{OldestLive, ServedInTime}
+use Rattle.rules.specs.Effects.{Begins, RunEnds}
+use Rattle.rules.specs.Releasing.{AllReleased}
+use Rattle.rules.specs.Ages.{AgesFrom}
 use Rattle.rules.specs.Promises.{Promises}
 use Rattle.rules.proofs.StartedRuns.{run-started}
-use Rattle.rules.proofs.OneCourse.{keeps-promises, started-course}
+use Rattle.rules.proofs.OneCourse.{keeps-promises, started-course, start-promises, same-answers}
 use Rattle.board.specs.declared.state.Desk.{Desk}
 use Rattle.board.specs.Steps.{emptyDesk, stepOf}
 use Rattle.board.specs.Running.{view, onBoard, Started, running}
@@ -30,18 +38,43 @@ use Rattle.board.proofs.RunsAsPaper.{faithful}
 pub desk-promises : {d : Desk} {h : History} → Started d h → Promises h (running d)
 desk-promises = keeps-promises faithful
 
--- so it does after any requests to an empty desk
-pub desk-promises-from-empty : (n : ℕ) → 0 < n → n ≤ lastNumber → (rs : List Request) → Promises ([] ++ writes onBoard (emptyDesk n) rs) (running (through onBoard (emptyDesk n) rs))
-desk-promises-from-empty n some last rs = desk-promises (run-started (fresh n some last) rs)
+module _ (n : ℕ) (some : 0 < n) (last : n ≤ lastNumber) where
+  -- so it does after any requests to an empty desk
+  pub desk-promises-from-empty : (rs : List Request) → Promises (writes onBoard (emptyDesk n) rs) (running (through onBoard (emptyDesk n) rs))
+  desk-promises-from-empty rs = desk-promises (run-started (fresh n some last) rs)
 
--- and from its start on it shows what the paper's desk shows
-pub desk-is-paper : (n : ℕ) → 0 < n → n ≤ lastNumber → running (emptyDesk n) ≡ from (freshDesk n)
-desk-is-paper = started-course faithful
+  -- what is promised of the numbers from a start on
+  pub desk-ages-from : AgesFrom n (running (emptyDesk n))
+  desk-ages-from = start-promises faithful n some last
+
+  -- and from its start on it shows what the paper's desk shows
+  pub desk-is-paper : running (emptyDesk n) ≡ from (freshDesk n)
+  desk-is-paper = started-course faithful n some last
+
+  -- so any requests get the answers that the paper's desk gives, as those of the examples
+  pub desk-answers : (rs : List Request) → answersOf onBoard (emptyDesk n) rs ≡ answersOf step (freshDesk n) rs
+  desk-answers rs = same-answers faithful n some last rs
+
+-- the committed jobs in order of commit are a conflict-equivalent serial order (demand 2)
+pub desk-serial : {d : Desk} {h : History} → Started d h → Equivalent (committedPart h) (serial (commitOrder h) (committedPart h))
+desk-serial s = desk-promises s .serial .serial-by-commits
+
+-- whenever a job waits, some younger job is live and not waiting (demand 3)
+pub desk-somebody-runs : {d : Desk} {h : History} → Started d h → (j c : ℕ) (a : Ask) → view d .stat j ≡ waiting c a → (i : ℕ) × (j < i) × (view d .stat i ≡ paper.running)
+desk-somebody-runs s = desk-promises s .service .somebody-runs
 
 module _ {d : Desk} {h : History} (s : Started d h) (r : Request) where
+  -- a step is refused exactly where the table has that refusal due (demand 1)
+  pub desk-refused-exactly : (why : Refusal) → (stepOf d (r .kind) (r .job) (r .cell) .said .answer ≡ No why) ↔ Due (view d) r why
+  desk-refused-exactly = desk-promises s .refuses .refused-exactly r
+
   -- a begin that goes opens a running job under the next number
   pub desk-begins : (j : ℕ) → letterOf (r .kind) ≡ Known Begin → stepOf d (r .kind) (r .job) (r .cell) .said .answer ≡ Go j → Begins (view d) (view (stepOf d (r .kind) (r .job) (r .cell) .desk)) j
   desk-begins = desk-promises s .effects .begins r
+
+  -- where a run ends, every cell is released: who is woken, who is left, and why (01, rule 4)
+  pub desk-rule-4 : RunEnds (stepOf d (r .kind) (r .job) (r .cell) .said .answer) r → AllReleased (view d) (shown view (onBoard d r)) r
+  desk-rule-4 = desk-promises s .wakes r .rule-4
 
   -- a job older than every other live job is never answered back (demand 3)
   pub desk-never-answered-back : (j : ℕ) → OldestLive (view d) j → stepOf d (r .kind) (r .job) (r .cell) .said .answer ≢ Back j

@@ -13,7 +13,7 @@ use Rattle.conflict.specs.declared.modes.Mode.{Mode}
 use Rattle.conflict.specs.declared.modes.Mode.the-variants.{Free}
 use Rattle.rules.specs.Desk.{Status, closed, waiting, Waiter, at, In, first}
 use Rattle.rules.specs.Locks.{without, settle, released}
-use Rattle.rules.specs.Rules.{rowsAfter, wakesOf, wakened, isWoken}
+use Rattle.rules.specs.Rules.{rowsAfter, wakesOf, runAgain, isWoken}
 use Rattle.rules.specs.Invariant.{Inv}
 use Rattle.rules.proofs.Tests.{at-other}
 use Rattle.board.specs.declared.state.Desk.{Desk}
@@ -69,7 +69,7 @@ module _ {d : Desk} {q : ℕ → List Waiter} (plain : Plain d) (v : Inv (paperO
 
   -- the job has dropped its locks and has its status
   start-stage : code ≢ waitingCode → Stage (paperOf d q) j gets (d .cell) (d .ask) 0 start
-  unfolding statusBy modeBy wakened isWoken wakesOf
+  unfolding statusBy modeBy runAgain isWoken wakesOf
   start-stage n = record {
     sound = start-sound n;
     done = λ c l. absurd (omega arith);

@@ -1,8 +1,7 @@
 -- THE DESK THAT RUNS DOES AS THE PAPER'S DESK DOES: what is seen in new arrays is a fresh desk, and each step of started ones is the step of the desk that is seen in them.
 -- Assumes nothing.
-use Prim.Native.Nat.{ℕ, _≤_, _-_}
+use Prim.Native.Nat.{ℕ, _≤_}
 use lib.ListN.{length, getD}
-use Rattle.terms.specs.Limits.{places}
 use mathlib.Core.Path.{_≡_, sym, ap, _∙_, fun-ext}
 use Rattle.conflict.specs.History.{History}
 use Rattle.rules.specs.Desk as paper
@@ -35,7 +34,7 @@ view-step d h s r =
     (λ i. record { desk = view-is (o .stands) (step-inv v r) i; said = o .answer i; wakes = o .wakes i }) ∙ ap (λ E. step E r) (sym (view-is t v))
 
 -- the wakes are the first of their list, at most 31, and nothing stands past them
-pub desk-wakes-few : {d : Desk} {h : History} → Started d h → (kind job c : ℕ) → (stepOf d kind job c .said .count ≤ places - 1) × (length (wakesTold (stepOf d kind job c .said)) ≡ stepOf d kind job c .said .count) × ((q : ℕ) → stepOf d kind job c .said .count ≤ q → getD (stepOf d kind job c .said .wakes) q noAction ≡ noAction)
+pub desk-wakes-few : {d : Desk} {h : History} → Started d h → (kind job c : ℕ) → (stepOf d kind job c .said .count ≤ 31) × (length (wakesTold (stepOf d kind job c .said)) ≡ stepOf d kind job c .said .count) × ((q : ℕ) → stepOf d kind job c .said .count ≤ q → getD (stepOf d kind job c .said .wakes) q noAction ≡ noAction)
 desk-wakes-few s kind job c =
     let (D, k, t) = stands-for-paper s in
     let o = tie t (started-inv k) kind job c in

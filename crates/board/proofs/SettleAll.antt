@@ -12,7 +12,7 @@ use Rattle.terms.specs.Limits.{places, cells}
 use Rattle.conflict.specs.declared.modes.Mode.the-variants.{Free}
 use Rattle.rules.specs.Desk.{Status, waiting, Desk, at, In}
 use Rattle.rules.specs.Locks.{without, settle, released}
-use Rattle.rules.specs.Rules.{isWoken, wakesAt, wakesOf, wakened, rowsAfter}
+use Rattle.rules.specs.Rules.{isWoken, wakesAt, wakesOf, runAgain, rowsAfter}
 use Rattle.rules.specs.Invariant.{Inv}
 use Rattle.rules.proofs.Queue.{without-in, without-other, in-without, without-falling}
 use Rattle.rules.proofs.Statuses.{running-not-waiting, one-cell}
@@ -31,7 +31,7 @@ pub record Stage (d : Desk) (j : ℕ) (st : Status) (cell ask : List ℕ) (k : �
   pub sound : Sound (d .jobs) s
   pub done : (c : ℕ) → c < k → modesOf (d .jobs) s c ≡ rowsAfter d j c .row .held
   pub left : (c : ℕ) → k ≤ c → modesOf (d .jobs) s c ≡ at (d .row c .held) j Free
-  pub statuses : statusesOf (d .jobs) cell ask s ≡ wakened (at (d .stat) j st) (wakesOf (rowsAfter d j) k)
+  pub statuses : statusesOf (d .jobs) cell ask s ≡ runAgain (at (d .stat) j st) (wakesOf (rowsAfter d j) k)
   pub told : wakesSoFar s ≡ wakesOf (rowsAfter d j) k
 
 module _ {d : Desk} (v : Inv d) (j : ℕ) (st : Status) (ends : (c : ℕ) (a : Ask) → st ≢ waiting c a) (cell ask : List ℕ) where
@@ -76,7 +76,7 @@ module _ {d : Desk} (v : Inv d) (j : ℕ) (st : Status) (ends : (c : ℕ) (a : A
     sound = h .sound;
     done = λ c l. by-last c k l (λ e. subst (λ b. modesOf (d .jobs) t b ≡ rowsAfter d j b .row .held) (sym e) (h .modes)) (λ m. h .others c (λ e. omega arith) ∙ g .done c m);
     left = λ c l. h .others c (λ e. omega arith) ∙ g .left c (omega arith);
-    statuses = h .statuses ∙ ap (λ f. wakened f (wakesAt k (rowsAfter d j k .woken))) (g .statuses) ∙ wakened-twice (at (d .stat) j st) (wakesOf (rowsAfter d j) k) (wakesAt k (rowsAfter d j k .woken));
+    statuses = h .statuses ∙ ap (λ f. runAgain f (wakesAt k (rowsAfter d j k .woken))) (g .statuses) ∙ wakened-twice (at (d .stat) j st) (wakesOf (rowsAfter d j) k) (wakesAt k (rowsAfter d j k .woken));
     told = h .told ∙ ap (λ l. l ++ wakesAt k (rowsAfter d j k .woken)) (g .told);
   }
 

@@ -16,8 +16,8 @@ use Rattle.terms.specs.Limits.{places, cells}
 use Rattle.conflict.specs.declared.modes.Mode.the-variants.{Free}
 use Rattle.conflict.specs.Modes.{needed, asked}
 use Rattle.rules.specs.Desk.{Waiter, at, first}
-use Rattle.rules.specs.Locks.{agrees, wants, woke, Settled, settle}
-use Rattle.rules.specs.Rules.{wake, wakesAt, isWoken, wakened}
+use Rattle.rules.specs.Locks.{agrees, wants, wokenFirst, Settled, settle}
+use Rattle.rules.specs.Rules.{wake, wakesAt, isWoken, runAgain}
 use Rattle.rules.specs.Invariant.{Once}
 use Rattle.board.specs.Codes.{runningCode, waitingCode, askOf}
 use Rattle.board.specs.Places.{modeAt, waitsAt, waiters, wantsAt}
@@ -35,7 +35,7 @@ pub record CellDone (ks cell ask : List ℕ) (c : ℕ) (s : Settling) (r : Settl
   pub sound : Sound ks t
   pub modes : modesOf ks t c ≡ r .row .held
   pub others : (b : ℕ) → b ≢ c → modesOf ks t b ≡ modesOf ks s b
-  pub statuses : statusesOf ks cell ask t ≡ wakened (statusesOf ks cell ask s) (wakesAt c (r .woken))
+  pub statuses : statusesOf ks cell ask t ≡ runAgain (statusesOf ks cell ask s) (wakesAt c (r .woken))
   pub told : wakesSoFar t ≡ wakesSoFar s ++ wakesAt c (r .woken)
 
 module _ (ks cell ask : List ℕ) (c : ℕ) where
@@ -53,7 +53,7 @@ module _ (ks cell ask : List ℕ) (c : ℕ) where
 
   -- nothing granted, nothing changed
   nothing-done : (s : Settling) (q : List Waiter) → Sound ks s → CellDone ks cell ask c s (record { row = record { held = modesOf ks s c; queue = q }; woken = [] }) s
-  unfolding wakened wakesAt isWoken
+  unfolding runAgain wakesAt isWoken
   nothing-done s q h = record {
     sound = h;
     modes = refl;
@@ -89,13 +89,13 @@ module _ (ks cell ask : List ℕ) (c : ℕ) (size : length ks ≡ places) (o : O
         rw (front ks (s .told .status) cell ask o (sound-closed size h cell ask) size (h .statuses) c w q k, waits .1, asks-for, lt-ltb (pos ks (w .job)) places (seat-below seat places size), agrees-at ks (s .held) c size o (sound-held size h c) seat (wants (modesOf ks s c) w))
 
     -- the first waiter granted, and the rest settled
-    granted-done : c < cells → (r : Settled) (t : Settling) → CellDone ks cell ask c (granted ks c (pos ks (w .job)) (w .ask) s) r t → CellDone ks cell ask c s (woke w r) t
-    unfolding woke wakesAt wake
+    granted-done : c < cells → (r : Settled) (t : Settling) → CellDone ks cell ask c (granted ks c (pos ks (w .job)) (w .ask) s) r t → CellDone ks cell ask c s (wokenFirst w r) t
+    unfolding wokenFirst wakesAt wake
     granted-done b r t d = record {
       sound = d .sound;
       modes = d .modes;
       others = λ e n. d .others e n ∙ granted-others cell ask c (w .ask) size h seat b e n;
-      statuses = d .statuses ∙ ap (λ st. wakened st (wakesAt c (r .woken))) (granted-statuses cell ask c (w .ask) size h seat b) ∙ wakened-more (statusesOf ks cell ask s) c w (r .woken);
+      statuses = d .statuses ∙ ap (λ st. runAgain st (wakesAt c (r .woken))) (granted-statuses cell ask c (w .ask) size h seat b) ∙ wakened-more (statusesOf ks cell ask s) c w (r .woken);
       told = d .told ∙ ap (λ l. l ++ wakesAt c (r .woken)) (granted-told cell ask c (w .ask) size h seat b) ∙ append-assoc (wakesSoFar s) (wake c w ∷ []) (wakesAt c (r .woken));
     }
 

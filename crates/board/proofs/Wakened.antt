@@ -9,7 +9,7 @@ use Rattle.laws.specs.Lists.{same}
 use Rattle.laws.proofs.Lists.{same-sym}
 use Rattle.conflict.specs.declared.action.Action.{Action}
 use Rattle.rules.specs.Desk.{Status, running, Waiter, at}
-use Rattle.rules.specs.Rules.{wake, wakesAt, isWoken, wakened}
+use Rattle.rules.specs.Rules.{wake, wakesAt, isWoken, runAgain}
 use Rattle.rules.proofs.Wakes.{woken-either}
 
 -- woken or not, who runs runs
@@ -18,16 +18,16 @@ still true = refl
 still false = refl
 
 -- some wakes and then others
-pub wakened-twice : (st : ℕ → Status) (a b : List Action) → wakened (wakened st a) b ≡ wakened st (a ++ b)
-unfolding wakened
+pub wakened-twice : (st : ℕ → Status) (a b : List Action) → runAgain (runAgain st a) b ≡ runAgain st (a ++ b)
+unfolding runAgain
 wakened-twice st a b = fun-ext (λ i. rw (woken-either i a b) (by-test (isWoken i a) (λ t. rw t (still (isWoken i b))) (λ f. rw f)))
 
 -- a job that runs is one that has been woken
-wakened-one : (st : ℕ → Status) (c : ℕ) (w : Waiter) → at st (w .job) running ≡ wakened st (wake c w ∷ [])
-unfolding wakened isWoken wake at
+wakened-one : (st : ℕ → Status) (c : ℕ) (w : Waiter) → at st (w .job) running ≡ runAgain st (wake c w ∷ [])
+unfolding runAgain isWoken wake at
 wakened-one st c w = fun-ext (λ i. rw (same-sym i (w .job)) (by-test (same (w .job) i) (λ t. rw t) (λ f. rw f)))
 
 -- a job that runs already and further wakes are the wakes with that job first
-pub wakened-more : (st : ℕ → Status) (c : ℕ) (w : Waiter) (q : List Waiter) → wakened (at st (w .job) running) (wakesAt c q) ≡ wakened st (wakesAt c (w ∷ q))
+pub wakened-more : (st : ℕ → Status) (c : ℕ) (w : Waiter) (q : List Waiter) → runAgain (at st (w .job) running) (wakesAt c q) ≡ runAgain st (wakesAt c (w ∷ q))
 unfolding wakesAt
-wakened-more st c w q = ap (λ f. wakened f (wakesAt c q)) (wakened-one st c w) ∙ wakened-twice st (wake c w ∷ []) (wakesAt c q)
+wakened-more st c w q = ap (λ f. runAgain f (wakesAt c q)) (wakened-one st c w) ∙ wakened-twice st (wake c w ∷ []) (wakesAt c q)

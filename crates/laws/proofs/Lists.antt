@@ -1,13 +1,14 @@
 -- Laws of lists of numbers, such as jobs: who is in one, whether it names each once, where one stands in it, and one more in front.
 -- Assumes nothing.
 use Prim.Native.Nat.{ℕ, suc, _<_}
-use mathlib.Core.Path.{_≡_, refl, sym, ap, _∙_}
+use mathlib.Core.Path.{_≡_, refl, sym, ap, subst, _∙_}
 use mathlib.Core.Bool.{Bool, true, false, not, _&&_, _||_, and-true, and-false}
-use mathlib.Core.List.{List, _∷_}
+use mathlib.Core.List.{List, [], _∷_}
+use mathlib.Core.Option.{some}
 use native.Mathlib.Omega.{arith}
 use borrow.Author.Tests.{eqb-true, eqb-false, eq-eqb, ne-eqb, not-true}
 use Rattle.laws.specs.Choice.{by-test, not-both}
-use Rattle.laws.specs.Lists.{same, member, distinct, pos, put}
+use Rattle.laws.specs.Lists.{same, member, distinct, pos, put, firstOf}
 use Rattle.laws.proofs.Parts.{and-first, and-second}
 
 -- a number is the same as itself
@@ -95,3 +96,13 @@ pub put-ahead : (b : Bool) (k : ℕ) (order : List ℕ) (i j : ℕ) → distinct
 unfolding put
 put-ahead true k order i j d p q h = pos-both k order i j (member-other k i order (once-first k order d) p) (member-other k j order (once-first k order d) q) h
 put-ahead false k order i j d p q h = h
+
+-- the first of a list of which a test holds is one of which it holds
+pub first-holds : {A : Type 0} (f : A → Bool) (xs : List A) (x : A) → firstOf f xs ≡ some x → f x ≡ true
+unfolding firstOf
+first-holds f [] x e = let z : _≡_ {A = ℕ} 0 1 = cc in absurd (omega arith)
+first-holds f (y ∷ ys) x e =
+    by-test (f y) (λ t. let q : some y ≡ some x = rw t at e in subst (λ z. f z ≡ true) (same-some y x q) t) (λ g. first-holds f ys x (rw g at e))
+  where
+    same-some : {A : Type 0} (y x : A) → some y ≡ some x → y ≡ x
+    same-some y x q = cc

@@ -1,9 +1,11 @@
--- Lists of numbers, such as jobs: who is in one, whether it names each once, where one stands in it, and one more in front.
+-- Lists of numbers, such as jobs: who is in one, whether it names each once, where one stands in it, and one more in front; and the first of any list of which a test holds.
 -- Nothing here is of the paper; the definitions are open to every crate.
 use Prim.Native.Nat.{ℕ, zero, suc}
 use mathlib.Core.Bool.{Bool, true, false, not, _&&_, _||_, cond}
 use mathlib.Core.List.{List, [], _∷_}
+use mathlib.Core.Option.{Option, none, some}
 use lib.Dec.{eqb}
+use Rattle.laws.specs.Choice.{pick}
 
 -- whether two numbers are the same
 abbrev pub same : ℕ → ℕ → Bool
@@ -28,3 +30,8 @@ pos (k ∷ ks) j = cond (same k j) 0 (suc (pos ks j))
 unfoldable pub put : Bool → ℕ → List ℕ → List ℕ
 put true i js = i ∷ js
 put false i js = js
+
+-- the first of a list of which the test holds, if there is one
+unfoldable pub firstOf : {A : Type 0} → (A → Bool) → List A → Option A
+firstOf f [] = none
+firstOf f (x ∷ xs) = pick (f x) (some x) (firstOf f xs)

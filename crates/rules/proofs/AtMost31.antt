@@ -1,25 +1,19 @@
--- At most 31 jobs are in a waiter's way (demand 3): they and the waiter are open jobs, and there are 32 places.
+-- A waiter and those in its way are named once and have places, of which there are 32; so at most 31 are in its way (demand 3).
 -- Assumes nothing.
-use Prim.Native.Nat.{ℕ, _<_, _≤_, _-_}
+use Prim.Native.Nat.{ℕ, _<_}
 use mathlib.Core.Path.{_≡_, sym, subst, _∙_}
 use mathlib.Core.Bool.{true, false}
 use mathlib.Core.List.{List, _∷_}
-use lib.ListN.{length}
 use native.Mathlib.Omega.{arith}
 use borrow.Author.Tests.{eqb-true}
 use Rattle.laws.specs.Choice.{by-test}
 use Rattle.laws.specs.Lists.{same, member, distinct}
-use Rattle.conflict.specs.History.{History}
 use Rattle.laws.proofs.Lists.{member-later}
 use Rattle.rules.specs.Desk.{Waiter, Desk}
-use Rattle.rules.specs.Step.{Started}
-use Rattle.rules.specs.Waiting.{InWay, IsWaiting, AtMostInWay}
+use Rattle.rules.specs.Waiting.{InWay, IsWaiting}
 use Rattle.rules.specs.Invariant.{Inv}
-use Rattle.rules.proofs.Kept.{started-inv}
 use Rattle.rules.proofs.Statuses.{live-open, waiting-open}
 use Rattle.rules.proofs.InTheWay.{way-younger, way-live}
-use Rattle.rules.proofs.Pigeonhole.{no-longer}
-use Rattle.terms.specs.Limits.{places}
 
 module _ {d : Desk} (v : Inv d) (c : ℕ) (w : Waiter) (k : IsWaiting d c w) (is : List ℕ) (ways : (i : ℕ) → member i is ≡ true → InWay (d .row c) w i) where
   -- the waiter is not in its own way
@@ -28,19 +22,12 @@ module _ {d : Desk} (v : Inv d) (c : ℕ) (w : Waiter) (k : IsWaiting d c w) (is
       by-test (member (w .job) is) (λ t. let l : w .job < w .job = way-younger v c w k (w .job) (ways (w .job) t) in absurd (omega arith)) (λ f. f)
 
   -- it and those in its way are named once
-  with-self : distinct is ≡ true → distinct (w .job ∷ is) ≡ true
+  pub with-self : distinct is ≡ true → distinct (w .job ∷ is) ≡ true
   unfolding distinct
   with-self o = rw (self-apart, o)
 
   -- and have places
-  all-seated : (i : ℕ) → member i (w .job ∷ is) ≡ true → member i (d .jobs) ≡ true
+  pub all-seated : (i : ℕ) → member i (w .job ∷ is) ≡ true → member i (d .jobs) ≡ true
   all-seated i m =
       by-test (same (w .job) i) (λ t. subst (λ x. member x (d .jobs) ≡ true) (eqb-true (w .job) i t) (v .seats (w .job) (waiting-open k)))
       (λ f. v .seats i (live-open (d .stat i) (way-live v c w k i (ways i (sym (member-later (w .job) is i f) ∙ m)))))
-
--- at most 31 jobs are in a waiter's way (demand 3)
-pub at-most-31 : {d : Desk} {h : History} → Started d h → (c : ℕ) (w : Waiter) → IsWaiting d c w → AtMostInWay (places - 1) (d .row c) w
-at-most-31 {d} s c w k is o ways =
-    let v = started-inv s in
-    let l : length (w .job ∷ is) ≤ length (d .jobs) = no-longer (w .job ∷ is) (d .jobs) (with-self v c w k is ways o) (all-seated v c w k is ways) in
-    omega (arith, v .size)

@@ -14,10 +14,8 @@ use Rattle.rules.specs.declared.Answer.{Answer}
 use Rattle.rules.specs.declared.Answer.the-variants.{Go, Back}
 use Rattle.rules.specs.Desk.{Status, closed, running, sentback, waiting, Desk, Request, at, vacated}
 use Rattle.rules.specs.Rules.{Outcome, refused, withRow, withStatus, isWoken, rule4}
-use Rattle.rules.specs.Step.{step}
 use Rattle.rules.specs.Table.{isBegin, named}
 use Rattle.rules.specs.Moves.{Moved, refuses, begins, commits, gives-up, retries, has-it, promotes, waits-in-front, enters, waits-last, goes-back}
-use Rattle.rules.proofs.Moved.{step-moved}
 use Rattle.rules.proofs.Tests.{at-other}
 use Rattle.rules.proofs.Places.{seated-others, vacated-others}
 use Rattle.rules.proofs.Wakes.{others-stay}
@@ -40,35 +38,29 @@ module _ (d : Desk) (r : Request) (i : ℕ) (n : i ≢ named d r) where
   not-next e q = n (q ∙ rw e)
 
   -- a job that the answer does not name and that is not among the wakes stays as it was
-  pub bystander : isWoken i (step d r .wakes) ≡ false → step d r .desk .stat i ≡ d .stat i
-  bystander = by-move (step-moved d r)
-    where
-      by-move : {o : Outcome} → Moved d r o → isWoken i (o .wakes) ≡ false → o .desk .stat i ≡ d .stat i
-      by-move (refuses why _) h = unfold refused in refl
-      by-move (begins l m k) h = at-other (d .stat) (d .next) running i (not-next l)
-      by-move (commits l s) h = ended-others d (r .job) closed (vacated (r .job) (d .jobs)) (Go (r .job)) i (not-job l refl) h
-      by-move (gives-up l s) h = ended-others d (r .job) closed (vacated (r .job) (d .jobs)) (Go (r .job)) i (not-job l refl) h
-      by-move (retries l s) h = unfold withStatus in at-other (d .stat) (r .job) running i (not-job l refl)
-      by-move (has-it b k x) h = refl
-      by-move (promotes b k x f z) h = unfold withRow in refl
-      by-move (waits-in-front b k x f z w) h = unfold withStatus withRow in at-other (d .stat) (r .job) (waiting (r .cell) b) i (not-job (k .letter) refl)
-      by-move (enters b k f z w) h = unfold withRow in refl
-      by-move (waits-last b k f z w u) h = unfold withStatus withRow in at-other (d .stat) (r .job) (waiting (r .cell) b) i (not-job (k .letter) refl)
-      by-move (goes-back b k x) h = ended-others d (r .job) sentback (d .jobs) (Back (r .job)) i (not-job (k .letter) refl) h
+  pub moved-status : {o : Outcome} → Moved d r o → isWoken i (o .wakes) ≡ false → o .desk .stat i ≡ d .stat i
+  moved-status (refuses why _) h = unfold refused in refl
+  moved-status (begins l m k) h = at-other (d .stat) (d .next) running i (not-next l)
+  moved-status (commits l s) h = ended-others d (r .job) closed (vacated (r .job) (d .jobs)) (Go (r .job)) i (not-job l refl) h
+  moved-status (gives-up l s) h = ended-others d (r .job) closed (vacated (r .job) (d .jobs)) (Go (r .job)) i (not-job l refl) h
+  moved-status (retries l s) h = unfold withStatus in at-other (d .stat) (r .job) running i (not-job l refl)
+  moved-status (has-it b k x) h = refl
+  moved-status (promotes b k x f z) h = unfold withRow in refl
+  moved-status (waits-in-front b k x f z w) h = unfold withStatus withRow in at-other (d .stat) (r .job) (waiting (r .cell) b) i (not-job (k .letter) refl)
+  moved-status (enters b k f z w) h = unfold withRow in refl
+  moved-status (waits-last b k f z w u) h = unfold withStatus withRow in at-other (d .stat) (r .job) (waiting (r .cell) b) i (not-job (k .letter) refl)
+  moved-status (goes-back b k x) h = ended-others d (r .job) sentback (d .jobs) (Back (r .job)) i (not-job (k .letter) refl) h
 
   -- and keeps its place
-  pub bystander-place : i ≢ 0 → member i (step d r .desk .jobs) ≡ member i (d .jobs)
-  bystander-place z = by-move (step-moved d r)
-    where
-      by-move : {o : Outcome} → Moved d r o → member i (o .desk .jobs) ≡ member i (d .jobs)
-      by-move (refuses why _) = unfold refused in refl
-      by-move (begins l m k) = seated-others (d .next) (d .jobs) i (not-next l) z
-      by-move (commits l s) = unfold rule4 in vacated-others (r .job) (d .jobs) i (not-job l refl) z
-      by-move (gives-up l s) = unfold rule4 in vacated-others (r .job) (d .jobs) i (not-job l refl) z
-      by-move (retries l s) = unfold withStatus in refl
-      by-move (has-it b k x) = refl
-      by-move (promotes b k x f y) = unfold withRow in refl
-      by-move (waits-in-front b k x f y w) = unfold withStatus withRow in refl
-      by-move (enters b k f y w) = unfold withRow in refl
-      by-move (waits-last b k f y w u) = unfold withStatus withRow in refl
-      by-move (goes-back b k x) = unfold rule4 in refl
+  pub moved-place : i ≢ 0 → {o : Outcome} → Moved d r o → member i (o .desk .jobs) ≡ member i (d .jobs)
+  moved-place z (refuses why _) = unfold refused in refl
+  moved-place z (begins l m k) = seated-others (d .next) (d .jobs) i (not-next l) z
+  moved-place z (commits l s) = unfold rule4 in vacated-others (r .job) (d .jobs) i (not-job l refl) z
+  moved-place z (gives-up l s) = unfold rule4 in vacated-others (r .job) (d .jobs) i (not-job l refl) z
+  moved-place z (retries l s) = unfold withStatus in refl
+  moved-place z (has-it b k x) = refl
+  moved-place z (promotes b k x f y) = unfold withRow in refl
+  moved-place z (waits-in-front b k x f y w) = unfold withStatus withRow in refl
+  moved-place z (enters b k f y w) = unfold withRow in refl
+  moved-place z (waits-last b k f y w u) = unfold withStatus withRow in refl
+  moved-place z (goes-back b k x) = unfold rule4 in refl

@@ -4,14 +4,15 @@ use Prim.Native.Nat.{ℕ, _<_}
 use mathlib.Core.Path.{_≡_, ap, _∙_}
 use mathlib.Core.Logic.{_≢_}
 use mathlib.Core.Bool.{true}
-use mathlib.Core.List.{List}
+use mathlib.Core.List.{List, [], _∷_}
 use native.Mathlib.Omega.{arith}
 use Rattle.laws.specs.Choice.{not-both}
 use Rattle.rules.specs.declared.Answer.{Answer}
 use Rattle.rules.specs.declared.Answer.the-variants.{Go, Back}
 use Rattle.rules.specs.Desk.{Status, closed, running, waiting, sentback, isOpen, Desk, Request, at, vacated}
 use Rattle.rules.specs.Rules.{Outcome, refused, withRow, withStatus, rule4}
-use Rattle.rules.specs.Step.{step, Started}
+use Rattle.rules.specs.Step.{step}
+use Rattle.rules.specs.Runs.{deskAfter}
 use Rattle.rules.specs.Moves.{Moved}
 use Rattle.rules.specs.Moves.Moved.{refuses, begins, commits, gives-up, retries, has-it, promotes, waits-in-front, enters, waits-last, goes-back}
 use Rattle.rules.proofs.Moved.{step-moved}
@@ -19,8 +20,8 @@ use Rattle.rules.specs.Invariant.{Inv}
 use Rattle.rules.proofs.Statuses.{running-open, sentback-open, closed-not-open, not-open-not-waiting}
 use Rattle.rules.proofs.Tests.{at-other}
 use Rattle.rules.proofs.RunEnd.{others-not-woken, others-after}
-use Rattle.rules.proofs.Kept.{started-inv}
-use Rattle.conflict.specs.History.{History}
+use Rattle.rules.proofs.Kept.{step-inv}
+use Rattle.rules.proofs.Numbers.{next-rises}
 
 module _ {d : Desk} (v : Inv d) (j : ℕ) (e : d .stat j ≡ closed) where
   -- a closed job is not one that is open
@@ -59,6 +60,7 @@ module _ {d : Desk} (v : Inv d) (j : ℕ) (e : d .stat j ≡ closed) where
 pub closed-stays : {d : Desk} → Inv d → (r : Request) (j : ℕ) → j < d .next → d .stat j ≡ closed → step d r .desk .stat j ≡ closed
 closed-stays {d} v r j l e = moved-closed v j e l (step-moved d r)
 
--- so of every started desk: a job that was closed stays closed, and its number is never open again (01, Jobs and their numbers)
-pub closed-for-good : {d : Desk} {h : History} → Started d h → (r : Request) (j : ℕ) → j < d .next → d .stat j ≡ closed → step d r .desk .stat j ≡ closed
-closed-for-good s = closed-stays (started-inv s)
+-- through any requests
+pub closed-through : {d : Desk} → Inv d → (rs : List Request) (j : ℕ) → j < d .next → d .stat j ≡ closed → deskAfter d rs .stat j ≡ closed
+closed-through v [] j l e = e
+closed-through {d} v (r ∷ rs) j l e = closed-through (step-inv v r) rs j (omega (arith, next-rises d r)) (closed-stays v r j l e)

@@ -14,11 +14,12 @@ use Rattle.conflict.specs.History.{History}
 use Rattle.rules.specs.declared.Answer.the-variants.{Go, Wait, Back}
 use Rattle.rules.specs.Desk.{Waiter, Desk, Request, In, first, later}
 use Rattle.rules.specs.Locks.{agrees, alone, olderThanHolders, olderThanWaiters, isEmpty}
-use Rattle.rules.specs.Rules.{withRow, withStatus, rule2, rule3, rule4, grant, queued, sendBack, ask}
+use Rattle.rules.specs.Rules.{withRow, withStatus, rule2, rule3, rule4, grant, queued, sendBack, rule1, ask}
 use Rattle.rules.specs.Step.{step, Started}
-use Rattle.rules.specs.Waiting.{asker}
 use Rattle.rules.specs.Asked.{heldThere, queueThere, OtherHolder, Promotes, Enters, Hindered, waits-already, disagrees}
 use Rattle.rules.specs.Releasing.{Seated}
+use Rattle.rules.specs.Course.{from}
+use Rattle.rules.specs.Decides.{Decides}
 use Rattle.rules.proofs.Kept.{started-inv}
 use Rattle.rules.proofs.Tests.{at-same, each-agrees, not-agrees, each-alone, alone-each, each-older, older-holders, each-older-waiters, older-waiters}
 use Rattle.rules.proofs.RunEnd.{row-ready}
@@ -102,57 +103,41 @@ module _ {d : Desk} {h : History} (started : Started d h) (r : Request) (a : Ask
       not-second (isEmpty (queueThere d r)) (agrees (d .jobs) (heldThere d r) (r .job) (needed a))
       (not-agrees (d .jobs) (heldThere d r) (r .job) (needed a) seats i (o .other) f)
 
-  -- a promotion with no other holder: go
-  pub promotion-goes : Promotes d r a → ((i : ℕ) → OtherHolder d r i → ⊥) → step d r .said ≡ Go (r .job)
-  promotion-goes p h =
-      ap (λ o. o .said) (by-rule2 p) ∙ rule2-said d (r .job) (r .cell) a
-      ∙ rw (each-alone (d .jobs) (heldThere d r) (r .job) (λ i n. by-test (isFree (heldThere d r i)) (λ t. t) (λ f. absurd (h i (record { other = n; holds = f })))))
+  -- where every other holder's mode grants what is needed, that agrees with all of them
+  agreeing : ((i : ℕ) → OtherHolder d r i → grants (heldThere d r i) (needed a) ≡ true) → agrees (d .jobs) (heldThere d r) (r .job) (needed a) ≡ true
+  agreeing h =
+      each-agrees (d .jobs) (heldThere d r) (r .job) (needed a)
+      (λ i n. by-test (isFree (heldThere d r i)) (λ t. rw (is-free (heldThere d r i) t) (grants-free (needed a))) (λ f. h i (record { other = n; holds = f })))
 
-  -- otherwise, older than every other holder: wait
-  pub promotion-waits : Promotes d r a → (i : ℕ) → OtherHolder d r i → ((i : ℕ) → OtherHolder d r i → r .job < i) → step d r .said ≡ Wait (r .job)
-  promotion-waits p i o h =
-      ap (λ o. o .said) (by-rule2 p) ∙ rule2-said d (r .job) (r .cell) a ∙ rw (not-alone i o, is-older h)
+  -- where nobody else holds the cell, the job is alone
+  is-alone : ((i : ℕ) → OtherHolder d r i → ⊥) → alone (d .jobs) (heldThere d r) (r .job) ≡ true
+  is-alone h = each-alone (d .jobs) (heldThere d r) (r .job) (λ i n. by-test (isFree (heldThere d r i)) (λ t. t) (λ f. absurd (h i (record { other = n; holds = f }))))
 
-  -- and it waits at the front of that cell's queue, still holding its old mode
-  pub promotion-in-front : Promotes d r a → (i : ℕ) → OtherHolder d r i → ((i : ℕ) → OtherHolder d r i → r .job < i) → step d r .desk .row (r .cell) ≡ record { held = heldThere d r; queue = asker r a ∷ queueThere d r }
-  promotion-in-front p i o h = ap (λ o. o .desk .row (r .cell)) (by-rule2 p) ∙ rule2-front d (r .job) (r .cell) a (not-alone i o) (is-older h)
+  -- where a waiter is older, the job is not older than every waiter
+  behind : (w : Waiter) → In w (queueThere d r) → w .job < r .job → olderThanWaiters (queueThere d r) (r .job) ≡ false
+  behind w s l =
+      by-test (olderThanWaiters (queueThere d r) (r .job))
+      (λ t. let g : r .job < w .job = older-waiters (queueThere d r) (r .job) t w s in absurd (omega arith)) (λ f. f)
 
-  -- otherwise: back
-  pub promotion-back : Promotes d r a → (i : ℕ) → OtherHolder d r i → i < r .job → step d r .said ≡ Back (r .job)
-  promotion-back p i o l =
-      ap (λ o. o .said) (by-rule2 p) ∙ rule2-said d (r .job) (r .cell) a ∙ rw (not-alone i o, not-older i o l)
-
-  -- a job new to the cell, with nobody waiting and every holder agreeing: go
-  pub entry-goes : Enters d r a → queueThere d r ≡ [] → ((i : ℕ) → OtherHolder d r i → grants (heldThere d r i) (needed a) ≡ true) → step d r .said ≡ Go (r .job)
-  entry-goes p e h =
-      ap (λ o. o .said) (by-rule3 p) ∙ rule3-said d (r .job) (r .cell) a
-      ∙ rw (and-both (isEmpty (queueThere d r)) (agrees (d .jobs) (heldThere d r) (r .job) (needed a)) (unfold isEmpty in rw e) agreeing)
-    where
-      agreeing : agrees (d .jobs) (heldThere d r) (r .job) (needed a) ≡ true
-      agreeing = each-agrees (d .jobs) (heldThere d r) (r .job) (needed a)
-          (λ i n. by-test (isFree (heldThere d r i)) (λ t. rw (is-free (heldThere d r i) t) (grants-free (needed a))) (λ f. h i (record { other = n; holds = f })))
-
-  -- otherwise, older than every holder and every waiter: wait
-  pub entry-waits : Enters d r a → Hindered d r a → ((i : ℕ) → OtherHolder d r i → r .job < i) → ((w : Waiter) → In w (queueThere d r) → r .job < w .job) → step d r .said ≡ Wait (r .job)
-  entry-waits p x h w = ap (λ o. o .said) (by-rule3 p) ∙ rule3-said d (r .job) (r .cell) a ∙ rw (not-at-once x, oldest-there h w)
-
-  -- and it waits at the end of the queue
-  pub entry-at-end : Enters d r a → Hindered d r a → ((i : ℕ) → OtherHolder d r i → r .job < i) → ((w : Waiter) → In w (queueThere d r) → r .job < w .job) → step d r .desk .row (r .cell) ≡ record { held = heldThere d r; queue = queueThere d r ++ asker r a ∷ [] }
-  entry-at-end p x h w = ap (λ o. o .desk .row (r .cell)) (by-rule3 p) ∙ rule3-end d (r .job) (r .cell) a (not-at-once x) (oldest-there h w)
-
-  -- otherwise back: behind an older holder
-  pub entry-back : Enters d r a → Hindered d r a → (i : ℕ) → OtherHolder d r i → i < r .job → step d r .said ≡ Back (r .job)
-  entry-back p x i o l =
-      ap (λ o. o .said) (by-rule3 p) ∙ rule3-said d (r .job) (r .cell) a
-      ∙ rw (not-at-once x, not-first (olderThanHolders (d .jobs) (heldThere d r) (r .job)) (olderThanWaiters (queueThere d r) (r .job)) (not-older i o l))
-
-  -- or behind an older waiter
-  pub entry-back-waiter : Enters d r a → (w : Waiter) → In w (queueThere d r) → w .job < r .job → step d r .said ≡ Back (r .job)
-  entry-back-waiter p w s l =
-      ap (λ o. o .said) (by-rule3 p) ∙ rule3-said d (r .job) (r .cell) a
-      ∙ rw (not-at-once (waits-already w s), not-second (olderThanHolders (d .jobs) (heldThere d r) (r .job)) (olderThanWaiters (queueThere d r) (r .job)) behind)
-    where
-      behind : olderThanWaiters (queueThere d r) (r .job) ≡ false
-      behind =
-          by-test (olderThanWaiters (queueThere d r) (r .job))
-          (λ t. let g : r .job < w .job = older-waiters (queueThere d r) (r .job) t w s in absurd (omega arith)) (λ f. f)
+  -- what is promised of rules 1 to 3
+  pub decides : Decides (from d) r a
+  unfolding ask rule1 isEmpty
+  decides =
+      let held = heldThere d r in
+      let queue = queueThere d r in
+      let said2 : Promotes d r a → step d r .said ≡ rule2 d (r .job) (r .cell) a .said = λ p. ap (λ o. o .said) (by-rule2 p) in
+      let said3 : Enters d r a → step d r .said ≡ rule3 d (r .job) (r .cell) a .said = λ p. ap (λ o. o .said) (by-rule3 p) in
+      record {
+        has-it = λ k h.
+            let e : step d r ≡ rule1 d (r .job) = asking-step d r a k ∙ rw h in
+            (ap (λ o. o .said) e, ap (λ o. o .desk) e, ap (λ o. o .wakes) e);
+        promotion-goes = λ p h. said2 p ∙ rule2-said d (r .job) (r .cell) a ∙ rw (is-alone h);
+        promotion-waits = λ p i o h. said2 p ∙ rule2-said d (r .job) (r .cell) a ∙ rw (not-alone i o, is-older h);
+        promotion-in-front = λ p i o h. ap (λ o. o .desk .row (r .cell)) (by-rule2 p) ∙ rule2-front d (r .job) (r .cell) a (not-alone i o) (is-older h);
+        promotion-back = λ p i o l. said2 p ∙ rule2-said d (r .job) (r .cell) a ∙ rw (not-alone i o, not-older i o l);
+        entry-goes = λ p e h. said3 p ∙ rule3-said d (r .job) (r .cell) a ∙ rw (and-both (isEmpty queue) (agrees (d .jobs) held (r .job) (needed a)) (rw e) (agreeing h));
+        entry-waits = λ p x h w. said3 p ∙ rule3-said d (r .job) (r .cell) a ∙ rw (not-at-once x, oldest-there h w);
+        entry-at-end = λ p x h w. ap (λ o. o .desk .row (r .cell)) (by-rule3 p) ∙ rule3-end d (r .job) (r .cell) a (not-at-once x) (oldest-there h w);
+        entry-back = λ p x i o l. said3 p ∙ rule3-said d (r .job) (r .cell) a ∙ rw (not-at-once x, not-first (olderThanHolders (d .jobs) held (r .job)) (olderThanWaiters queue (r .job)) (not-older i o l));
+        entry-back-waiter = λ p w s l. said3 p ∙ rule3-said d (r .job) (r .cell) a ∙ rw (not-at-once (waits-already w s), not-second (olderThanHolders (d .jobs) held (r .job)) (olderThanWaiters queue (r .job)) (behind w s l));
+      }

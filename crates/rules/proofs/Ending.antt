@@ -11,19 +11,17 @@ use Rattle.terms.specs.declared.letters.Lettered.the-variants.{Known}
 use Rattle.terms.specs.Letters.{letterOf}
 use Rattle.laws.specs.Lists.{same, member}
 use Rattle.laws.proofs.Lists.{member-first, member-later, member-more}
-use Rattle.conflict.specs.History.{History}
 use Rattle.rules.specs.declared.Answer.the-variants.{Go, Back}
-use Rattle.rules.specs.Desk.{closed, sentback, Desk, Request, isOpen, vacated, isLive}
+use Rattle.rules.specs.Desk.{closed, sentback, Desk, Request, isOpen, vacated}
 use Rattle.rules.specs.Rules.{rule4, close, sendBack}
-use Rattle.rules.specs.Step.{step, Started}
-use Rattle.rules.specs.Effects.{Closes, SendsBack, Away}
-use Rattle.rules.proofs.Kept.{started-inv}
+use Rattle.rules.specs.Step.{step}
+use Rattle.rules.specs.Effects.{Closes, SendsBack}
 use Rattle.rules.specs.Invariant.{Inv}
 use Rattle.rules.proofs.Statuses.{running-open}
 use Rattle.rules.proofs.Places.{vacated-others, vacated-gone}
 use Rattle.rules.proofs.OpenJobs.{open-not-zero}
-use Rattle.rules.proofs.Away.{ended-away, ended-status, not-live-away}
-use Rattle.rules.proofs.Courses.{commit-went, give-up-went, ask-back}
+use Rattle.rules.proofs.Away.{ended-away, ended-status}
+use Rattle.rules.proofs.AnswerTells.{Tells, commit-went, give-up-went}
 
 -- a place that is freed is free
 vacated-free : (j : ℕ) (ks : List ℕ) → member j ks ≡ true → member 0 (vacated j ks) ≡ true
@@ -34,7 +32,7 @@ vacated-free j (k ∷ ks) m =
     (λ f. rw f (member-more k (vacated j ks) 0 (vacated-free j ks (sym (member-later k ks j f) ∙ m))))
 
 -- closing an open job
-close-closes : {d : Desk} → Inv d → (j : ℕ) → isOpen (d .stat j) ≡ true → Closes d (close d j .desk) j
+pub close-closes : {d : Desk} → Inv d → (j : ℕ) → isOpen (d .stat j) ≡ true → Closes d (close d j .desk) j
 unfolding close
 close-closes {d} v j o = record {
   status = ended-status v j closed (vacated j (d .jobs)) (Go j);
@@ -46,7 +44,7 @@ close-closes {d} v j o = record {
 }
 
 -- sending an open job back
-back-sends : {d : Desk} → Inv d → (j : ℕ) → isOpen (d .stat j) ≡ true → SendsBack d (sendBack d j .desk) j
+pub back-sends : {d : Desk} → Inv d → (j : ℕ) → isOpen (d .stat j) ≡ true → SendsBack d (sendBack d j .desk) j
 unfolding sendBack
 back-sends {d} v j o = record {
   status = ended-status v j sentback (d .jobs) (Back j);
@@ -56,21 +54,7 @@ back-sends {d} v j o = record {
   next = unfold rule4 in refl;
 }
 
--- a commit or a give-up that is answered go closes the job
-pub closes : {d : Desk} {h : History} → Started d h → (r : Request) (j : ℕ) → (letterOf (r .kind) ≡ Known Commit) ⊎ (letterOf (r .kind) ≡ Known GiveUp) → step d r .said ≡ Go j → Closes d (step d r .desk) j
-closes {d} s r j (inl e) g =
-    let c = commit-went d r j e g in
-    rw (c .job, c .outcome) (close-closes (started-inv s) (r .job) (running-open (c .was)))
-closes {d} s r j (inr e) g =
-    let c = give-up-went d r j e g in
-    rw (c .job, c .outcome) (close-closes (started-inv s) (r .job) (c .was))
-
--- a step that answers back sends the job back
-pub sends-back : {d : Desk} {h : History} → Started d h → (r : Request) (j : ℕ) → step d r .said ≡ Back j → SendsBack d (step d r .desk) j
-sends-back {d} s r j g =
-    let c = ask-back d r j g in
-    rw (c .job, c .outcome) (back-sends (started-inv s) (r .job) (running-open (c .was .1 .runs)))
-
--- and as long as it is sent back it holds nothing and stands in no queue (01, Jobs and their numbers)
-pub sent-back-away : {d : Desk} {h : History} → Started d h → (j : ℕ) → d .stat j ≡ sentback → Away d j
-sent-back-away s j e = not-live-away (started-inv s) j (unfold isLive in rw e)
+-- a commit or a give-up that goes is of an open job, and closes it
+pub close-went : (d : Desk) (r : Request) (j : ℕ) → (letterOf (r .kind) ≡ Known Commit) ⊎ (letterOf (r .kind) ≡ Known GiveUp) → step d r .said ≡ Go j → Tells d r (r .job) j (close d (r .job)) (isOpen (d .stat (r .job)) ≡ true)
+close-went d r j (inl e) g = let c = commit-went d r j e g in record { job = c .job; outcome = c .outcome; was = running-open (c .was) }
+close-went d r j (inr e) g = give-up-went d r j e g

@@ -6,9 +6,6 @@ use mathlib.Core.Bool.{false, _&&_}
 use lib.Dec.{ltb}
 use Rattle.laws.specs.Choice.{by-test, not-both}
 use Rattle.terms.specs.declared.letters.Ask.{Ask}
-use Rattle.terms.specs.declared.letters.Letter.the-variants.{Asks}
-use Rattle.terms.specs.declared.letters.Lettered.the-variants.{Known}
-use Rattle.terms.specs.Letters.{letterOf}
 use Rattle.terms.specs.Limits.{cells}
 use Rattle.conflict.specs.declared.modes.Mode.{Mode}
 use Rattle.conflict.specs.declared.modes.Mode.the-variants.{X}
@@ -19,7 +16,7 @@ use Rattle.rules.specs.declared.Answer.the-variants.{Go}
 use Rattle.rules.specs.Desk.{Status, closed, running, waiting, sentback, Desk, Request, at}
 use Rattle.rules.specs.Locks.{agrees, alone, olderThanHolders, olderThanWaiters, isEmpty}
 use Rattle.rules.specs.Rules.{refused, withRow, grant, queued, sendBack, rule1, rule2, rule3, rule4, ask}
-use Rattle.rules.specs.Step.{stepAsk, stepBy, step}
+use Rattle.rules.specs.Step.{stepAsk, step}
 use Rattle.rules.specs.Effects.{Exactly}
 use Rattle.rules.proofs.Tests.{at-same}
 use Rattle.rules.proofs.Answers.{other-answer}
@@ -56,17 +53,14 @@ module _ (d : Desk) (j c : ℕ) where
       (λ t. rw (n, t) (record { kept = λ y. not-both y n; promoted = λ _ f. not-both t f; entered = λ _. rule3-exactly a k (rw (n, t) at g) }))
       (λ f. rw (n, f) (record { kept = λ y. not-both y n; promoted = λ _ _. rule2-exactly a k f (rw (n, f) at g); entered = λ t. not-both t f })))
 
--- a read, a write or an increment that goes leaves the job with exactly the mode that the rules name (01, rules 1 to 3)
-pub grants-exactly : (d : Desk) (r : Request) (a : Ask) (j : ℕ) → letterOf (r .kind) ≡ Known (Asks a) → step d r .said ≡ Go j →
+-- a read, a write or an increment that goes, by what the job is doing
+pub exactly-by : (d : Desk) (r : Request) (a : Ask) (j : ℕ) (s : Status) → step d r ≡ stepAsk d (r .job) (r .cell) a s → step d r .said ≡ Go j →
     Exactly (d .row (r .cell) .held (r .job)) (step d r .desk .row (r .cell) .held (r .job)) a
 unfolding stepAsk refused
-grants-exactly d r a j e g = by-status (d .stat (r .job)) (unfold step stepBy in ap (stepBy d r) e)
-  where
-    by-status : (s : Status) → step d r ≡ stepAsk d (r .job) (r .cell) a s → Exactly (d .row (r .cell) .held (r .job)) (step d r .desk .row (r .cell) .held (r .job)) a
-    by-status closed h = other-answer (sym (ap (λ o. o .said) h) ∙ g) refl
-    by-status (waiting c b) h = other-answer (sym (ap (λ o. o .said) h) ∙ g) refl
-    by-status sentback h = other-answer (sym (ap (λ o. o .said) h) ∙ g) refl
-    by-status running h =
-        by-test (ltb (r .cell) cells)
-        (λ t. let q : step d r ≡ ask d (r .job) (r .cell) a = rw t at h in rw q (ask-exactly d (r .job) (r .cell) a j (sym (ap (λ o. o .said) q) ∙ g)))
-        (λ f. other-answer (sym (ap (λ o. o .said) (rw f at h)) ∙ g) refl)
+exactly-by d r a j closed h g = other-answer (sym (ap (λ o. o .said) h) ∙ g) refl
+exactly-by d r a j (waiting c b) h g = other-answer (sym (ap (λ o. o .said) h) ∙ g) refl
+exactly-by d r a j sentback h g = other-answer (sym (ap (λ o. o .said) h) ∙ g) refl
+exactly-by d r a j running h g =
+    by-test (ltb (r .cell) cells)
+    (λ t. let q : step d r ≡ ask d (r .job) (r .cell) a = rw t at h in rw q (ask-exactly d (r .job) (r .cell) a j (sym (ap (λ o. o .said) q) ∙ g)))
+    (λ f. other-answer (sym (ap (λ o. o .said) (rw f at h)) ∙ g) refl)

@@ -9,11 +9,11 @@ use Rattle.terms.specs.Letters.{letterOf}
 use Rattle.rules.specs.declared.Answer.{Answer}
 use Rattle.rules.specs.declared.Answer.the-variants.{Go, Wait, Back as sent-back, No}
 use Rattle.rules.specs.Desk.{Desk, Request}
-use Rattle.rules.specs.Step.{recordsBy, stepCommit, stepGiveUp, stepRetry, stepAsk, stepBy, step, wentBy, ownRecords, recordsOf, events}
+use Rattle.rules.specs.Step.{stepCommit, stepGiveUp, stepRetry, stepAsk, stepBy, wentBy, ownRecords}
 use Rattle.rules.specs.Asked.{Alike}
 
 -- requests that are alike to a letter have the same outcome under it
-step-alike : (d : Desk) (r s : Request) (l : Lettered) → Alike l r s → stepBy d r l ≡ stepBy d s l
+pub step-alike : (d : Desk) (r s : Request) (l : Lettered) → Alike l r s → stepBy d r l ≡ stepBy d s l
 unfolding stepBy
 step-alike d r s Unknown e = refl
 step-alike d r s (Known Back) e = refl
@@ -35,19 +35,9 @@ went-alike r s j (Known Retry) e = refl
 went-alike r s j (Known (Asks a)) e = rw (e .cell refl)
 
 -- and the same record under any answer
-records-alike : (r s : Request) (x : Answer) → r .kind ≡ s .kind → Alike (letterOf (r .kind)) r s → ownRecords r x ≡ ownRecords s x
+pub records-alike : (r s : Request) (x : Answer) → r .kind ≡ s .kind → Alike (letterOf (r .kind)) r s → ownRecords r x ≡ ownRecords s x
 unfolding ownRecords
 records-alike r s (Go j) k e = went-alike r s j (letterOf (r .kind)) e ∙ ap (λ b. wentBy s j (letterOf b)) k
 records-alike r s (Wait j) k e = refl
 records-alike r s (sent-back j) k e = refl
 records-alike r s (No why) k e = refl
-
--- requests of one kind that agree in the fields which the kind uses have the same outcome
-pub unread : (d : Desk) (r s : Request) → r .kind ≡ s .kind → Alike (letterOf (r .kind)) r s → step d r ≡ step d s
-unfolding step
-unread d r s k e = step-alike d r s (letterOf (r .kind)) e ∙ ap (λ b. stepBy d s (letterOf b)) k
-
--- and the same records
-pub unread-records : (d : Desk) (r s : Request) → r .kind ≡ s .kind → Alike (letterOf (r .kind)) r s → events d r ≡ events d s
-unfolding recordsBy recordsOf
-unread-records d r s k e = rw (unread d r s k e, records-alike r s (step d s .said) k e)

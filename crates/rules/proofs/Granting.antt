@@ -1,37 +1,24 @@
 -- A read, a write or an increment that goes: by rule 1 nothing changes; else the job gets a mode that covers its need, and nothing else changes (01, rules 1 to 3).
 -- Assumes nothing.
-use Prim.Native.Nat.{ℕ}
 use mathlib.Core.Path.{_≡_, refl, sym, ap, _∙_}
 use mathlib.Core.Bool.{true}
-use mathlib.Core.List.{[]}
 use borrow.Author.Tests.{lt-ltb}
 use Rattle.terms.specs.declared.letters.Ask.{Ask}
-use Rattle.terms.specs.declared.letters.Letter.the-variants.{Asks}
-use Rattle.terms.specs.declared.letters.Lettered.the-variants.{Known}
-use Rattle.terms.specs.Letters.{letterOf}
 use Rattle.terms.specs.Limits.{cells}
 use Rattle.conflict.specs.declared.modes.Mode.{Mode}
 use Rattle.conflict.specs.Modes.{needed, covers}
-use Rattle.rules.specs.declared.Answer.the-variants.{Go}
 use Rattle.rules.specs.Desk.{Desk, Row, Request, at}
 use Rattle.rules.specs.Rules.{withRow, grant, rule1, ask}
 use Rattle.rules.specs.Step.{stepAsk, stepBy, step}
 use Rattle.rules.specs.Asked.{Asking}
 use Rattle.rules.specs.Effects.{Grants}
 use Rattle.rules.proofs.Tests.{at-same, at-other, at-each}
-use Rattle.rules.proofs.Courses.{AskWent, had, got, ask-went}
+use Rattle.rules.proofs.AnswerTells.{AskWent, had, got}
 
 -- a running job that asks for a cell below 64 is decided by rules 1 to 3
 pub asking-step : (d : Desk) (r : Request) (a : Ask) → Asking d r a → step d r ≡ ask d (r .job) (r .cell) a
 unfolding step stepBy stepAsk
 asking-step d r a k = ap (stepBy d r) (k .letter) ∙ rw (k .runs, lt-ltb (r .cell) cells (k .within))
-
--- a job that holds a covering mode: go. Nothing changes (01, rule 1)
-pub rule-1 : (d : Desk) (r : Request) (a : Ask) → Asking d r a → covers (d .row (r .cell) .held (r .job)) (needed a) ≡ true → (step d r .said ≡ Go (r .job)) × (step d r .desk ≡ d) × (step d r .wakes ≡ [])
-unfolding ask rule1
-rule-1 d r a k h =
-    let e : step d r ≡ rule1 d (r .job) = asking-step d r a k ∙ rw h in
-    (ap (λ o. o .said) e, ap (λ o. o .desk) e, ap (λ o. o .wakes) e)
 
 -- granting a mode that covers the need
 grant-grants : (d : Desk) (r : Request) (a : Ask) (m : Mode) → covers m (needed a) ≡ true → Grants d (grant d (r .job) (r .cell) m .desk) r a (r .job)
@@ -55,10 +42,7 @@ rule1-grants : (d : Desk) (r : Request) (a : Ask) → covers (d .row (r .cell) .
 unfolding rule1
 rule1-grants d r a h = record { job = refl; holds = h; others = λ b i n. refl; elsewhere = λ b n. refl; queues = λ b. refl; statuses = refl; places = refl; next = refl }
 
--- after a go the job holds a mode that covers what it needs, and every other job holds what it held (01, rules 1 to 3)
-pub grants-need : (d : Desk) (r : Request) (a : Ask) (j : ℕ) → letterOf (r .kind) ≡ Known (Asks a) → step d r .said ≡ Go j → Grants d (step d r .desk) r a j
-grants-need d r a j e g = let (q, w) = ask-went d r a j e g in by-course q w
-  where
-    by-course : j ≡ r .job → AskWent d r a → Grants d (step d r .desk) r a j
-    by-course q (had h o) = rw (q, o) (rule1-grants d r a h)
-    by-course q (got m h _ o) = rw (q, o) (grant-grants d r a m h)
+-- going in either way
+pub went-grants : {d : Desk} {r : Request} {a : Ask} → AskWent d r a → Grants d (step d r .desk) r a (r .job)
+went-grants {d} {r} {a} (had h o) = rw o (rule1-grants d r a h)
+went-grants {d} {r} {a} (got m h _ o) = rw o (grant-grants d r a m h)

@@ -1,7 +1,7 @@
 -- Nothing is released before the run ends: in a step a job's mode at a cell only grows, or the step ends that job's run (01, The desk's rules).
 -- Assumes nothing.
 use Prim.Native.Nat.{ℕ}
-use mathlib.Core.Path.{_≡_, refl, ap, _∙_}
+use mathlib.Core.Path.{_≡_, ap, _∙_}
 use mathlib.Core.Logic.{_≢_, _⊎_, inl, inr}
 use mathlib.Core.Bool.{true}
 use mathlib.Core.List.{List, _∷_}
@@ -21,17 +21,15 @@ use Rattle.laws.proofs.Lists.{same-sym}
 use Rattle.rules.specs.declared.Answer.{Answer}
 use Rattle.rules.specs.Desk.{Status, Waiter, Desk, Request, at}
 use Rattle.rules.specs.Rules.{Outcome, refused, withRow, withStatus, rule4, grant, queued}
-use Rattle.rules.specs.Step.{step, events, Started}
+use Rattle.rules.specs.Step.{step, events, recordsBy, recordsOf, wakeRecords}
 use Rattle.rules.specs.Moves.{Moved, refuses, begins, commits, gives-up, retries, has-it, promotes, waits-in-front, enters, waits-last, goes-back}
 use Rattle.conflict.specs.Runs.{isEnd, ended}
-use Rattle.rules.proofs.Kept.{started-inv}
 use Rattle.rules.specs.Invariant.{Inv}
 use Rattle.rules.specs.Effects.{Keeps}
-use Rattle.rules.proofs.Moved.{step-moved}
 use Rattle.rules.proofs.Tests.{at-each}
 use Rattle.rules.proofs.RunEnd.{row-releases}
-use Rattle.rules.proofs.Records.{commit-records, give-up-records, back-records}
-use Rattle.rules.proofs.Courses.{covers-none}
+use Rattle.rules.proofs.Records.{recorded}
+use Rattle.rules.proofs.AnswerTells.{covers-none}
 
 -- a history that begins with a mark of a job ends a run of it
 first-ends : (m : Mark) (j i : ℕ) (h : History) → same i j ≡ true → ended i (Ends m j ∷ h) ≡ true
@@ -63,26 +61,27 @@ either-way : (d e : Desk) (h rest : History) (m : Mark) (j i c : ℕ) → h ≡ 
 either-way d e h rest m j i c q f =
     by-test (same i j) (λ t. inr (rw q (first-ends m j i rest t))) (λ n. inl (f (eqb-false i j n)))
 
--- in every step, what a job holds at a cell only grows, or the step ends that job's run
-pub held-till-end : {d : Desk} {h : History} → Started d h → (r : Request) (i c : ℕ) → Keeps d (step d r .desk) i c ⊎ (ended i (events d r) ≡ true)
-held-till-end {d} s r i c = by-move (step-moved d r) refl
-  where
-    said-so : (st : Status) (js : List ℕ) (said : Answer) → step d r ≡ rule4 d (r .job) st js said → step d r .said ≡ said
-    said-so st js said h = unfold rule4 in ap (λ o. o .said) h
+module _ {d : Desk} (v : Inv d) (r : Request) (i c : ℕ) where
+  -- the answer at the end of a run
+  said-so : (st : Status) (js : List ℕ) (said : Answer) → step d r ≡ rule4 d (r .job) st js said → step d r .said ≡ said
+  said-so st js said h = unfold rule4 in ap (λ o. o .said) h
 
-    run-ends : (m : Mark) (rest : History) (st : Status) (js : List ℕ) (said : Answer) → events d r ≡ Ends m (r .job) ∷ rest → step d r ≡ rule4 d (r .job) st js said → Keeps d (step d r .desk) i c ⊎ (ended i (events d r) ≡ true)
-    run-ends m rest st js said q h =
-        either-way d (step d r .desk) (events d r) rest m (r .job) i c q (λ n. rw h (rule4-keeps (started-inv s) (r .job) st js said i c n))
+  -- the end of the job's own run, or of another's
+  run-ends : (m : Mark) (rest : History) (st : Status) (js : List ℕ) (said : Answer) → events d r ≡ Ends m (r .job) ∷ rest → step d r ≡ rule4 d (r .job) st js said → Keeps d (step d r .desk) i c ⊎ (ended i (events d r) ≡ true)
+  run-ends m rest st js said q h =
+      either-way d (step d r .desk) (events d r) rest m (r .job) i c q (λ n. rw h (rule4-keeps v (r .job) st js said i c n))
 
-    by-move : {o : Outcome} → Moved d r o → step d r ≡ o → Keeps d (step d r .desk) i c ⊎ (ended i (events d r) ≡ true)
-    by-move (refuses why _) h = inl (rw h (unfold refused in covers-refl (d .row c .held i)))
-    by-move (begins l n m) h = inl (rw h (covers-refl (d .row c .held i)))
-    by-move (commits l q) h = run-ends Commit _ _ _ _ (commit-records d r (r .job) l (said-so _ _ _ h)) h
-    by-move (gives-up l q) h = run-ends GiveUp _ _ _ _ (give-up-records d r (r .job) l (said-so _ _ _ h)) h
-    by-move (retries l q) h = inl (rw h (unfold withStatus in covers-refl (d .row c .held i)))
-    by-move (has-it b k x) h = inl (rw h (covers-refl (d .row c .held i)))
-    by-move (promotes b k x f z) h = inl (rw h (unfold grant in grant-keeps d (r .job) (r .cell) _ (asked-grows _ (needed b)) i c))
-    by-move (waits-in-front b k x f z w) h = inl (rw h (unfold queued in queued-keeps d (r .job) (r .cell) b _ i c))
-    by-move (enters b k f z w) h = inl (rw h (unfold grant in grant-keeps d (r .job) (r .cell) _ (covers-none (needed b) _ f) i c))
-    by-move (waits-last b k f z w u) h = inl (rw h (unfold queued in queued-keeps d (r .job) (r .cell) b _ i c))
-    by-move (goes-back b k x) h = run-ends Back _ _ _ _ (back-records d r (r .job) (said-so _ _ _ h)) h
+  -- in every step what a job holds at a cell only grows, or the step ends that job's run: by the move
+  pub moved-held : {o : Outcome} → Moved d r o → step d r ≡ o → Keeps d (step d r .desk) i c ⊎ (ended i (events d r) ≡ true)
+  unfolding recordsBy recordsOf wakeRecords
+  moved-held (refuses why _) h = inl (rw h (unfold refused in covers-refl (d .row c .held i)))
+  moved-held (begins l n m) h = inl (rw h (covers-refl (d .row c .held i)))
+  moved-held (commits l q) h = run-ends Commit _ _ _ _ (recorded d r .commit-records (r .job) l (said-so _ _ _ h)) h
+  moved-held (gives-up l q) h = run-ends GiveUp _ _ _ _ (recorded d r .give-up-records (r .job) l (said-so _ _ _ h)) h
+  moved-held (retries l q) h = inl (rw h (unfold withStatus in covers-refl (d .row c .held i)))
+  moved-held (has-it b k x) h = inl (rw h (covers-refl (d .row c .held i)))
+  moved-held (promotes b k x f z) h = inl (rw h (unfold grant in grant-keeps d (r .job) (r .cell) _ (asked-grows _ (needed b)) i c))
+  moved-held (waits-in-front b k x f z w) h = inl (rw h (unfold queued in queued-keeps d (r .job) (r .cell) b _ i c))
+  moved-held (enters b k f z w) h = inl (rw h (unfold grant in grant-keeps d (r .job) (r .cell) _ (covers-none (needed b) _ f) i c))
+  moved-held (waits-last b k f z w u) h = inl (rw h (unfold queued in queued-keeps d (r .job) (r .cell) b _ i c))
+  moved-held (goes-back b k x) h = run-ends Back _ _ _ _ (recorded d r .back-records (r .job) (said-so _ _ _ h)) h

@@ -2,20 +2,16 @@
 -- Assumes nothing.
 use Prim.Native.Nat.{ℕ, _<_}
 use mathlib.Core.Path.{_≡_, refl, ap, subst, _∙_}
-use mathlib.Core.Logic.{_↔_}
 use mathlib.Core.Bool.{true, false}
 use mathlib.Core.List.{List, [], _∷_}
 use native.Mathlib.Omega.{arith}
 use Rattle.laws.specs.Choice.{by-test, not-both}
 use Rattle.conflict.specs.declared.modes.Mode.{Mode}
 use Rattle.conflict.specs.Modes.{grants, isFree}
-use Rattle.conflict.specs.History.{History}
 use Rattle.conflict.proofs.ModeLaws.{is-free, grants-free}
 use Rattle.rules.specs.Desk.{Waiter, Desk, isLive, In}
-use Rattle.rules.specs.Step.{Started}
 use Rattle.rules.specs.Waiting.{InWay, holds-it, ahead, in-front, IsWaiting, Chain, link, links}
 use Rattle.rules.specs.Invariant.{FirstBlocked, Inv}
-use Rattle.rules.proofs.Kept.{started-inv}
 use Rattle.rules.proofs.Queue.{in-none, in-split}
 use Rattle.rules.proofs.Statuses.{waiting-live}
 use Rattle.rules.proofs.AheadLaws.{ahead-in, ahead-younger}
@@ -49,31 +45,10 @@ module _ {d : Desk} (v : Inv d) (c : ℕ) (w : Waiter) (k : IsWaiting d c w) whe
   way-live i (holds-it n f) = v .rows c .holds i f
   way-live i (ahead u e a) = subst (λ x. isLive (d .stat x) ≡ true) e (waiting-live (v .rows c .stands u (ahead-in a)))
 
-module _ {d : Desk} {h : History} (s : Started d h) where
-  -- to wait is to stand in the queue of that cell with what was asked
-  pub waiting-is-standing : (c : ℕ) (w : Waiter) → IsWaiting d c w ↔ In w (d .row c .queue)
-  waiting-is-standing c w = (waiter-in (started-inv s) c w, started-inv s .rows c .stands w)
-
-  -- somebody is in the way of every waiter (demand 3)
-  pub somebody-in-way : (c : ℕ) (w : Waiter) → IsWaiting d c w → (i : ℕ) × InWay (d .row c) w i
-  somebody-in-way = way-some (started-inv s)
-
-  -- a waiter is older than each job in its way (01, rules 2 and 3; 01, Slips to rule out, 1)
-  pub waiter-is-older : (c : ℕ) (w : Waiter) → IsWaiting d c w → (i : ℕ) → InWay (d .row c) w i → w .job < i
-  waiter-is-older = way-younger (started-inv s)
-
-  -- each job in its way is live: it is in a run
-  pub in-way-live : (c : ℕ) (w : Waiter) → IsWaiting d c w → (i : ℕ) → InWay (d .row c) w i → isLive (d .stat i) ≡ true
-  in-way-live = way-live (started-inv s)
-
-  -- along a chain of waits jobs grow younger
-  pub chain-rises : {j i : ℕ} → Chain d j i → j < i
-  chain-rises (link k) = waiter-is-older (k .cell) _ (k .waits) _ (k .way)
-  chain-rises (links k l) =
-      let g = waiter-is-older (k .cell) _ (k .waits) _ (k .way) in
-      let m = chain-rises l in
-      omega arith
-
-  -- so waits never run in a circle: no job waits, through whatever chain, for itself (01, Slips to rule out, 1)
-  pub no-circle : (j : ℕ) → Chain d j j → ⊥
-  no-circle j l = let g : j < j = chain-rises l in omega arith
+-- along a chain of waits jobs grow younger
+pub chain-rises : {d : Desk} → Inv d → {j i : ℕ} → Chain d j i → j < i
+chain-rises v (link k) = way-younger v (k .cell) _ (k .waits) _ (k .way)
+chain-rises v (links k l) =
+    let g = way-younger v (k .cell) _ (k .waits) _ (k .way) in
+    let m = chain-rises v l in
+    omega arith

@@ -2,7 +2,6 @@
 -- Assumes nothing.
 use Prim.Native.Nat.{ℕ}
 use mathlib.Core.Path.{_≡_, refl, sym, subst}
-use mathlib.Core.Logic.{_↔_}
 use mathlib.Core.Bool.{true, false}
 use mathlib.Core.List.{List}
 use Rattle.laws.specs.Choice.{not-both}
@@ -15,23 +14,20 @@ use Rattle.conflict.specs.History.{History}
 use Rattle.rules.specs.declared.Answer.the-variants.{Wait}
 use Rattle.rules.specs.Desk.{Waiter, Desk, Request, In}
 use Rattle.rules.specs.Step.{step, Started}
-use Rattle.rules.specs.Waiting.{Ahead, InWay, holds-it, ahead, asker, WasInWay, held-it, stood-ahead, IsWaiting}
+use Rattle.rules.specs.Waiting.{Ahead, InWay, holds-it, ahead, WasInWay, held-it, stood-ahead}
+use Rattle.rules.specs.Asked.{asker}
 use Rattle.rules.specs.Effects.{promotion, newcomer, StartsToWait}
 use Rattle.rules.proofs.Kept.{started-inv}
 use Rattle.rules.proofs.Statuses.{running-not-waiting}
-use Rattle.rules.proofs.Courses.{same-ask, Joins}
-use Rattle.rules.proofs.Queueing.{waits}
+use Rattle.rules.proofs.AnswerTells.{same-ask, Joins}
+use Rattle.rules.proofs.StepEffects.{effects}
 use Rattle.rules.proofs.KeptStatus.{no-place}
 use Rattle.rules.proofs.AheadLaws.{ahead-split, ahead-of, before-last, ahead-before-last}
 
 module _ {d : Desk} {h : History} (s : Started d h) (r : Request) (a : Ask) (l : letterOf (r .kind) ≡ Known (Asks a)) (e : step d r .said ≡ Wait (r .job)) where
   -- a job that asks and is answered wait
-  just-asked : StartsToWait d (step d r .desk) r a (r .job)
-  just-asked = let w = waits d r (r .job) e in subst (λ b. StartsToWait d (step d r .desk) r b (r .job)) (same-ask (w .1 .asking .letter) l) (w .1)
-
-  -- it waits for that cell with what it asked
-  pub asker-waits : IsWaiting (step d r .desk) (r .cell) (asker r a)
-  asker-waits = just-asked .status
+  pub just-asked : StartsToWait d (step d r .desk) r a (r .job)
+  just-asked = let w = effects s .waits r (r .job) e in subst (λ b. StartsToWait d (step d r .desk) r b (r .job)) (same-ask (w .1 .asking .letter) l) (w .1)
 
   -- it had no place in the queue
   no-place-yet : In (asker r a) (d .row (r .cell) .queue) → ⊥
@@ -47,14 +43,12 @@ module _ {d : Desk} {h : History} (s : Started d h) (r : Request) (a : Ask) (l :
   stood-is-ahead v q (promotion f) t m = not-both t f
   stood-is-ahead v q (newcomer f) t m = before-last m
 
-  -- right after it asked, in its way is exactly who was so when it asked
-  pub in-way-when-asked : (i : ℕ) → InWay (step d r .desk .row (r .cell)) (asker r a) i ↔ WasInWay d r i
-  in-way-when-asked i = (to, from)
-    where
-      to : InWay (step d r .desk .row (r .cell)) (asker r a) i → WasInWay d r i
-      to (holds-it n f) = held-it n (subst (λ m. isFree m ≡ false) (just-asked .holds (r .cell) i) f)
-      to (ahead v p b) = subst (WasInWay d r) p (ahead-stood v (step d r .desk .row (r .cell) .queue) (just-asked .queue) b)
+  -- right after it asked, whoever is in its way was so when it asked
+  pub way-was : (i : ℕ) → InWay (step d r .desk .row (r .cell)) (asker r a) i → WasInWay d r i
+  way-was i (holds-it n f) = held-it n (subst (λ m. isFree m ≡ false) (just-asked .holds (r .cell) i) f)
+  way-was i (ahead v p b) = subst (WasInWay d r) p (ahead-stood v (step d r .desk .row (r .cell) .queue) (just-asked .queue) b)
 
-      from : WasInWay d r i → InWay (step d r .desk .row (r .cell)) (asker r a) i
-      from (held-it n f) = holds-it n (subst (λ m. isFree m ≡ false) (sym (just-asked .holds (r .cell) i)) f)
-      from (stood-ahead f v p m) = ahead v p (stood-is-ahead v (step d r .desk .row (r .cell) .queue) (just-asked .queue) f m)
+  -- and whoever was so is
+  pub was-way : (i : ℕ) → WasInWay d r i → InWay (step d r .desk .row (r .cell)) (asker r a) i
+  was-way i (held-it n f) = holds-it n (subst (λ m. isFree m ≡ false) (sym (just-asked .holds (r .cell) i)) f)
+  was-way i (stood-ahead f v p m) = ahead v p (stood-is-ahead v (step d r .desk .row (r .cell) .queue) (just-asked .queue) f m)

@@ -22,7 +22,7 @@ pub mod AnswerNumbers
 pub mod Starting
 pub mod OpenJobs
 pub mod Fields
-pub mod Courses
+pub mod AnswerTells
 pub mod Away
 pub mod Ending
 pub mod Opening
@@ -42,7 +42,6 @@ pub mod Machine
 pub mod ClosedForGood
 pub mod NoEventAfterEnd
 pub mod UnderLock
-pub mod StrictHistory
 pub mod Serial
 pub mod AheadLaws
 pub mod Answers
@@ -62,8 +61,9 @@ pub mod OneRecordEach
 pub mod ExactModes
 pub mod RunEnded
 pub mod WakesTold
-pub mod FourKinds
 pub mod OthersLocks
 pub mod OneMove
 pub mod OneCourse
+pub mod StepEffects
 pub mod Promised
+pub mod Examples

@@ -16,13 +16,13 @@ use Rattle.terms.specs.declared.refusals.Refusal.the-variants.{UnknownKind, Cel
 use Rattle.terms.specs.Letters.{letterOf}
 use Rattle.terms.specs.Limits.{cells, lastNumber}
 use Rattle.conflict.specs.Modes.{needed, covers, isFree}
-use Rattle.laws.specs.Lists.{member}
+use Rattle.laws.specs.Lists.{member, firstOf}
 use Rattle.laws.proofs.Parts.{and-first, and-second}
 use Rattle.rules.specs.Desk.{Status, closed, running, waiting, sentback, Desk, Request, isOpen}
 use Rattle.rules.specs.Locks.{agrees, alone, olderThanHolders, olderThanWaiters, isEmpty}
 use Rattle.rules.specs.Rules.{Outcome, refused, close, sendBack, grant, queued, rule1, rule2, rule3, ask, retry, begin}
 use Rattle.rules.specs.Step.{stepCommit, stepGiveUp, stepRetry, stepAsk, stepBegin, stepBy, step}
-use Rattle.rules.specs.Table.{holds, order, firstOf, dueBy, dueOf}
+use Rattle.rules.specs.Table.{holds, order, dueBy, dueOf}
 use Rattle.rules.specs.Asked.{Asking, Elder, holder, waiter}
 use Rattle.rules.specs.Moves.{Otherwise, no-promotion, no-entry, Moved, refuses, begins, commits, gives-up, retries, has-it, promotes, waits-in-front, enters, waits-last, goes-back}
 
@@ -96,7 +96,7 @@ retry-moved : (d : Desk) (r : Request) (s : Status) → letterOf (r .kind) ≡ K
 unfolding stepRetry retry dueBy holds order firstOf isOpen
 retry-moved d r closed e q = due-by NotOpen e q refl
 retry-moved d r running e q = due-by Running e q refl
-retry-moved d r (waiting c a) e q = due-by Waiting e q refl
+retry-moved d r (waiting c a) e q = due-by _ e q refl
 retry-moved d r sentback e q = retries e q
 
 -- a read, a write or an increment

@@ -111,7 +111,3 @@ fresh-over n = record { good = good-none; given = λ j l. not-both l (line-none 
 pub started-over : {d : Desk} {h : History} → Started d h → Over d h
 started-over (fresh n _ _) = fresh-over n
 started-over (after s r) = step-over (started-inv s) r (started-over s)
-
--- in every history that the desk writes, no event of a job follows its c or a (01, refusals 3 and 13)
-pub no-event-after-end : {d : Desk} {h : History} → Started d h → endsForGood h ≡ true
-no-event-after-end s = started-over s .good

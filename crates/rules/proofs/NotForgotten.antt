@@ -2,10 +2,9 @@
 -- Assumes nothing.
 use Prim.Native.Nat.{ℕ}
 use mathlib.Core.Path.{_≡_, refl, subst, _∙_}
-use mathlib.Core.Logic.{_⊎_, inl, inr}
+use mathlib.Core.Logic.{_⊎_}
 use mathlib.Core.Bool.{false}
 use mathlib.Core.List.{List, [], _∷_, _++_}
-use Rattle.laws.specs.Choice.{not-both}
 use Rattle.conflict.specs.History.{History}
 use Rattle.conflict.specs.Runs.{isEnd, ended}
 use Rattle.conflict.proofs.OneEvent.{marked-none, ended-is}
@@ -14,13 +13,11 @@ use Rattle.rules.specs.Desk.{Waiter, Desk, Request}
 use Rattle.rules.specs.Locks.{wants}
 use Rattle.rules.specs.Step.{step, events, Started}
 use Rattle.rules.specs.Runs.{writes, deskAfter, historyOf}
-use Rattle.rules.specs.Course.{from}
-use Rattle.rules.specs.Waiting.{InWay, IsWaiting, Waits, GivesUp, AllEnd, Granted}
+use Rattle.rules.specs.Waiting.{InWay, IsWaiting, Waits, GivesUp, Granted}
 use Rattle.rules.specs.Invariant.{Inv}
 use Rattle.rules.proofs.Kept.{step-inv, started-inv}
 use Rattle.rules.proofs.Settle.{wants-same}
 use Rattle.rules.proofs.StartedRuns.{run-started}
-use Rattle.rules.proofs.InTheWay.{way-some}
 use Rattle.rules.proofs.WaiterStep.{step-on, step-undisturbed, step-not-ended}
 
 -- nobody's run ends in no requests
@@ -38,7 +35,7 @@ module _ (c : ℕ) (w : Waiter) where
   waits-now d (r ∷ rs) k = k .0
 
   -- and after them
-  waits-end : (d : Desk) (rs : List Request) → Waits (deskAfter d) c w rs → IsWaiting (deskAfter d rs) c w
+  pub waits-end : (d : Desk) (rs : List Request) → Waits (deskAfter d) c w rs → IsWaiting (deskAfter d rs) c w
   waits-end d [] k = k
   waits-end d (r ∷ rs) k = waits-end (step d r .desk) rs (k .1)
 
@@ -48,7 +45,7 @@ module _ (c : ℕ) (w : Waiter) where
   hold-through {d} v (r ∷ rs) (k, l) = hold-through (step-inv v r) rs l ∙ step-undisturbed v r c w k (waits-now (step d r .desk) rs l) .hold
 
   -- whoever is in its way after them was so before them, and has not ended a run in them
-  ways-through : {d : Desk} → Inv d → (rs : List Request) → Waits (deskAfter d) c w rs → (i : ℕ) → InWay (deskAfter d rs .row c) w i → InWay (d .row c) w i × (ended i (historyOf d rs) ≡ false)
+  pub ways-through : {d : Desk} → Inv d → (rs : List Request) → Waits (deskAfter d) c w rs → (i : ℕ) → InWay (deskAfter d rs .row c) w i → InWay (d .row c) w i × (ended i (historyOf d rs) ≡ false)
   unfolding writes
   ways-through v [] k i way = (way, ended-none i)
   ways-through {d} v (r ∷ rs) (k, l) i way =
@@ -56,28 +53,9 @@ module _ (c : ℕ) (w : Waiter) where
       (step-undisturbed v r c w k (waits-now (step d r .desk) rs l) .ways i p, ended-neither i (events d r) (historyOf (step d r .desk) rs) (step-not-ended v r c w k i p) q)
 
 module _ {d : Desk} {h : History} (s : Started d h) (c : ℕ) (w : Waiter) (rs : List Request) where
-  -- as long as it waits, somebody who was in its way when it began is still in its way and has not ended the run it was in
-  pub still-in-way : Waits (deskAfter d) c w rs → (i : ℕ) × InWay (d .row c) w i × (ended i (historyOf d rs) ≡ false) × InWay (deskAfter d rs .row c) w i
-  still-in-way k =
-      let (i, way) = way-some (started-inv (run-started s rs)) c w (waits-end c w d rs k) in
-      let (p, q) = ways-through c w (started-inv s) rs k i way in
-      (i, p, q, way)
-
-  -- so once all who were in its way have ended the runs they were in, it no longer waits for that request
-  pub not-forgotten : AllEnd (from d) c w rs → Waits (deskAfter d) c w rs → ⊥
-  not-forgotten all k = let (i, p, q, way) = still-in-way k in not-both (all i p) q
-
   -- a step that is not its give-up leaves it waiting or grants it its cell in the mode it asked for
   pub waits-or-granted : Waits (deskAfter d) c w rs → (r : Request) → (GivesUp (w .job) r → ⊥) → IsWaiting (step (deskAfter d rs) r .desk) c w ⊎ Granted (step (deskAfter d rs) r) c w (wants (d .row c .held) w)
   waits-or-granted k r n =
       subst (λ m. IsWaiting (step (deskAfter d rs) r .desk) c w ⊎ Granted (step (deskAfter d rs) r) c w m)
       (wants-same (deskAfter d rs .row c .held) (d .row c .held) w (hold-through c w (started-inv s) rs k))
       (step-on (started-inv (run-started s rs)) r c w (waits-end c w d rs k) n)
-
-  -- so when it stops waiting in a step that is not its give-up, that step woke it and gave it its cell in the mode it asked for
-  pub granted-at-last : Waits (deskAfter d) c w rs → (r : Request) → (GivesUp (w .job) r → ⊥) → (IsWaiting (step (deskAfter d rs) r .desk) c w → ⊥) → Granted (step (deskAfter d rs) r) c w (wants (d .row c .held) w)
-  granted-at-last k r n stops = by-side (waits-or-granted k r n)
-    where
-      by-side : IsWaiting (step (deskAfter d rs) r .desk) c w ⊎ Granted (step (deskAfter d rs) r) c w (wants (d .row c .held) w) → Granted (step (deskAfter d rs) r) c w (wants (d .row c .held) w)
-      by-side (inl x) = absurd (stops x)
-      by-side (inr g) = g

@@ -1,14 +1,13 @@
 -- The numbers of jobs: each begin gives the next number, no number is given twice, and none above 4,294,967,295 (01, Jobs and their numbers).
 -- Assumes nothing.
 use Prim.Native.Nat.{ℕ, suc, _<_, _≤_}
-use mathlib.Core.Path.{_≡_, refl, sym, ap, _∙_, subst}
+use mathlib.Core.Path.{_≡_, refl, subst}
 use mathlib.Core.Bool.{true, false, not}
 use mathlib.Core.List.{List, [], _∷_, _++_}
 use native.Mathlib.Omega.{arith}
 use borrow.Author.Tests.{eqb-true, eqb-false}
 use Rattle.laws.specs.Choice.{by-test, not-both}
 use Rattle.terms.specs.declared.letters.Letter.{Letter}
-use Rattle.terms.specs.declared.letters.Letter.the-variants.{Begin}
 use Rattle.terms.specs.declared.letters.Lettered.the-variants.{Known}
 use Rattle.terms.specs.declared.refusals.Refusal.{Refusal}
 use Rattle.terms.specs.Letters.{letterOf}
@@ -17,18 +16,17 @@ use Rattle.laws.specs.Lists.{same, member, distinct}
 use Rattle.laws.proofs.Parts.{or-either, and-both}
 use Rattle.laws.proofs.Lists.{member-first, member-more}
 use Rattle.rules.specs.declared.Answer.{Answer}
-use Rattle.rules.specs.declared.Answer.the-variants.{Go, No}
+use Rattle.rules.specs.declared.Answer.the-variants.{No}
 use Rattle.rules.specs.Desk.{Desk, Request}
-use Rattle.rules.specs.Rules.{Outcome, refused, withRow, withStatus, rule4, begin}
+use Rattle.rules.specs.Rules.{Outcome, refused, withRow, withStatus, rule4}
 use Rattle.rules.specs.Step.{step}
 use Rattle.rules.specs.Table.{isBegin, letterIs}
 use Rattle.rules.specs.Runs.{gives, deskAfter, numberIn, givenBy, given, Rising}
 use Rattle.rules.specs.Moves.{Moved, refuses, begins, commits, gives-up, retries, has-it, promotes, waits-in-front, enters, waits-last, goes-back}
-use Rattle.rules.proofs.Courses.{begin-went}
 use Rattle.rules.proofs.Moved.{step-moved}
 
 -- numbers that rise are different
-rising-distinct : (ns : List ℕ) → Rising ns → distinct ns ≡ true
+pub rising-distinct : (ns : List ℕ) → Rising ns → distinct ns ≡ true
 unfolding distinct
 rising-distinct [] f = refl
 rising-distinct (n ∷ ns) f =
@@ -82,10 +80,6 @@ next-rises-on d (r ∷ rs) =
     let b : step d r .desk .next ≤ deskAfter (step d r .desk) rs .next = next-rises-on (step d r .desk) rs in
     omega arith
 
--- a begin that goes gives the next number
-pub begin-gives : (d : Desk) (r : Request) (j : ℕ) → letterOf (r .kind) ≡ Known Begin → step d r .said ≡ Go j → (j ≡ d .next) × (step d r .desk .next ≡ suc j)
-begin-gives d r j e g = let c = begin-went d r j e g in (c .job, unfold begin in ap (λ o. o .desk .next) (c .outcome) ∙ ap suc (sym (c .job)))
-
 -- a number given by the requests is not below the next number before them, below the next number after them, and not above 4,294,967,295
 pub given-within : (d : Desk) (rs : List Request) (m : ℕ) → member m (given d rs) ≡ true → (d .next ≤ m) × (m < deskAfter d rs .next) × (m ≤ lastNumber)
 unfolding gives
@@ -126,11 +120,3 @@ given-rises d (r ∷ rs) = by-gives (step-gives d r) (given-rises (step d r .des
     by-gives : Gives d (givenBy r (step d r .said)) (step d r .desk) → Rising (given (step d r .desk) rs) → Rising (givenBy r (step d r .said) ++ given (step d r .desk) rs)
     by-gives (none-given q e) f = rw q f
     by-gives (one-given q l e) f = rw q (λ m h. omega (arith, e, given-within (step d r .desk) rs m h .0), f)
-
--- so no number is given twice
-pub given-once : (d : Desk) (rs : List Request) → distinct (given d rs) ≡ true
-given-once d rs = rising-distinct (given d rs) (given-rises d rs)
-
--- a begin that goes after some requests gives a number larger than all that they gave: no job begun later is older
-pub later-larger : (d : Desk) (rs : List Request) (r : Request) (j : ℕ) → letterOf (r .kind) ≡ Known Begin → step (deskAfter d rs) r .said ≡ Go j → (m : ℕ) → member m (given d rs) ≡ true → m < j
-later-larger d rs r j e g m h = omega (arith, given-within d rs m h .1, begin-gives (deskAfter d rs) r j e g .0)

@@ -7,14 +7,16 @@ use Rattle.terms.specs.Limits.{lastNumber}
 use Rattle.conflict.specs.History.{History}
 use Rattle.rules.specs.Desk.{Desk, Request, freshDesk}
 use Rattle.rules.specs.Stepping.{Stepping, through}
-use Rattle.rules.specs.Step.{step, recordsOf, recordsBy, Started, StartedOn, fresh, after}
+use Rattle.rules.specs.Step.{step, recordsOf, recordsBy, StartedOn, fresh, after}
 use Rattle.rules.specs.Runs.{deskAfter, given, historyOf, gives, givenBy, writes}
-use Rattle.rules.specs.Course.{Course, shown, course, from}
+use Rattle.rules.specs.Course.{shown, course, from}
+use Rattle.rules.specs.Examples.{toldOf, answersOf}
 use Rattle.rules.specs.Faithful.{Follows, Faithful}
 use Rattle.rules.specs.Ages.{AgesFrom}
 use Rattle.rules.specs.Promises.{Promises}
 use Rattle.rules.proofs.StartedRuns.{run-started}
-use Rattle.rules.proofs.Promised.{promised, ages-from}
+use Rattle.rules.proofs.Promised.{promised}
+use Rattle.rules.proofs.NumberLimits.{ages-from}
 
 module _ {S T : Type 0} {see : S → T} {does : Stepping S} {new : ℕ → S} {theirs : Stepping T} {first : ℕ → T} (f : Follows see does new theirs first) where
   -- the desk that is seen in a started one is a started one, with the same history
@@ -54,6 +56,14 @@ module _ {S : Type 0} {view : S → Desk} {does : Stepping S} {new : ℕ → S} 
       ap₂ (λ x y. x ++ y) (ap (λ o. givenBy r (o .said)) (f .same d h s r))
       (run-gives (does d r .desk) (h ++ recordsBy does d r) (after s r) rs ∙ ap (λ o. given (o .desk) rs) (f .same d h s r))
 
+  -- and their answers
+  run-answers : (d : S) (h : History) → StartedOn does new d h → (rs : List Request) → answersOf does d rs ≡ answersOf step (view d) rs
+  unfolding answersOf
+  run-answers d h s [] = refl
+  run-answers d h s (r ∷ rs) =
+      ap₂ (λ x y. x ∷ y) (ap (λ o. toldOf (o .said)) (f .same d h s r))
+      (run-answers (does d r .desk) (h ++ recordsBy does d r) (after s r) rs ∙ ap (λ o. answersOf step (o .desk) rs) (f .same d h s r))
+
   -- so it shows what the paper's desk that is seen in it shows
   pub one-course : (d : S) (h : History) → StartedOn does new d h → course view does d ≡ from (view d)
   one-course d h s =
@@ -68,6 +78,11 @@ module _ {S : Type 0} {view : S → Desk} {does : Stepping S} {new : ℕ → S} 
   pub started-course : (n : ℕ) → 0 < n → n ≤ lastNumber → course view does (new n) ≡ from (freshDesk n)
   started-course n l u = one-course (new n) [] (fresh n l u) ∙ ap from (f .starts n l u)
 
+  -- the same answers to any requests
+  pub same-answers : (n : ℕ) → 0 < n → n ≤ lastNumber → (rs : List Request) → answersOf does (new n) rs ≡ answersOf step (freshDesk n) rs
+  same-answers n l u rs = run-answers (new n) [] (fresh n l u) rs ∙ ap (λ e. answersOf step e rs) (f .starts n l u)
+
+  -- and keeps what is promised of the numbers
   pub start-promises : (n : ℕ) → 0 < n → n ≤ lastNumber → AgesFrom n (course view does (new n))
   start-promises n l u = subst (AgesFrom n) (sym (started-course n l u)) (ages-from n u)
 

@@ -1,7 +1,7 @@
 -- The rules leave no choice: the step is the one move that there is, whatever the desk and the request (01, The desk's rules; 01, How much a contract says).
 -- Assumes nothing.
 use Prim.Native.Nat.{ℕ}
-use mathlib.Core.Path.{_≡_, refl, sym, _∙_}
+use mathlib.Core.Path.{_≡_, refl, _∙_}
 use mathlib.Core.Bool.{true, false}
 use borrow.Author.Tests.{le-ltb}
 use Rattle.laws.specs.Choice.{not-both}
@@ -13,8 +13,8 @@ use Rattle.conflict.proofs.ModeLaws.{is-free, covers-free}
 use Rattle.rules.specs.Desk.{Status, closed, running, waiting, sentback, Desk, Request, isOpen}
 use Rattle.rules.specs.Rules.{Outcome, close, sendBack, grant, queued, rule1, rule2, rule3, ask, retry, begin}
 use Rattle.rules.specs.Step.{stepCommit, stepGiveUp, stepRetry, stepBegin, stepBy, step}
-use Rattle.rules.specs.Asked.{Asking}
-use Rattle.rules.specs.Moves.{holding, no-promotion, no-entry, Moved, refuses, begins, commits, gives-up, retries, has-it, promotes, waits-in-front, enters, waits-last, goes-back}
+use Rattle.rules.specs.Asked.{Asking, ownMode}
+use Rattle.rules.specs.Moves.{no-promotion, no-entry, Moved, refuses, begins, commits, gives-up, retries, has-it, promotes, waits-in-front, enters, waits-last, goes-back}
 use Rattle.rules.proofs.Granting.{asking-step}
 use Rattle.rules.proofs.Refusing.{due-refused}
 
@@ -45,7 +45,7 @@ module _ {d : Desk} {r : Request} where
   moved-only (has-it a k x) = asked-only a k (unfold ask rule1 in rw x)
   moved-only (promotes a k x f z) = asked-only a k (unfold ask rule2 grant in rw (x, f, z))
   moved-only (waits-in-front a k x f z w) = asked-only a k (unfold ask rule2 queued in rw (x, f, z, w))
-  moved-only (enters a k f z w) = asked-only a k (unfold ask rule3 grant in rw (newcomer-needs (holding d r) a f, f, z, w))
-  moved-only (waits-last a k f z w u) = asked-only a k (unfold ask rule3 queued in rw (newcomer-needs (holding d r) a f, f, z, w, u))
+  moved-only (enters a k f z w) = asked-only a k (unfold ask rule3 grant in rw (newcomer-needs (ownMode d r) a f, f, z, w))
+  moved-only (waits-last a k f z w u) = asked-only a k (unfold ask rule3 queued in rw (newcomer-needs (ownMode d r) a f, f, z, w, u))
   moved-only (goes-back a k (no-promotion x f z w)) = asked-only a k (unfold ask rule2 sendBack in rw (x, f, z, w))
-  moved-only (goes-back a k (no-entry f z w)) = asked-only a k (unfold ask rule3 sendBack in rw (newcomer-needs (holding d r) a f, f, z, w))
+  moved-only (goes-back a k (no-entry f z w)) = asked-only a k (unfold ask rule3 sendBack in rw (newcomer-needs (ownMode d r) a f, f, z, w))

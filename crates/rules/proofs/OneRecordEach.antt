@@ -5,7 +5,6 @@ use mathlib.Core.Path.{_≡_, refl, ap}
 use mathlib.Core.Logic.{_≢_}
 use mathlib.Core.List.{List, [], _∷_}
 use native.Mathlib.Omega.{arith}
-use lib.Dec.{eqb}
 use lib.ListN.{length, length-append}
 use borrow.Author.Tests.{eqb-true, eqb-false}
 use Rattle.laws.specs.Choice.{by-test}
@@ -22,7 +21,7 @@ use Rattle.laws.specs.Lists.{same}
 use Rattle.rules.specs.declared.Answer.{Answer}
 use Rattle.rules.specs.declared.Answer.the-variants.{Go, Wait, Back, No}
 use Rattle.rules.specs.Desk.{Status, Waiter, Row, Desk, Request, at, idle, freshDesk}
-use Rattle.rules.specs.Locks.{without, agrees, wants, woke, settle, released}
+use Rattle.rules.specs.Locks.{without, agrees, wants, wokenFirst, settle, released}
 use Rattle.rules.specs.Rules.{Outcome, refused, withRow, withStatus, wakesAt, wakesOf, rowsAfter, rule4}
 use Rattle.rules.specs.Step.{recordsBy, step, wentBy, ownRecords, wakeRecords, recordsOf, events}
 use Rattle.rules.specs.Moves.{Moved, refuses, begins, commits, gives-up, retries, has-it, promotes, waits-in-front, enters, waits-last, goes-back, taking, standing}
@@ -47,7 +46,7 @@ at-most-more : (k : ℕ) (rows : ℕ → Row) (c : ℕ) (x : Row) → length (x 
 unfolding standingIn
 at-most-more k rows c x h zero = omega arith
 at-most-more k rows c x h (suc n) =
-    by-test (eqb n c)
+    by-test (same n c)
     (λ t. let e : n ≡ c = eqb-true n c t in rw (e, at-same rows c x, before-cell rows c x c (omega arith)) (omega arith))
     (λ f. let o : n ≢ c = eqb-false n c f in let m : standingIn (at rows c x) n ≤ k + standingIn rows n = at-most-more k rows c x h n in rw (at-other rows c x n o) (omega arith))
 
@@ -59,7 +58,7 @@ without-size j (w ∷ q) = let m : length (without j q) ≤ length q = without-s
 
 -- who stood in a queue is granted or stands in it still
 settle-size : (js : List ℕ) (held : ℕ → Mode) (q : List Waiter) → length (settle js held q .woken) + length (settle js held q .row .queue) ≡ length q
-unfolding settle woke
+unfolding settle wokenFirst
 settle-size js held [] = omega arith
 settle-size js held (w ∷ q) =
     by-test (agrees js held (w .job) (wants held w))

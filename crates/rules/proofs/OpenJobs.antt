@@ -1,29 +1,24 @@
 -- The open jobs are those that the places name, each once, at most 32; no place is free exactly where 32 jobs are open (01, What is delivered; 01, refusals 3 and 6).
 -- Assumes nothing.
 use Prim.Native.Nat.{ℕ, suc, _<_, _≤_}
-use mathlib.Core.Path.{_≡_, refl, sym, ap, _∙_, subst}
-use mathlib.Core.Bool.{true, false, not, _&&_}
+use mathlib.Core.Path.{_≡_, refl, ap, _∙_, subst}
+use mathlib.Core.Bool.{true, false, not}
 use mathlib.Core.Logic.{_≢_}
 use mathlib.Core.List.{List, [], _∷_}
-use lib.Dec.{eqb}
 use lib.ListN.{length}
 use native.Mathlib.Omega.{arith}
-use borrow.Author.Tests.{eqb-true, eq-eqb, ne-eqb}
+use borrow.Author.Tests.{eqb-true}
 use Rattle.laws.specs.Choice.{by-test, not-both}
-use Rattle.terms.specs.declared.letters.Lettered.{Lettered}
 use Rattle.terms.specs.Limits.{places}
 use Rattle.laws.specs.Lists.{same, member, distinct}
 use Rattle.laws.proofs.Parts.{and-both, or-either, or-first, or-second}
 use Rattle.laws.proofs.Lists.{member-first, member-more}
-use Rattle.conflict.specs.History.{History}
 use Rattle.rules.specs.Desk.{Status, isOpen, Desk}
-use Rattle.rules.specs.Step.{Started}
-use Rattle.rules.specs.Table.{isBegin, letterIs, notOpen, allOpen, openAmong, openJobs}
-use Rattle.rules.proofs.Kept.{started-inv}
+use Rattle.rules.specs.Table.{openAmong, openJobs}
 use Rattle.rules.specs.Invariant.{Once, Inv}
 
 -- of the places, only open jobs are taken
-only-open : (stat : ℕ → Status) (ks : List ℕ) (j : ℕ) → member j (openAmong stat ks) ≡ true → isOpen (stat j) ≡ true
+pub only-open : (stat : ℕ → Status) (ks : List ℕ) (j : ℕ) → member j (openAmong stat ks) ≡ true → isOpen (stat j) ≡ true
 unfolding openAmong member
 only-open stat [] j h = not-both h refl
 only-open stat (k ∷ ks) j h =
@@ -41,7 +36,7 @@ only-seated stat (k ∷ ks) j h =
     (λ f. or-second (same k j) (member j ks) (only-seated stat ks j (rw f at h)))
 
 -- every open job of the places is taken
-all-open : (stat : ℕ → Status) (ks : List ℕ) (j : ℕ) → member j ks ≡ true → isOpen (stat j) ≡ true → member j (openAmong stat ks) ≡ true
+pub all-open : (stat : ℕ → Status) (ks : List ℕ) (j : ℕ) → member j ks ≡ true → isOpen (stat j) ≡ true → member j (openAmong stat ks) ≡ true
 unfolding openAmong member
 all-open stat [] j h o = h
 all-open stat (k ∷ ks) j h o =
@@ -50,7 +45,7 @@ all-open stat (k ∷ ks) j h o =
     (λ m. by-test (isOpen (stat k)) (λ t. rw t (or-second (same k j) (member j (openAmong stat ks)) (all-open stat ks j m o))) (λ f. rw f (all-open stat ks j m o)))
 
 -- none is taken twice, where 0 is not open
-none-twice : (stat : ℕ → Status) (ks : List ℕ) → isOpen (stat 0) ≡ false → Once ks → distinct (openAmong stat ks) ≡ true
+pub none-twice : (stat : ℕ → Status) (ks : List ℕ) → isOpen (stat 0) ≡ false → Once ks → distinct (openAmong stat ks) ≡ true
 unfolding openAmong distinct
 none-twice stat [] z o = refl
 none-twice stat (k ∷ ks) z o =
@@ -65,7 +60,7 @@ none-twice stat (k ∷ ks) z o =
     not-in t = by-test (member k (openAmong stat ks)) (λ m. not-both (only-seated stat ks k m) (o .0 (not-zero t))) (λ f. f)
 
 -- no more are taken than there are places
-no-more : (stat : ℕ → Status) (ks : List ℕ) → length (openAmong stat ks) ≤ length ks
+pub no-more : (stat : ℕ → Status) (ks : List ℕ) → length (openAmong stat ks) ≤ length ks
 unfolding openAmong
 no-more stat [] = omega arith
 no-more stat (k ∷ ks) =
@@ -97,40 +92,12 @@ zero-not-open inv = rw (inv .nobody)
 pub open-not-zero : {d : Desk} → Inv d → (j : ℕ) → isOpen (d .stat j) ≡ true → j ≢ 0
 open-not-zero v j o e = not-both (rw e at o) (zero-not-open v)
 
--- a job is listed among the open jobs exactly where it is open
-pub open-listed : {d : Desk} {h : History} → Started d h → (j : ℕ) → member j (openJobs d) ≡ isOpen (d .stat j)
-unfolding openJobs
-open-listed {d} s j =
-    by-test (isOpen (d .stat j)) (λ t. all-open (d .stat) (d .jobs) j (started-inv s .seats j t) t ∙ sym t)
-    (λ f. by-test (member j (openAmong (d .stat) (d .jobs))) (λ m. not-both (only-open (d .stat) (d .jobs) j m) f) (λ g. g ∙ sym f))
-
--- and once
-pub open-once : {d : Desk} {h : History} → Started d h → distinct (openJobs d) ≡ true
-unfolding openJobs
-open-once {d} s = let v = started-inv s in none-twice (d .stat) (d .jobs) (zero-not-open v) (v .once)
-
--- at most 32 jobs are open at once (01, What is delivered)
-pub at-most-32 : {d : Desk} {h : History} → Started d h → length (openJobs d) ≤ places
-unfolding openJobs
-at-most-32 {d} s = let h : length (openAmong (d .stat) (d .jobs)) ≤ length (d .jobs) = no-more (d .stat) (d .jobs) in omega (arith, started-inv s .size)
-
 -- with a place free, fewer than 32 jobs are open
-free-fewer : {d : Desk} → Inv d → member 0 (d .jobs) ≡ true → length (openJobs d) < places
+pub free-fewer : {d : Desk} → Inv d → member 0 (d .jobs) ≡ true → length (openJobs d) < places
 unfolding openJobs
 free-fewer {d} inv m = let h : length (openAmong (d .stat) (d .jobs)) < length (d .jobs) = fewer (d .stat) (d .jobs) (zero-not-open inv) m in omega (arith, inv .size)
 
 -- with no place free, 32 jobs are open
-full-32 : {d : Desk} → Inv d → member 0 (d .jobs) ≡ false → length (openJobs d) ≡ places
+pub full-32 : {d : Desk} → Inv d → member 0 (d .jobs) ≡ false → length (openJobs d) ≡ places
 unfolding openJobs
 full-32 {d} inv m = as-many (d .stat) (d .jobs) (λ k h. inv .opens k (λ e. not-both (rw e at h) m) h) ∙ inv .size
-
--- row 6 of the table as printed: no place is free exactly where 32 jobs are open
-pub row-6 : {d : Desk} {h : History} → Started d h → (l : Lettered) → allOpen l (d .jobs) ≡ (letterIs isBegin l && eqb (length (openJobs d)) places)
-row-6 {d} s l =
-    ap (λ b. letterIs isBegin l && b)
-    (by-test (member 0 (d .jobs)) (λ t. let h : length (openJobs d) < places = free-fewer (started-inv s) t in rw (t, ne-eqb (length (openJobs d)) places (λ e. omega arith)))
-    (λ f. rw (f, eq-eqb (length (openJobs d)) places (full-32 (started-inv s) f))))
-
--- row 3 of the table as printed: 0 never is open
-pub row-3 : {d : Desk} {h : History} → Started d h → notOpen (d .stat 0) ≡ true
-row-3 s = rw (zero-not-open (started-inv s))

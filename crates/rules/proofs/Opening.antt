@@ -4,26 +4,18 @@ use Prim.Native.Nat.{ℕ}
 use mathlib.Core.Path.{_≡_, refl}
 use mathlib.Core.Bool.{true, false}
 use Rattle.laws.specs.Choice.{not-both}
-use Rattle.terms.specs.declared.letters.Letter.the-variants.{Begin, Retry}
-use Rattle.terms.specs.declared.letters.Lettered.the-variants.{Known}
-use Rattle.terms.specs.Letters.{letterOf}
 use Rattle.laws.specs.Lists.{member}
-use Rattle.conflict.specs.History.{History}
-use Rattle.rules.specs.declared.Answer.the-variants.{Go}
-use Rattle.rules.specs.Desk.{Status, closed, running, waiting, sentback, Desk, Request, isOpen, isLive}
+use Rattle.rules.specs.Desk.{Status, closed, running, waiting, sentback, Desk, isOpen, isLive}
 use Rattle.rules.specs.Rules.{begin, retry, withStatus}
-use Rattle.rules.specs.Step.{step, Started}
 use Rattle.rules.specs.Effects.{Away, Begins, Retries}
-use Rattle.rules.proofs.Kept.{started-inv}
 use Rattle.rules.specs.Invariant.{Inv}
 use Rattle.rules.proofs.Tests.{at-same, at-other}
 use Rattle.rules.proofs.Places.{seated-others, seated-there}
 use Rattle.rules.proofs.KeptBegin.{next-not-open}
 use Rattle.rules.proofs.Away.{not-live-away}
-use Rattle.rules.proofs.Courses.{begin-went, retry-went}
 
 -- who is not open is closed
-not-open-closed : (s : Status) → isOpen s ≡ false → s ≡ closed
+pub not-open-closed : (s : Status) → isOpen s ≡ false → s ≡ closed
 unfolding isOpen
 not-open-closed closed f = refl
 not-open-closed running f = not-both refl f
@@ -35,7 +27,7 @@ next-closed : {d : Desk} → Inv d → d .stat (d .next) ≡ closed
 next-closed {d} v = not-open-closed (d .stat (d .next)) (next-not-open v)
 
 -- opening the next job
-begin-begins : {d : Desk} → Inv d → member 0 (d .jobs) ≡ true → Begins d (begin d .desk) (d .next)
+pub begin-begins : {d : Desk} → Inv d → member 0 (d .jobs) ≡ true → Begins d (begin d .desk) (d .next)
 unfolding begin
 begin-begins {d} v m =
     let a : Away d (d .next) = not-live-away v (d .next) (unfold isLive in rw (next-closed v)) in
@@ -52,7 +44,7 @@ begin-begins {d} v m =
     }
 
 -- retrying a sent back job
-retry-retries : {d : Desk} → Inv d → (j : ℕ) → d .stat j ≡ sentback → Retries d (retry d j .desk) j
+pub retry-retries : {d : Desk} → Inv d → (j : ℕ) → d .stat j ≡ sentback → Retries d (retry d j .desk) j
 unfolding retry withStatus
 retry-retries {d} v j s =
     let a : Away d j = not-live-away v j (unfold isLive in rw s) in
@@ -65,15 +57,3 @@ retry-retries {d} v j s =
       next = refl;
       rows = refl;
     }
-
--- a begin that is answered go opens the next job
-pub begins : {d : Desk} {h : History} → Started d h → (r : Request) (j : ℕ) → letterOf (r .kind) ≡ Known Begin → step d r .said ≡ Go j → Begins d (step d r .desk) j
-begins {d} s r j e g =
-    let c = begin-went d r j e g in
-    rw (c .job, c .outcome) (begin-begins (started-inv s) (c .was .1))
-
--- a retry that is answered go makes the job run again
-pub retries : {d : Desk} {h : History} → Started d h → (r : Request) (j : ℕ) → letterOf (r .kind) ≡ Known Retry → step d r .said ≡ Go j → Retries d (step d r .desk) j
-retries {d} s r j e g =
-    let c = retry-went d r j e g in
-    rw (c .job, c .outcome) (retry-retries (started-inv s) (r .job) (c .was))

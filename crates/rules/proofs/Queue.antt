@@ -5,7 +5,6 @@ use mathlib.Core.Path.{_≡_, refl, sym, ap, subst, _∙_}
 use mathlib.Core.Logic.{_≢_}
 use mathlib.Core.Bool.{false}
 use mathlib.Core.List.{List, [], _∷_, _++_}
-use native.Mathlib.Omega.{arith}
 use borrow.Author.Tests.{eqb-true, eqb-false, ne-eqb}
 use Rattle.laws.specs.Choice.{by-test}
 use Rattle.laws.specs.Lists.{same}
@@ -63,19 +62,6 @@ falling-join [] q f g h = g
 falling-join (u ∷ p) q f g h =
     (λ w k. in-either p q k (f .0 w) (h u w first), falling-join p q (f .1) g (λ v w k. h v w (later k)))
 
--- in a queue that falls a job stands once
-pub in-once : {q : List Waiter} → Falling q → (v w : Waiter) → In v q → In w q → v .job ≡ w .job → v ≡ w
-in-once {q} f v w h k e = go q f h k
-  where
-    go : (q : List Waiter) → Falling q → In v q → In w q → v ≡ w
-    go [] f h k = in-none h
-    go (u ∷ q) f h k =
-        in-split h (λ p. in-split k (λ r. p ∙ sym r) (λ l. absurd (lower (f .0 w l) (sym (ap (λ x. x .job) p) ∙ e))))
-        (λ m. in-split k (λ r. absurd (lower (f .0 v m) (sym (ap (λ x. x .job) r) ∙ sym e))) (λ l. go q (f .1) m l))
-      where
-        lower : {a b : ℕ} → a < b → b ≡ a → ⊥
-        lower h e = omega arith
-
 -- who stands in the queue without a job's place stands in the queue
 pub without-in : (j : ℕ) (q : List Waiter) {w : Waiter} → In w (without j q) → In w q
 unfolding without
@@ -109,12 +95,6 @@ without-falling j [] f = tt
 without-falling j (v ∷ q) f =
     by-test (same (v .job) j) (λ t. rw t (without-falling j q (f .1)))
     (λ n. rw n (λ w h. f .0 w (without-in j q h), without-falling j q (f .1)))
-
--- where a job has no place, the queue stays
-pub without-none : (j : ℕ) (q : List Waiter) → ((w : Waiter) → In w q → w .job ≢ j) → without j q ≡ q
-unfolding without
-without-none j [] h = refl
-without-none j (v ∷ q) h = rw (ne-eqb (v .job) j (h v first)) (ap (λ l. v ∷ l) (without-none j q (λ w k. h w (later k))))
 
 -- a job has a place in a queue or has none
 pub by-place : {P : Type 0} (j : ℕ) (q : List Waiter) → ((w : Waiter) → In w q → w .job ≡ j → P) → (((w : Waiter) → In w q → w .job ≢ j) → P) → P

@@ -4,14 +4,13 @@ use Prim.Native.Nat.{ℕ}
 use mathlib.Core.Path.{_≡_, refl, sym, ap}
 use mathlib.Core.List.{List}
 use Rattle.terms.specs.declared.letters.Ask.{Ask}
-use Rattle.rules.specs.declared.Answer.the-variants.{Wait}
 use Rattle.rules.specs.Desk.{waiting, Waiter, Row, Desk, Request}
 use Rattle.rules.specs.Rules.{withRow, withStatus, queued}
 use Rattle.rules.specs.Step.{step}
 use Rattle.rules.specs.Asked.{Asking}
 use Rattle.rules.specs.Effects.{StartsToWait}
 use Rattle.rules.proofs.Tests.{at-same, at-other, at-each}
-use Rattle.rules.proofs.Courses.{Joins, Waited, ask-waited}
+use Rattle.rules.proofs.AnswerTells.{Joins, Waited}
 
 -- waiting in a queue that joins the job as the rules say
 queued-waits : (d : Desk) (r : Request) (a : Ask) (q : List Waiter) → Asking d r a → Joins d r a q → StartsToWait d (queued d (r .job) (r .cell) a q .desk) r a (r .job)
@@ -30,9 +29,6 @@ queued-waits d r a q k h =
       next = refl;
     }
 
--- a step that answers wait makes the job wait
-pub waits : (d : Desk) (r : Request) (j : ℕ) → step d r .said ≡ Wait j → (a : Ask) × StartsToWait d (step d r .desk) r a j
-waits d r j g = told (ask-waited d r j g)
-  where
-    told : Waited d r j → (a : Ask) × StartsToWait d (step d r .desk) r a j
-    told w = (w .ask, rw (w .job, w .outcome) (queued-waits d r (w .ask) (w .queue) (w .asking) (w .joins)))
+-- so of a job that waits by a step
+pub waited-waits : {d : Desk} {r : Request} {j : ℕ} → (w : Waited d r j) → StartsToWait d (step d r .desk) r (w .ask) j
+waited-waits {d} {r} w = rw (w .job, w .outcome) (queued-waits d r (w .ask) (w .queue) (w .asking) (w .joins))

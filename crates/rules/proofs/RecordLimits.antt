@@ -4,7 +4,7 @@ use Prim.Native.Nat.{ℕ, _≤_, _<_}
 use mathlib.Core.Path.{_≡_, sym, _∙_, subst}
 use mathlib.Core.Bool.{true}
 use Rattle.laws.specs.Choice.{not-both}
-use Rattle.terms.specs.Limits.{cells, lastNumber}
+use Rattle.terms.specs.Limits.{cells}
 use Rattle.conflict.specs.declared.action.Action.{Action}
 use Rattle.conflict.specs.declared.action.Event.the-variants.{Does}
 use Rattle.conflict.specs.History.{History, lineOf}
@@ -20,16 +20,16 @@ use Rattle.rules.proofs.RunEnd.{row-releases}
 use Rattle.rules.proofs.Written.{asking, Wrote, nothing, action, mark, step-wrote}
 use Rattle.rules.proofs.WakeRecords.{WakeOf, record-of}
 use Rattle.rules.proofs.NoEventAfterEnd.{line-open}
-use Rattle.rules.proofs.NumberLimits.{open-within}
+use Rattle.rules.proofs.NumberLimits.{limits}
 use Rattle.rules.proofs.UnderLock.{same-action, no-mark}
 use Rattle.rules.proofs.Queue.{in-none, in-split, in-either}
 
 -- in every history that the desk writes, a job's number is from 1 to 4,294,967,295
-pub recorded-jobs : {d : Desk} {h : History} → Started d h → (j : ℕ) → lineOf j h ≡ true → (1 ≤ j) × (j ≤ lastNumber)
+pub recorded-jobs : {d : Desk} {h : History} → Started d h → (j : ℕ) → lineOf j h ≡ true → (1 ≤ j) × (j ≤ 4_294_967_295)
 recorded-jobs (fresh n _ _) j l = not-both l (line-none j)
 recorded-jobs (after {d = d} {h = h} s r) j l =
     or-either (lineOf j h) (lineOf j (events d r)) (sym (line-append j h (events d r)) ∙ l) (λ t. recorded-jobs s j t)
-    (λ t. open-within s j (line-open (started-inv s) (step-wrote d r (started-inv s)) j t))
+    (λ t. limits s .open-within j (line-open (started-inv s) (step-wrote d r (started-inv s)) j t))
 
 module _ {d : Desk} (v : Inv d) (r : Request) where
   -- a woken action is on the cell in whose queue its job stood
@@ -47,7 +47,7 @@ module _ {d : Desk} (v : Inv d) (r : Request) where
   wrote-cell (mark m s js said o l) x h = in-split h no-mark (λ k. woken-cell x (record-of (rowsAfter d (r .job)) x cells k))
 
 -- in every history that the desk writes, an action's cell is below 64
-pub recorded-cells : {d : Desk} {h : History} → Started d h → (x : Action) → In (Does x) h → x .cell < cells
+pub recorded-cells : {d : Desk} {h : History} → Started d h → (x : Action) → In (Does x) h → x .cell < 64
 recorded-cells (fresh n _ _) x k = in-none k
 recorded-cells (after {d = d} {h = h} s r) x k =
     in-either h (events d r) k (λ t. recorded-cells s x t) (wrote-cell (started-inv s) r (step-wrote d r (started-inv s)) x)

@@ -1,24 +1,30 @@
--- Each refusal of the table is given exactly where it is the first that is due, and then nothing changes (01, Refusals by number).
+-- Refusals and answers: a refusal of the table exactly where it is the first that is due, and then nothing changes; else go, wait or back, with the job (01, Refusals by number; 01, Lines).
 -- Assumes nothing.
 use Prim.Native.Nat.{ℕ, _≤_}
 use mathlib.Core.Path.{_≡_, refl, sym, ap, _∙_, subst}
-use mathlib.Core.Bool.{Bool, true}
-use mathlib.Core.List.{List, [], _∷_}
+use mathlib.Core.Bool.{true}
 use mathlib.Core.Option.{Option, none, some}
 use native.Mathlib.Omega.{arith}
-use Rattle.laws.specs.Choice.{by-test, not-both}
+use Rattle.laws.specs.Choice.{not-both}
+use Rattle.laws.proofs.Lists.{first-holds}
 use Rattle.terms.specs.declared.letters.Lettered.{Lettered}
 use Rattle.terms.specs.declared.refusals.Refusal.{Refusal}
 use Rattle.terms.specs.declared.refusals.Refusal.the-variants.{UnknownKind, CellAbove, NotOpen, Waiting, SentBack, AllOpen, NoNumberLeft, Running, BadLine, StartedAtZero, TooManyLines, JobOutside, Ended, ShortOrder, NoRoom, TooLong}
 use Rattle.terms.specs.Letters.{letterOf}
 use Rattle.terms.specs.Refusals.{numberOf}
 use Rattle.rules.specs.declared.Answer.{Answer}
-use Rattle.rules.specs.declared.Answer.the-variants.{No}
+use Rattle.rules.specs.declared.Answer.the-variants.{Go, No}
+use Rattle.rules.specs.AnswerWords.{wordOf, numberBeside}
 use Rattle.rules.specs.Desk.{Status, Desk, Request}
 use Rattle.rules.specs.Rules.{Outcome, refused}
-use Rattle.rules.specs.Step.{recordsBy, step, events, recordsOf, ownRecords, wakeRecords}
-use Rattle.rules.specs.Table.{holds, order, firstOf, dueBy, dueOf, Due, NothingDue, Answers, goes, waits, goes-back, named}
+use Rattle.rules.specs.Step.{recordsBy, stepBy, step, recordsOf, ownRecords, wakeRecords}
+use Rattle.rules.specs.Table.{holds, order, dueBy, dueOf, Due, Answers, goes, waits, goes-back, named, letterIs, asksNoCell}
+use Rattle.rules.specs.Course.{from}
+use Rattle.rules.specs.Refuses.{Refuses}
 use Rattle.rules.proofs.TableMeant.{Meant, step-meant}
+use Rattle.rules.proofs.AnswerNumbers.{beside-is-job}
+use Rattle.rules.proofs.Fields.{step-alike, records-alike}
+use Rattle.rules.proofs.AnswerTells.{ask-waited, ask-back}
 
 -- the answer that a refusal gives
 refused-said : (d : Desk) (why : Refusal) {o : Outcome} → o ≡ refused d why → o .said ≡ No why
@@ -33,60 +39,24 @@ never why j h = elim h [ ]
 same-refusal : (x y : Refusal) → No x ≡ No y → x ≡ y
 same-refusal x y e = cc
 
--- a refusal is given only where it is the first that is due
-pub refused-when : (d : Desk) (r : Request) (why : Refusal) → step d r .said ≡ No why → Due d r why
-refused-when d r why e = by-due (dueOf d r) refl (step-meant d r)
-  where
-    by-due : (v : Option Refusal) → dueOf d r ≡ v → Meant d (named d r) v (step d r) → dueOf d r ≡ some why
-    by-due (some x) q m = q ∙ ap some (same-refusal x why (sym (refused-said d x m) ∙ e))
-    by-due none q m = never why (named d r) (subst (λ x. Answers x (named d r)) e m)
+-- where an outcome that the table means is a refusal, that refusal is due
+meant-refuses : (d : Desk) (j : ℕ) (v : Option Refusal) (o : Outcome) → Meant d j v o → (why : Refusal) → o .said ≡ No why → v ≡ some why
+meant-refuses d j (some x) o m why e = ap some (same-refusal x why (sym (refused-said d x m) ∙ e))
+meant-refuses d j none o m why e = never why j (subst (λ x. Answers x j) e m)
 
--- and wherever it is: the desk is as it was, and nobody is woken
-pub due-refused : (d : Desk) (r : Request) (why : Refusal) → Due d r why → step d r ≡ refused d why
-due-refused d r why e = subst (λ v. Meant d (named d r) v (step d r)) e (step-meant d r)
-
--- where no refusal is due, the answer is go, wait or back, with the request's job, or for begin the new one
-pub not-due : (d : Desk) (r : Request) → NothingDue d r → Answers (step d r .said) (named d r)
-not-due d r e = subst (λ v. Meant d (named d r) v (step d r)) e (step-meant d r)
-
--- and only there
-pub answered-not-due : (d : Desk) (r : Request) (j : ℕ) → Answers (step d r .said) j → NothingDue d r
-answered-not-due d r j h = by-due (dueOf d r) refl
-  where
-    by-due : (v : Option Refusal) → dueOf d r ≡ v → dueOf d r ≡ none
-    by-due (some x) q = never x j (subst (λ y. Answers y j) (refused-said d x (due-refused d r x q)) h)
-    by-due none q = q
-
--- so every answer names the request's job, or for begin the new one (01, Lines)
-pub answer-names : (d : Desk) (r : Request) (j : ℕ) → Answers (step d r .said) j → j ≡ named d r
-answer-names d r j h = one-job h (not-due d r (answered-not-due d r j h))
+-- where it is go, wait or back, none is due, and the job is the one meant
+meant-answers : (d : Desk) (i : ℕ) (v : Option Refusal) (o : Outcome) → Meant d i v o → (j : ℕ) → Answers (o .said) j → (v ≡ none) × (j ≡ i)
+meant-answers d i (some x) o m j h = never x j (subst (λ y. Answers y j) (refused-said d x m) h)
+meant-answers d i none o m j h = (refl, one-job h m)
   where
     one-job : {x : Answer} {i k : ℕ} → Answers x i → Answers x k → i ≡ k
     one-job (goes i) (goes _) = refl
     one-job (waits i) (waits _) = refl
     one-job (goes-back i) (goes-back _) = refl
 
--- the first of a list whose test holds is one whose test holds
-first-holds : (f : Refusal → Bool) (xs : List Refusal) (x : Refusal) → firstOf f xs ≡ some x → f x ≡ true
-unfolding firstOf
-first-holds f [] x e = let z : _≡_ {A = ℕ} 0 1 = cc in absurd (omega arith)
-first-holds f (y ∷ ys) x e =
-    by-test (f y) (λ t. let q : some y ≡ some x = rw t at e in subst (λ z. f z ≡ true) (same-row y x q) t) (λ g. first-holds f ys x (rw g at e))
-  where
-    same-row : (y x : Refusal) → some y ≡ some x → y ≡ x
-    same-row y x q = cc
-
--- a refusal that is due is one whose row of the table holds
-pub due-holds : (d : Desk) (r : Request) (why : Refusal) → Due d r why → holds (letterOf (r .kind)) (d .stat (r .job)) (r .cell) d why ≡ true
-unfolding dueOf dueBy
-due-holds d r why e = first-holds (holds (letterOf (r .kind)) (d .stat (r .job)) (r .cell) d) (order (letterOf (r .kind))) why e
-
--- after a refusal the desk holds what it held, nobody is woken and nothing is recorded
-pub refusal-kept : (d : Desk) (r : Request) (why : Refusal) → step d r .said ≡ No why → (step d r .desk ≡ d) × (step d r .wakes ≡ []) × (events d r ≡ [])
-unfolding refused recordsBy recordsOf ownRecords wakeRecords
-refusal-kept d r why e =
-    let q : step d r ≡ refused d why = due-refused d r why (refused-when d r why e) in
-    (ap (λ o. o .desk) q, ap (λ o. o .wakes) q, ap (λ o. recordsOf r (o .said) (o .wakes)) q)
+-- where a refusal is due the desk is as it was, and nobody is woken
+pub due-refused : (d : Desk) (r : Request) (why : Refusal) → Due d r why → step d r ≡ refused d why
+due-refused d r why e = subst (λ v. Meant d (named d r) v (step d r)) e (step-meant d r)
 
 -- rows 9 to 16 never hold for a step
 row-number : (l : Lettered) (s : Status) (c : ℕ) (d : Desk) (why : Refusal) → holds l s c d why ≡ true → (1 ≤ numberOf why) × (numberOf why ≤ 8)
@@ -108,6 +78,31 @@ row-number l s c d ShortOrder h = not-both h refl
 row-number l s c d NoRoom h = not-both h refl
 row-number l s c d TooLong h = not-both h refl
 
--- a step gives only the refusals 1 to 8
-pub one-to-eight : (d : Desk) (r : Request) (why : Refusal) → step d r .said ≡ No why → (1 ≤ numberOf why) × (numberOf why ≤ 8)
-one-to-eight d r why e = row-number (letterOf (r .kind)) (d .stat (r .job)) (r .cell) d why (due-holds d r why (refused-when d r why e))
+-- a wait and a back are answers to a read, a write or an increment alone
+only-go : (d : Desk) (r : Request) → letterIs asksNoCell (letterOf (r .kind)) ≡ true → (x : Answer) {j : ℕ} → step d r .said ≡ x → Answers x j → x ≡ Go j
+only-go d r k x q (goes j) = refl
+only-go d r k x q (waits j) = not-both k (ap (letterIs asksNoCell) (ask-waited d r j q .asking .letter))
+only-go d r k x q (goes-back j) = not-both k (ap (letterIs asksNoCell) (ask-back d r j q .was .1 .letter))
+
+-- what is promised of refusals and answers
+pub refuses : (d : Desk) → Refuses (from d)
+unfolding step refused recordsBy recordsOf ownRecords wakeRecords wordOf numberBeside dueOf dueBy
+refuses d = record {
+  refused-exactly = λ r why. (meant-refuses d (named d r) (dueOf d r) (step d r) (step-meant d r) why, λ e. ap (λ o. o .said) (due-refused d r why e));
+  due-holds = λ r why e. first-holds (holds (letterOf (r .kind)) (d .stat (r .job)) (r .cell) d) (order (letterOf (r .kind))) why e;
+  refusal-kept = λ r why e.
+      let q = due-refused d r why (meant-refuses d (named d r) (dueOf d r) (step d r) (step-meant d r) why e) in
+      (ap (λ o. o .desk) q, ap (λ o. o .wakes) q, ap (λ o. recordsOf r (o .said) (o .wakes)) q);
+  not-due = λ r e. subst (λ v. Meant d (named d r) v (step d r)) e (step-meant d r);
+  answered-not-due = λ r j h. meant-answers d (named d r) (dueOf d r) (step d r) (step-meant d r) j h .0;
+  answer-names = λ r j h. meant-answers d (named d r) (dueOf d r) (step d r) (step-meant d r) j h .1;
+  answers-go = λ r k e. only-go d r k (step d r .said) refl (subst (λ v. Meant d (named d r) v (step d r)) e (step-meant d r));
+  no-with-number = λ r why e. let q = due-refused d r why e in (ap (λ o. wordOf (o .said)) q, ap (λ o. numberBeside (o .said)) q);
+  job-beside = λ r e. beside-is-job (subst (λ v. Meant d (named d r) v (step d r)) e (step-meant d r));
+  one-to-eight = λ r why e.
+      let q = meant-refuses d (named d r) (dueOf d r) (step d r) (step-meant d r) why e in
+      row-number (letterOf (r .kind)) (d .stat (r .job)) (r .cell) d why (first-holds (holds (letterOf (r .kind)) (d .stat (r .job)) (r .cell) d) (order (letterOf (r .kind))) why q);
+  unread = λ r s k e.
+      let q : step d r ≡ step d s = step-alike d r s (letterOf (r .kind)) e ∙ ap (λ b. stepBy d s (letterOf b)) k in
+      (q, rw (q, records-alike r s (step d s .said) k e));
+}

@@ -1,24 +1,24 @@
 -- One row after a run has ended: the job drops its lock and its place in the queue, and the row is settled. All that holds of it, told of the row as it was before.
 -- Assumes nothing.
 use Prim.Native.Nat.{ℕ, _<_}
-use mathlib.Core.Path.{_≡_, refl, sym, ap, subst, _∙_, fun-ext}
+use mathlib.Core.Path.{_≡_, sym, ap, subst, _∙_}
 use mathlib.Core.Logic.{_≢_}
 use mathlib.Core.Bool.{true, false}
-use mathlib.Core.List.{List, []}
+use mathlib.Core.List.{List}
 use native.Mathlib.Omega.{arith}
 use Rattle.laws.specs.Choice.{not-both}
 use Rattle.conflict.specs.declared.modes.Mode.{Mode}
 use Rattle.conflict.specs.declared.modes.Mode.the-variants.{Free}
 use Rattle.conflict.specs.Modes.{needed, covers, beside, isFree}
 use Rattle.laws.specs.Lists.{member}
-use Rattle.conflict.proofs.ModeLaws.{free-beside, beside-free, is-free, free-is-free}
+use Rattle.conflict.proofs.ModeLaws.{free-beside, beside-free, free-is-free}
 use Rattle.rules.specs.Desk.{Waiter, Row, at, In}
 use Rattle.rules.specs.Locks.{without, Settled, settle, released}
-use Rattle.rules.specs.Releasing.{Seated, Releases}
-use Rattle.rules.specs.Invariant.{Falling, FirstBlocked}
-use Rattle.rules.proofs.Queue.{in-left, in-right, in-either, falling-across, without-in, without-other, in-without, without-falling, without-none, by-place}
+use Rattle.rules.specs.Releasing.{Releases}
+use Rattle.rules.specs.Invariant.{Falling}
+use Rattle.rules.proofs.Queue.{in-left, in-right, in-either, falling-across, without-in, without-other, in-without, without-falling, by-place}
 use Rattle.rules.proofs.Tests.{at-same, at-other, at-each}
-use Rattle.rules.proofs.Settle.{Ready, Settles, settle-settles, settle-stays, wants-same, wants-covers}
+use Rattle.rules.proofs.Settle.{Ready, Settles, settle-settles, wants-same, wants-covers}
 
 module _ (js : List ℕ) (j : ℕ) (held : ℕ → Mode) (q : List Waiter) where
   -- a job that drops its lock and its place leaves a row that can be settled
@@ -86,12 +86,3 @@ module _ {js : List ℕ} {j : ℕ} {r : Row} {s : Settled} (t : Releases js j r 
   -- a waiter that is left holds what it held
   pub left-kept : (w : Waiter) → In w (s .row .queue) → s .row .held (w .job) ≡ r .held (w .job)
   left-kept w h = t .kept (w .job) (t .left-other w h) (λ v k e. let l : w .job < v .job = t .across v w k h in omega arith)
-
--- where the job neither holds the cell nor waits for it, the row stays as it is and nobody is woken
-pub released-stays : (js : List ℕ) (j : ℕ) (r : Row) → Seated js (r .held) → FirstBlocked (r .held) (r .queue) → isFree (r .held j) ≡ true → ((w : Waiter) → In w (r .queue) → w .job ≢ j) → released js j r ≡ record { row = r; woken = [] }
-unfolding released
-released-stays js j r seats b f n =
-    rw (without-none j (r .queue) n, nothing-dropped) (settle-stays js (r .held) (r .queue) seats b)
-  where
-    nothing-dropped : at (r .held) j Free ≡ r .held
-    nothing-dropped = fun-ext (λ i. at-each (λ x. x ≡ r .held i) (r .held) j Free i (λ e. sym (ap (r .held) e ∙ is-free (r .held j) f)) (λ _. refl))

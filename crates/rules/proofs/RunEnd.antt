@@ -11,7 +11,7 @@ use Rattle.terms.specs.declared.letters.Ask.{Ask}
 use Rattle.terms.specs.Limits.{cells}
 use Rattle.conflict.specs.declared.action.Action.{Action}
 use Rattle.rules.specs.Desk.{Status, running, waiting, Waiter, Desk, at, In}
-use Rattle.rules.specs.Rules.{isWoken, wakesOf, wakened, rowsAfter}
+use Rattle.rules.specs.Rules.{isWoken, wakesOf, runAgain, rowsAfter}
 use Rattle.rules.specs.Releasing.{Releases}
 use Rattle.rules.specs.Invariant.{Inv}
 use Rattle.rules.proofs.Statuses.{live-open, waiting-open, one-cell}
@@ -26,7 +26,7 @@ wakesAfter d j = wakesOf (rowsAfter d j) cells
 
 -- the statuses then, where the job gets the one given
 abbrev pub statusAfter : Desk → ℕ → Status → ℕ → Status
-statusAfter d j s = wakened (at (d .stat) j s) (wakesAfter d j)
+statusAfter d j s = runAgain (at (d .stat) j s) (wakesAfter d j)
 
 -- each row can be settled
 pub row-ready : {d : Desk} → Inv d → (c : ℕ) → Ready (d .jobs) (d .row c .held) (d .row c .queue)

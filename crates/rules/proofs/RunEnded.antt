@@ -1,16 +1,21 @@
--- A commit, a give-up and a sending back carry rule 4 out: every cell is released, and those granted are the wakes (01, rule 4).
+-- A commit, a give-up and a sending back carry rule 4 out, and nobody is woken but by them (01, rule 4).
 -- Assumes nothing.
 use Prim.Native.Nat.{ℕ}
-use mathlib.Core.Path.{_≡_, ap}
-use Rattle.conflict.specs.History.{History}
-use Rattle.rules.specs.Desk.{Desk, Request}
-use Rattle.rules.specs.Rules.{rowsAfter, rule4, close, sendBack}
-use Rattle.rules.specs.Step.{step, Started}
+use mathlib.Core.Path.{_≡_, refl, ap, subst}
+use mathlib.Core.Logic.{_⊎_, inl, inr}
+use mathlib.Core.List.{[]}
+use Rattle.terms.specs.Limits.{cells}
+use Rattle.conflict.specs.declared.action.Action.{Action}
+use Rattle.rules.specs.Desk.{Desk, Request, In}
+use Rattle.rules.specs.Rules.{Outcome, refused, rowsAfter, rule4, close, sendBack}
+use Rattle.rules.specs.Step.{step}
+use Rattle.rules.specs.Moves.{Moved, refuses, begins, commits, gives-up, retries, has-it, promotes, waits-in-front, enters, waits-last, goes-back}
 use Rattle.rules.specs.Effects.{RunEnds, by-commit, by-give-up, by-back}
-use Rattle.rules.specs.Releasing.{AllReleased}
-use Rattle.rules.proofs.Kept.{started-inv}
-use Rattle.rules.proofs.RunEnd.{wakesAfter, row-releases}
-use Rattle.rules.proofs.Courses.{commit-went, give-up-went, ask-back}
+use Rattle.rules.proofs.Moved.{step-moved}
+use Rattle.rules.proofs.Queue.{in-none}
+use Rattle.rules.proofs.AnswerTells.{commit-went, give-up-went, ask-back}
+use Rattle.rules.proofs.RunEnd.{wakesAfter}
+use Rattle.rules.proofs.WakeOrder.{GrantedAt, search-order}
 
 -- a step that ends a run leaves the cells and tells the wakes of rule 4
 pub record Ran (d : Desk) (r : Request) : Type 0 where
@@ -24,8 +29,24 @@ ran d r (by-commit l g) = let e = commit-went d r (r .job) l g .outcome in recor
 ran d r (by-give-up l g) = let e = give-up-went d r (r .job) l g .outcome in record { wakes = ap (λ o. o .wakes) e; row = λ c. ap (λ o. o .desk .row c) e }
 ran d r (by-back g) = let e = ask-back d r (r .job) g .outcome in record { wakes = ap (λ o. o .wakes) e; row = λ c. ap (λ o. o .desk .row c) e }
 
--- RULE 4: where a run ends, at each cell the job's lock and its place in the queue are dropped, those granted stood at the front, each holds what it wanted, everybody else what they held, and the first one left is hindered (01, rule 4)
-pub rule-4 : {d : Desk} {h : History} → Started d h → (r : Request) → RunEnds (step d r .said) r → AllReleased d (step d r) r
-rule-4 {d} s r e =
-    let k = ran d r e in
-    record { settled = rowsAfter d (r .job); rows = k .row; wakes = k .wakes; releases = row-releases (started-inv s) (r .job) }
+-- nobody is woken but by a commit, a give-up or a sending back, whatever the move
+pub only-rule-4 : {d : Desk} {r : Request} {o : Outcome} → Moved d r o → (o .wakes ≡ []) ⊎ RunEnds (o .said) r
+only-rule-4 (refuses why _) = unfold refused in inl refl
+only-rule-4 (begins l n m) = inl refl
+only-rule-4 (commits l s) = inr (by-commit l (unfold rule4 in refl))
+only-rule-4 (gives-up l s) = inr (by-give-up l (unfold rule4 in refl))
+only-rule-4 (retries l s) = inl refl
+only-rule-4 (has-it b k x) = inl refl
+only-rule-4 (promotes b k x f z) = inl refl
+only-rule-4 (waits-in-front b k x f z w) = inl refl
+only-rule-4 (enters b k f z w) = inl refl
+only-rule-4 (waits-last b k f z w u) = inl refl
+only-rule-4 (goes-back b k x) = inr (by-back (unfold rule4 in refl))
+
+-- so a wake comes of rule 4, and was granted at a cell that is searched
+pub wake-ran : (d : Desk) (r : Request) (x : Action) → In x (step d r .wakes) → Ran d r × GrantedAt (rowsAfter d (r .job)) cells x
+wake-ran d r x m = by-side (only-rule-4 (step-moved d r))
+  where
+    by-side : (step d r .wakes ≡ []) ⊎ RunEnds (step d r .said) r → Ran d r × GrantedAt (rowsAfter d (r .job)) cells x
+    by-side (inl e) = in-none (subst (In x) e m)
+    by-side (inr b) = (ran d r b, search-order (rowsAfter d (r .job)) cells .granted (subst (In x) (ran d r b .wakes) m))

@@ -1,6 +1,6 @@
 -- A started desk is known by all but its queues: each queue is who waits for the cell, the youngest first. So there is one paper's desk to see from a desk that keeps the rest.
 -- Assumes nothing.
-use Prim.Native.Nat.{ℕ, zero, suc, _<_, _≤_}
+use Prim.Native.Nat.{ℕ, zero, suc, _<_}
 use mathlib.Core.Path.{_≡_, refl, sym, ap, ap₂, subst, _∙_}
 use mathlib.Core.List.{List, [], _∷_}
 use native.Mathlib.Omega.{arith}
@@ -12,7 +12,7 @@ use Rattle.rules.specs.Desk.{Status, closed, running, waiting, sentback,
 use Rattle.rules.specs.Invariant.{Falling, Inv}
 use Rattle.rules.specs.Seen.{inFront, waitersBelow, seenBy}
 use Rattle.rules.proofs.Queue.{in-none, in-split}
-use Rattle.rules.proofs.Statuses.{running-not-waiting, sentback-not-waiting, closed-not-open, not-open-not-waiting, waiting-open}
+use Rattle.rules.proofs.Statuses.{waiting-open}
 
 -- two queues that fall and have the same waiters are one
 pub falling-one : (p q : List Waiter) → Falling p → Falling q → ((w : Waiter) → In w p → In w q) → ((w : Waiter) → In w q → In w p) → p ≡ q

@@ -14,7 +14,7 @@ use Rattle.rules.specs.Rules.{Outcome, refused, withRow, withStatus, rul
 use Rattle.rules.specs.Step.{step}
 use Rattle.rules.specs.Asked.{Elder, holder, waiter}
 use Rattle.rules.specs.Moves.{Moved, refuses, begins, commits, gives-up, retries, has-it, promotes, waits-in-front, enters, waits-last, goes-back}
-use Rattle.rules.proofs.Courses.{ask-back}
+use Rattle.rules.proofs.AnswerTells.{ask-back}
 use Rattle.rules.specs.Invariant.{Inv}
 use Rattle.rules.proofs.Statuses.{waiting-live, running-live, running-not-waiting}
 use Rattle.rules.proofs.Tests.{at-each, not-older-holders, not-older-waiters}

@@ -1,31 +1,34 @@
--- The second sentence of demand 3 as one theorem: a waiting job that does not give up gets its cell in the mode it asked for, at the latest in the step that ends the last run among the other jobs that held that cell or stood ahead when it asked, at most 31 runs.
+-- Waiting, and the second sentence of demand 3: a waiting job that does not give up gets its cell in the mode it asked for, at the latest in the step that ends the last run among the other jobs that held that cell or stood ahead when it asked, at most 31 runs.
 -- Assumes nothing.
-use Prim.Native.Nat.{ℕ}
+use Prim.Native.Nat.{ℕ, _<_, _≤_}
 use mathlib.Core.Path.{_≡_, refl, ap, subst}
 use mathlib.Core.Logic.{_⊎_, inl, inr}
 use mathlib.Core.Bool.{false}
 use mathlib.Core.List.{List, [], _∷_}
-use Rattle.terms.specs.declared.letters.Ask.{Ask}
-use Rattle.terms.specs.declared.letters.Letter.the-variants.{Asks}
-use Rattle.terms.specs.declared.letters.Lettered.the-variants.{Known}
-use Rattle.terms.specs.Letters.{letterOf}
+use lib.ListN.{length}
+use native.Mathlib.Omega.{arith}
+use Rattle.laws.specs.Choice.{not-both}
 use Rattle.conflict.specs.History.{History}
 use Rattle.conflict.specs.Runs.{ended}
-use Rattle.rules.specs.declared.Answer.the-variants.{Wait}
 use Rattle.rules.specs.Desk.{Waiter, Desk, Request}
 use Rattle.rules.specs.Locks.{wants}
+use Rattle.rules.specs.Asked.{asker}
 use Rattle.rules.specs.Step.{step, events, Started, after}
 use Rattle.rules.specs.Runs.{writes, deskAfter, historyOf}
 use Rattle.rules.specs.Course.{from}
-use Rattle.rules.specs.Waiting.{InWay, asker, IsWaiting, Waits, Patient, AllEnd, Granted, Served, ServedInTime}
+use Rattle.rules.specs.Waiting.{InWay, IsWaiting, Waits, Patient, AllEnd, Granted, Served}
+use Rattle.rules.specs.Service.{Waiters, Service}
 use Rattle.rules.specs.Invariant.{Inv}
 use Rattle.rules.proofs.Kept.{step-inv, started-inv}
 use Rattle.rules.proofs.Settle.{wants-same}
-use Rattle.rules.proofs.InTheWay.{way-some, in-way-live}
+use Rattle.rules.proofs.StartedRuns.{run-started}
+use Rattle.rules.proofs.InTheWay.{waiter-in, way-some, way-younger, way-live, chain-rises}
 use Rattle.rules.proofs.WaiterStep.{step-on, step-undisturbed, step-not-ended}
-use Rattle.rules.proofs.NotForgotten.{ended-none, ended-neither, not-forgotten}
-use Rattle.rules.proofs.AtMost31.{at-most-31}
-use Rattle.rules.proofs.JustAsked.{asker-waits}
+use Rattle.rules.proofs.NotForgotten.{ended-none, ended-neither, waits-end, ways-through, waits-or-granted}
+use Rattle.rules.proofs.Pigeonhole.{no-longer}
+use Rattle.rules.proofs.AtMost31.{with-self, all-seated}
+use Rattle.rules.proofs.SomebodyRuns.{runs-above}
+use Rattle.rules.proofs.JustAsked.{just-asked, way-was, was-way}
 
 module _ {d : Desk} (v : Inv d) (r : Request) (rs : List Request) (c : ℕ) (w : Waiter) (k : IsWaiting d c w) where
   -- it is served in the first of the requests
@@ -79,26 +82,52 @@ waits-on : {d : Desk} → Inv d → (c : ℕ) (w : Waiter) (rs : List Request) �
 waits-on v c w [] k p = inl k
 waits-on v c w (r ∷ rs) k p = one-more v r rs c w k p (waits-on (step-inv v r) c w rs)
 
--- so through any requests a waiter that does not give up still waits, or has been served
-pub waits-or-served : {d : Desk} {h : History} → Started d h → (c : ℕ) (w : Waiter) → IsWaiting d c w → (rs : List Request) → Patient (from d) c w rs → Waits (deskAfter d) c w rs ⊎ Served (from d) c w rs
-waits-or-served s c w k rs p = waits-on (started-inv s) c w rs k p
+-- of two, where not the one, the other
+otherwise : {A B : Type 0} → A ⊎ B → (A → ⊥) → B
+otherwise (inl a) n = absurd (n a)
+otherwise (inr b) n = b
 
--- and once all runs that were in its way have ended, it has been served
-pub waiter-served : {d : Desk} {h : History} → Started d h → (c : ℕ) (w : Waiter) → IsWaiting d c w → (rs : List Request) → Patient (from d) c w rs → AllEnd (from d) c w rs → Served (from d) c w rs
-waiter-served {d} s c w k rs p all = by-side (waits-or-served s c w k rs p)
-  where
-    by-side : Waits (deskAfter d) c w rs ⊎ Served (from d) c w rs → Served (from d) c w rs
-    by-side (inl l) = absurd (not-forgotten s c w rs all l)
-    by-side (inr g) = g
+module _ {d : Desk} {h : History} (s : Started d h) where
+  v : Inv d
+  v = started-inv s
 
--- a job that asks and is answered wait is served in time (demand 3)
-pub served-in-time : {d : Desk} {h : History} → Started d h → (r : Request) (a : Ask) → letterOf (r .kind) ≡ Known (Asks a) → step d r .said ≡ Wait (r .job) → ServedInTime (from (step d r .desk)) (r .cell) (asker r a)
-served-in-time {d} s r a l e = record {
-  waits = waits;
-  in-a-run = in-way-live (after s r) (r .cell) (asker r a) waits;
-  at-most = at-most-31 (after s r) (r .cell) (asker r a) waits;
-  served = waiter-served (after s r) (r .cell) (asker r a) waits;
-}
-  where
-    waits : IsWaiting (step d r .desk) (r .cell) (asker r a)
-    waits = asker-waits s r a l e
+  -- who is in a waiter's way after some requests
+  blocker : (c : ℕ) (w : Waiter) (rs : List Request) → Waits (deskAfter d) c w rs → (i : ℕ) × InWay (deskAfter d rs .row c) w i
+  blocker c w rs x = way-some (started-inv (run-started s rs)) c w (waits-end c w d rs x)
+
+  -- what is promised of a waiter
+  pub waiters : (c : ℕ) (w : Waiter) → IsWaiting d c w → Waiters (from d) c w
+  waiters c w k =
+      let forgotten : (rs : List Request) → AllEnd (from d) c w rs → Waits (deskAfter d) c w rs → ⊥ = λ rs all x.
+      let (i, way) = blocker c w rs x in
+      let (p, q) = ways-through c w v rs x i way in
+      not-both (all i p) q in
+      record {
+        somebody-in-way = way-some v c w k;
+        is-older = way-younger v c w k;
+        in-way-live = way-live v c w k;
+        at-most-31 = λ is o ways.
+            let l : length (w .job ∷ is) ≤ length (d .jobs) = no-longer (w .job ∷ is) (d .jobs) (with-self v c w k is ways o) (all-seated v c w k is ways) in
+            omega (arith, v .size);
+        waits-or-served = λ rs p. waits-on v c w rs k p;
+        waiter-served = λ rs p all. otherwise (waits-on v c w rs k p) (forgotten rs all);
+        still-in-way = λ rs x. let (i, way) = blocker c w rs x in let (p, q) = ways-through c w v rs x i way in (i, p, q, way);
+        not-forgotten = forgotten;
+        granted-at-last = λ rs x r n stops. otherwise (waits-or-granted s c w rs x r n) stops;
+      }
+
+-- what is promised of waiting
+pub service : {d : Desk} {h : History} → Started d h → Service (from d)
+service {d} s =
+    let v = started-inv s in
+    record {
+      somebody-runs = λ j c a e. runs-above v (d .next) j c a (omega arith) e;
+      no-circle = λ j l. let g : j < j = chain-rises v l in omega arith;
+      waiting-is-standing = λ c w. (waiter-in v c w, v .rows c .stands w);
+      waiters = waiters s;
+      asker-waits = λ r a l e. just-asked s r a l e .status;
+      in-way-when-asked = λ r a l e i. (way-was s r a l e i, was-way s r a l e i);
+      served-in-time = λ r a l e.
+          let w = waiters (after s r) (r .cell) (asker r a) (just-asked s r a l e .status) in
+          record { waits = just-asked s r a l e .status; in-a-run = w .in-way-live; at-most = w .at-most-31; served = w .waiter-served };
+    }

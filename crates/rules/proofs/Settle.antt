@@ -12,11 +12,11 @@ use Rattle.conflict.specs.Modes.{needed, covers, beside, grants, asked, isFree}
 use Rattle.laws.specs.Lists.{member}
 use Rattle.conflict.proofs.ModeLaws.{beside-sym, grants-beside, covers-refl, covers-trans, asked-grows, asked-covers}
 use Rattle.rules.specs.Desk.{Waiter, at, In, first, later}
-use Rattle.rules.specs.Locks.{agrees, wants, woke, Settled, settle}
+use Rattle.rules.specs.Locks.{agrees, wants, wokenFirst, Settled, settle}
 use Rattle.rules.specs.Releasing.{Seated}
 use Rattle.rules.specs.Invariant.{Falling, FirstBlocked}
 use Rattle.rules.proofs.Queue.{in-none, in-split, in-left}
-use Rattle.rules.proofs.Tests.{at-same, at-other, at-each, agrees-each, agrees-not, not-agrees}
+use Rattle.rules.proofs.Tests.{at-same, at-other, at-each, agrees-each, agrees-not}
 
 -- a row that can be settled: who holds and who waits is listed, and it is as every row is but for the blocker
 pub record Ready (js : List ℕ) (held : ℕ → Mode) (q : List Waiter) : Type 0 where
@@ -85,8 +85,8 @@ module _ (js : List ℕ) (held : ℕ → Mode) (w : Waiter) (q : List Waiter) (r
       omega arith
 
   -- and what was so settled, with the first waiter woken, is the row settled
-  granted-settles : (s : Settled) → Settles js (at held (w .job) (wants held w)) q s → Settles js held (w ∷ q) (woke w s)
-  unfolding woke
+  granted-settles : (s : Settled) → Settles js (at held (w .job) (wants held w)) q s → Settles js held (w ∷ q) (wokenFirst w s)
+  unfolding wokenFirst
   granted-settles s t = record {
     parted = ap (λ l. w ∷ l) (t .parted);
     kept = λ i n. t .kept i (λ v h. n v (later h)) ∙ at-other held (w .job) (wants held w) i (λ e. n w first (sym e));
@@ -123,9 +123,3 @@ settle-settles js held (w ∷ q) r =
     by-test (agrees js held (w .job) (wants held w))
     (λ t. rw t (granted-settles js held w q r (settle js (at held (w .job) (wants held w)) q) (settle-settles js (at held (w .job) (wants held w)) q (granted-ready js held w q r t))))
     (λ f. rw f (stopped-settles js held (w ∷ q) r (agrees-not js held (w .job) (wants held w) f)))
-
--- where the first waiter is blocked, settling changes nothing
-pub settle-stays : (js : List ℕ) (held : ℕ → Mode) (q : List Waiter) → Seated js held → FirstBlocked held q → settle js held q ≡ record { row = record { held = held; queue = q }; woken = [] }
-unfolding settle
-settle-stays js held [] seats b = refl
-settle-stays js held (w ∷ q) seats b = rw (not-agrees js held (w .job) (wants held w) seats (b .0) (b .1) (b .2))

@@ -6,16 +6,13 @@ use mathlib.Core.Bool.{true}
 use native.Mathlib.Omega.{arith}
 use Rattle.laws.specs.Choice.{not-both}
 use Rattle.terms.specs.declared.letters.Ask.{Ask}
-use Rattle.conflict.specs.History.{History}
 use Rattle.rules.specs.Desk.{Status, closed, running, waiting, sentback, Waiter, Desk, isLive}
-use Rattle.rules.specs.Step.{Started}
 use Rattle.rules.specs.Invariant.{Inv}
-use Rattle.rules.proofs.Kept.{started-inv}
 use Rattle.rules.proofs.Statuses.{waiting-open}
 use Rattle.rules.proofs.InTheWay.{way-some, way-younger, way-live}
 
 -- a live job runs or waits
-pub live-split : {P : Type 0} (s : Status) → isLive s ≡ true → (s ≡ running → P) → ((c : ℕ) (a : Ask) → s ≡ waiting c a → P) → P
+live-split : {P : Type 0} (s : Status) → isLive s ≡ true → (s ≡ running → P) → ((c : ℕ) (a : Ask) → s ≡ waiting c a → P) → P
 unfolding isLive
 live-split closed h f g = not-both h refl
 live-split running h f g = f refl
@@ -23,7 +20,7 @@ live-split (waiting c a) h f g = g c a refl
 live-split sentback h f g = not-both h refl
 
 -- a job that waits has a younger one that runs: the numbers above it that were given are at most n
-runs-above : {d : Desk} → Inv d → (n j c : ℕ) (a : Ask) → d .next ≤ j + n → d .stat j ≡ waiting c a → (i : ℕ) × (j < i) × (d .stat i ≡ running)
+pub runs-above : {d : Desk} → Inv d → (n j c : ℕ) (a : Ask) → d .next ≤ j + n → d .stat j ≡ waiting c a → (i : ℕ) × (j < i) × (d .stat i ≡ running)
 runs-above v zero j c a l e = absurd (omega (arith, v .below j (waiting-open e)))
 runs-above {d} v (suc n) j c a l e =
     let w : Waiter = record { job = j; ask = a } in
@@ -33,7 +30,3 @@ runs-above {d} v (suc n) j c a l e =
   where
     younger : (i : ℕ) → j < i → (k : ℕ) × (i < k) × (d .stat k ≡ running) → (k : ℕ) × (j < k) × (d .stat k ≡ running)
     younger i y (k, z, r) = (k, omega arith, r)
-
--- whenever a job waits, some younger job runs (demand 3)
-pub somebody-runs : {d : Desk} {h : History} → Started d h → (j c : ℕ) (a : Ask) → d .stat j ≡ waiting c a → (i : ℕ) × (j < i) × (d .stat i ≡ running)
-somebody-runs {d} s j c a e = runs-above (started-inv s) (d .next) j c a (omega arith) e

@@ -15,12 +15,12 @@ use Rattle.terms.specs.declared.refusals.Refusal.{Refusal}
 use Rattle.terms.specs.Letters.{letterOf}
 use Rattle.terms.specs.Limits.{cells, lastNumber}
 use Rattle.conflict.specs.Modes.{needed, covers, isFree}
-use Rattle.laws.specs.Lists.{member}
+use Rattle.laws.specs.Lists.{member, firstOf}
 use Rattle.rules.specs.Desk.{Status, closed, running, waiting, sentback, isOpen, Desk, Request}
 use Rattle.rules.specs.Locks.{agrees, alone, olderThanHolders, olderThanWaiters, isEmpty}
 use Rattle.rules.specs.Rules.{Outcome, refused, rule4, close, sendBack, grant, queued, rule1, rule2, rule3, ask, retry, begin}
 use Rattle.rules.specs.Step.{stepCommit, stepGiveUp, stepRetry, stepAsk, stepBegin, stepBy, step}
-use Rattle.rules.specs.Table.{holds, order, firstOf, dueBy, dueOf, Answers, namedBy, named, goes, waits, goes-back}
+use Rattle.rules.specs.Table.{holds, order, dueBy, dueOf, Answers, namedBy, named, goes, waits, goes-back}
 
 -- what the table says, told of an outcome: a refusal that leaves all as it was, or an answer with the job given
 abbrev pub Meant : Desk → ℕ → Option Refusal → Outcome → Type 0

@@ -2,27 +2,27 @@
 -- Assumes nothing.
 use Prim.Native.Nat.{ℕ}
 use mathlib.Core.Path.{_≡_, refl, sym, subst}
-use mathlib.Core.Bool.{true, false}
-use mathlib.Core.List.{_∷_, _++_}
 use native.Mathlib.Omega.{arith}
 use Rattle.terms.specs.declared.letters.Ask.{Ask}
 use Rattle.terms.specs.Limits.{cells}
 use Rattle.conflict.specs.declared.action.Action.{Action}
 use Rattle.conflict.specs.declared.action.Mark.{Mark}
 use Rattle.conflict.specs.declared.action.Event.the-variants.{Does, Ends}
-use Rattle.conflict.specs.Modes.{lets}
 use Rattle.conflict.specs.History.{History}
-use Rattle.conflict.specs.Runs.{ended}
 use Rattle.conflict.proofs.ModeLaws.{covers-lets}
 use Rattle.conflict.proofs.StillHeld.{machine-still}
 use Rattle.rules.specs.Desk.{Desk, Request, In}
 use Rattle.rules.specs.Rules.{Outcome, wake, rowsAfter, rule4}
-use Rattle.rules.specs.Step.{step, events, Started}
+use Rattle.rules.specs.Step.{recordsBy, Started}
+use Rattle.rules.specs.Course.{from}
+use Rattle.rules.specs.Locking.{Locking}
 use Rattle.rules.specs.Histories.{AskedBy, request, waiter, UnderLock}
 use Rattle.rules.specs.Invariant.{Inv}
 use Rattle.rules.proofs.Release.{woken-covers}
 use Rattle.rules.proofs.RunEnd.{row-releases}
 use Rattle.rules.proofs.Kept.{started-inv}
+use Rattle.rules.proofs.Moved.{step-moved}
+use Rattle.rules.proofs.Holding.{moved-held}
 use Rattle.rules.proofs.Written.{asking, Wrote, nothing, action, mark, step-wrote}
 use Rattle.rules.proofs.Machine.{started-machine}
 use Rattle.rules.proofs.WakeRecords.{WakeOf, record-of}
@@ -79,10 +79,15 @@ module _ {d : Desk} (v : Inv d) {r : Request} where
   wrote-locked {o} (mark m s js said open′ last′) x h =
       in-split h no-mark (λ k. woken-locked (o .desk) x (λ c. refl) (record-of (rowsAfter d (r .job)) x cells k))
 
--- every action that a step of a started desk writes, its own or a wake's, is under a lock after that step: its job holds a mode that covers what was asked, and every other job's mode on that cell may stand beside it (01, rules 1 to 4)
-pub under-lock : {d : Desk} {h : History} → Started d h → (r : Request) (x : Action) → In (Does x) (events d r) → (a : Ask) × AskedBy d r x a × UnderLock (step d r .desk) x a
-under-lock {d} s r x k = wrote-locked (started-inv s) (step-wrote d r (started-inv s)) x k
-
--- an action whose run has not ended is still under a mode that lets it: nothing is released before the run ends (01, The desk's rules)
-pub still-under-lock : {d : Desk} (h g : History) (x : Action) → Started d (h ++ Does x ∷ g) → ended (x .job) g ≡ false → lets (d .row (x .cell) .held (x .job)) (x .kind) ≡ true
-still-under-lock h g x s f = machine-still h g x (started-machine s) f
+-- what is promised of locks
+pub locking : {d : Desk} {h : History} → Started d h → Locking (from d) h
+unfolding recordsBy
+locking {d} s =
+    let v = started-inv s in
+    record {
+      besides = λ c. v .rows c .pairs;
+      holder-live = λ c. v .rows c .holds;
+      held-till-end = λ r i c. moved-held v r i c (step-moved d r) refl;
+      under-lock = λ r x k. wrote-locked v (step-wrote d r v) x k;
+      still-under-lock = λ g i x e f. machine-still g i x (started-machine (subst (Started d) e s)) f;
+    }

@@ -5,7 +5,7 @@ use mathlib.Core.Path.{_≡_, refl, ap, subst}
 use mathlib.Core.List.{List, [], _∷_, _++_}
 use native.Mathlib.Omega.{arith}
 use borrow.Author.Tests.{eqb-true, eqb-false}
-use lib.Dec.{eqb}
+use Rattle.laws.specs.Lists.{same}
 use Rattle.laws.specs.Choice.{by-test}
 use Rattle.conflict.specs.declared.action.Action.{Action}
 use Rattle.rules.specs.Desk.{Waiter, In, first, later}
@@ -43,6 +43,15 @@ before-none = elim [ ]
 before-split : {P : Type 0} {x y z : Action} {rest : List Action} → Before x y (z ∷ rest) → (x ≡ z → In y rest → P) → (Before x y rest → P) → P
 before-split (next h) f g = f refl h
 before-split (further b) f g = g b
+
+-- both are told
+pub before-first : {x y : Action} {xs : List Action} → Before x y xs → In x xs
+before-first (next h) = first
+before-first (further b) = later (before-first b)
+
+pub before-second : {x y : Action} {xs : List Action} → Before x y xs → In y xs
+before-second (next h) = later h
+before-second (further b) = later (before-second b)
 
 -- of two lists of wakes: both are of the first, or both of the second, or the first of the first and the second of the second
 before-either : {P : Type 0} {x y : Action} (a b : List Action) → Before x y (a ++ b) → (Before x y a → P) → (In x a → In y b → P) → (Before x y b → P) → P
@@ -100,7 +109,7 @@ search-order s (suc n) =
     record {
       granted = λ h. in-either (wakesOf s n) (wakesAt n (s n .woken)) h (λ i. one-more (k .granted i))
           (λ i. let (w, m, e) = in-at n (s n .woken) i in record { cell = n; below = omega arith; waiter = w; granted = m; is = e });
-      reached = λ c w l h. by-test (eqb c n)
+      reached = λ c w l h. by-test (same c n)
           (λ t. in-right (wakesOf s n) (subst (λ b. In (wake c w) (wakesAt b (s b .woken))) (eqb-true c n t) (at-in c h)))
           (λ f. in-left (wakesAt n (s n .woken)) (k .reached c w (lower c l (eqb-false c n f)) h));
       ordered = λ b. before-either (wakesOf s n) (wakesAt n (s n .woken)) b (k .ordered)

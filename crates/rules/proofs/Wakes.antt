@@ -12,7 +12,7 @@ use Rattle.laws.proofs.Lists.{same-refl}
 use Rattle.laws.proofs.Parts.{or-either, or-second}
 use Rattle.rules.specs.Desk.{Status, running, Waiter, In, first, later}
 use Rattle.rules.specs.Locks.{Settled}
-use Rattle.rules.specs.Rules.{wake, wakesOf, isWoken, wakened}
+use Rattle.rules.specs.Rules.{wake, wakesOf, isWoken, runAgain}
 use Rattle.rules.proofs.WakeOrder.{search-order}
 
 -- a job is granted at one of the first n cells: where, and as which waiter
@@ -58,16 +58,16 @@ unfolding wake
 at-woken s n c w l h = in-woken (search-order s n .reached c w l h)
 
 -- the woken jobs run
-pub woken-runs : (stat : ℕ → Status) (wakes : List Action) (j : ℕ) → isWoken j wakes ≡ true → wakened stat wakes j ≡ running
-unfolding wakened
+pub woken-runs : (stat : ℕ → Status) (wakes : List Action) (j : ℕ) → isWoken j wakes ≡ true → runAgain stat wakes j ≡ running
+unfolding runAgain
 woken-runs stat wakes j t = rw t
 
 -- all others are as they were
-pub others-stay : (stat : ℕ → Status) (wakes : List Action) (j : ℕ) → isWoken j wakes ≡ false → wakened stat wakes j ≡ stat j
-unfolding wakened
+pub others-stay : (stat : ℕ → Status) (wakes : List Action) (j : ℕ) → isWoken j wakes ≡ false → runAgain stat wakes j ≡ stat j
+unfolding runAgain
 others-stay stat wakes j f = rw f
 
 -- so what holds of running and of a status holds of the new one
-pub wakened-each : (P : Status → Type 0) (stat : ℕ → Status) (wakes : List Action) (j : ℕ) → (isWoken j wakes ≡ true → P running) → (isWoken j wakes ≡ false → P (stat j)) → P (wakened stat wakes j)
-unfolding wakened
+pub wakened-each : (P : Status → Type 0) (stat : ℕ → Status) (wakes : List Action) (j : ℕ) → (isWoken j wakes ≡ true → P running) → (isWoken j wakes ≡ false → P (stat j)) → P (runAgain stat wakes j)
+unfolding runAgain
 wakened-each P stat wakes j f g = by-test (isWoken j wakes) (λ t. rw t (f t)) (λ n. rw n (g n))

@@ -1,9 +1,9 @@
--- The wakes of a step exactly: told cell by cell and from the front of each queue, and each left with the very mode that it waited for (01, rule 4).
+-- The wakes of a step exactly: who is woken, cell by cell and from the front of each queue, each left with the very mode that it waited for; and nobody else's status, place or lock changes (01, rule 4).
 -- Assumes nothing.
-use Prim.Native.Nat.{ℕ}
-use mathlib.Core.Path.{_≡_, sym, subst}
-use mathlib.Core.Logic.{_⊎_, inl, inr}
-use mathlib.Core.List.{[]}
+use Prim.Native.Nat.{ℕ, _<_}
+use mathlib.Core.Path.{_≡_, sym, ap, _∙_, subst}
+use mathlib.Core.Logic.{_≢_}
+use native.Mathlib.Omega.{arith}
 use Rattle.terms.specs.declared.letters.Ask.{Ask}
 use Rattle.terms.specs.Limits.{cells}
 use Rattle.conflict.specs.declared.modes.Mode.{Mode}
@@ -16,19 +16,24 @@ use Rattle.rules.specs.Desk.{waiting, Waiter, Desk, Request, In}
 use Rattle.rules.specs.Locks.{wants}
 use Rattle.rules.specs.Rules.{wake, rowsAfter}
 use Rattle.rules.specs.Step.{step, Started}
+use Rattle.rules.specs.Course.{from}
 use Rattle.rules.specs.Waiting.{Ahead}
 use Rattle.rules.specs.WakeOrder.{Before, Sooner, smaller-cell, stood-ahead}
-use Rattle.rules.specs.Effects.{RunEnds, WokenWith}
+use Rattle.rules.specs.Effects.{WokenWith}
 use Rattle.rules.specs.Invariant.{Falling, Inv}
+use Rattle.rules.specs.Wakes.{Wakes}
 use Rattle.rules.proofs.Kept.{started-inv}
-use Rattle.rules.proofs.Queue.{in-none, falling-left, without-falling}
-use Rattle.rules.proofs.Statuses.{one-ask}
+use Rattle.rules.proofs.Moved.{step-moved}
+use Rattle.rules.proofs.Queue.{falling-left, without-falling}
+use Rattle.rules.proofs.Statuses.{one-ask, one-cell}
 use Rattle.rules.proofs.AheadLaws.{ahead-in, ahead-of, ahead-younger, younger-ahead}
 use Rattle.rules.proofs.RunEnd.{row-releases}
-use Rattle.rules.proofs.Waking.{wakes-only-rule-4}
-use Rattle.rules.proofs.WakeOrder.{Searched, granted-ahead, before-none, search-order}
+use Rattle.rules.proofs.Waking.{moved-wakes}
+use Rattle.rules.proofs.Bystanders.{moved-status, moved-place}
+use Rattle.rules.proofs.OthersLocks.{moved-locks, granted-elsewhere}
+use Rattle.rules.proofs.WakeOrder.{Searched, granted-ahead, before-first, before-second, search-order}
 use Rattle.rules.proofs.WakeOrder as searching
-use Rattle.rules.proofs.RunEnded.{Ran, ran}
+use Rattle.rules.proofs.RunEnded.{Ran, ran, only-rule-4, wake-ran}
 
 module _ {d : Desk} (v : Inv d) (j c : ℕ) where
   -- who was granted ahead of another stood ahead of it
@@ -42,14 +47,6 @@ module _ {d : Desk} (v : Inv d) (j c : ℕ) where
 searched-sooner : {d : Desk} → Inv d → (j : ℕ) {x y : Action} → Searched (rowsAfter d j) x y → Sooner d x y
 searched-sooner v j (searching.smaller-cell l) = smaller-cell l
 searched-sooner v j (granted-ahead c u w e k a) = stood-ahead c u w e k (granted-stood v j c u w a)
-
--- THE ORDER OF WAKES: of two wakes of a step, the earlier one's cell is the smaller, or it is the same cell and its job stood ahead in that cell's queue before the step (01, rule 4)
-pub wakes-in-order : {d : Desk} {h : History} → Started d h → (r : Request) (x y : Action) → Before x y (step d r .wakes) → Sooner d x y
-wakes-in-order {d} s r x y b = by-side (wakes-only-rule-4 d r)
-  where
-    by-side : (step d r .wakes ≡ []) ⊎ RunEnds (step d r .said) r → Sooner d x y
-    by-side (inl e) = before-none (subst (Before x y) e b)
-    by-side (inr k) = searched-sooner (started-inv s) (r .job) (search-order (rowsAfter d (r .job)) cells .ordered (subst (Before x y) (ran d r k .wakes) b))
 
 -- the mode that a waiter wants is X if it holds the cell, and what it needs if it does not
 wants-exactly : (held : ℕ → Mode) (w : Waiter) → WokenWith (held (w .job)) (wants held w) (w .ask)
@@ -66,17 +63,47 @@ granted-exactly {d} v j c w i a k =
     subst (WokenWith (d .row c .held (w .job)) (rowsAfter d j c .row .held (w .job))) (one-ask (v .rows c .stands w (t .woken-was w i)) k)
     (subst (λ m. WokenWith (d .row c .held (w .job)) m (w .ask)) (sym (t .takes w i)) (wants-exactly (d .row c .held) w))
 
--- a woken job is left with exactly the mode that it waited for (01, rules 2 to 4)
-pub wakes-exactly : {d : Desk} {h : History} → Started d h → (r : Request) (x : Action) → In x (step d r .wakes) → (a : Ask) → d .stat (x .job) ≡ waiting (x .cell) a →
-    WokenWith (d .row (x .cell) .held (x .job)) (step d r .desk .row (x .cell) .held (x .job)) a
-unfolding wake
-wakes-exactly {d} s r x m a k = by-side (wakes-only-rule-4 d r)
-  where
-    left : (c : ℕ) (w : Waiter) → In w (rowsAfter d (r .job) c .woken) → Ran d r → (y : Action) → y ≡ wake c w → d .stat (y .job) ≡ waiting (y .cell) a → WokenWith (d .row (y .cell) .held (y .job)) (step d r .desk .row (y .cell) .held (y .job)) a
-    left c w i t y e q = rw (e, t .row c) (granted-exactly (started-inv s) (r .job) c w i a (rw e at q))
+module _ {d : Desk} {h : History} (s : Started d h) (r : Request) where
+  v : Inv d
+  v = started-inv s
 
-    by-side : (step d r .wakes ≡ []) ⊎ RunEnds (step d r .said) r → WokenWith (d .row (x .cell) .held (x .job)) (step d r .desk .row (x .cell) .held (x .job)) a
-    by-side (inl e) = in-none (subst (In x) e m)
-    by-side (inr b) =
-        let g = search-order (rowsAfter d (r .job)) cells .granted (subst (In x) (ran d r b .wakes) m) in
-        left (g .cell) (g .waiter) (g .granted) (ran d r b) x (g .is) k
+  -- of two wakes the earlier one comes first in the search of rule 4
+  searched : {x y : Action} → Before x y (step d r .wakes) → Searched (rowsAfter d (r .job)) x y
+  searched {x} {y} b = search-order (rowsAfter d (r .job)) cells .ordered (subst (Before x y) (wake-ran d r x (before-first b) .0 .wakes) b)
+
+  -- what a wake's job holds then, on its cell
+  left-with : (c : ℕ) (w : Waiter) → In w (rowsAfter d (r .job) c .woken) → Ran d r → (y : Action) → y ≡ wake c w → (a : Ask) → d .stat (y .job) ≡ waiting (y .cell) a → WokenWith (d .row (y .cell) .held (y .job)) (step d r .desk .row (y .cell) .held (y .job)) a
+  unfolding wake
+  left-with c w i t y e a q = rw (e, t .row c) (granted-exactly v (r .job) c w i a (rw e at q))
+
+  -- and on another
+  left-elsewhere : (b : ℕ) (u : Waiter) → In u (rowsAfter d (r .job) b .woken) → Ran d r → (y : Action) → y ≡ wake b u → (c : ℕ) → c ≢ y .cell → step d r .desk .row c .held (y .job) ≡ d .row c .held (y .job)
+  unfolding wake
+  left-elsewhere b u k t y e c q = rw (e, t .row c) (granted-elsewhere v (r .job) b c u k (rw e at q))
+
+  -- who stands ahead in a queue is another job than who stands behind
+  not-twice : {x y : Action} → Sooner d x y → x .job ≡ y .job → (a b : Ask) → d .stat (x .job) ≡ waiting (x .cell) a → d .stat (y .job) ≡ waiting (y .cell) b → ⊥
+  unfolding wake
+  not-twice (smaller-cell l) e a b p q = let z = one-cell p (ap (d .stat) e ∙ q) in omega (arith, l, z)
+  not-twice (stood-ahead c u w e f k) g a b p q =
+      let l : w .job < u .job = ahead-younger (v .rows c .down) k in
+      let z : u .job ≡ w .job = sym (ap (λ t. t .job) e) ∙ g ∙ ap (λ t. t .job) f in
+      omega (arith, l, z)
+
+  -- what is promised of wakes and bystanders
+  pub wakes : Wakes (from d) r
+  wakes = record {
+    wakes-only-rule-4 = only-rule-4 (step-moved d r);
+    rule-4 = λ e. let k = ran d r e in record { settled = rowsAfter d (r .job); rows = k .row; wakes = k .wakes; releases = row-releases v (r .job) };
+    wake-tells = λ x. moved-wakes v x (step-moved d r);
+    wakes-exactly = λ x m a k. let (t, g) = wake-ran d r x m in left-with (g .cell) (g .waiter) (g .granted) t x (g .is) a k;
+    wakes-in-order = λ x y b. searched-sooner v (r .job) (searched b);
+    woken-once = λ x y b e.
+        let p = moved-wakes v x (step-moved d r) (before-first b) in
+        let q = moved-wakes v y (step-moved d r) (before-second b) in
+        not-twice (searched-sooner v (r .job) (searched b)) e (p .ask) (q .ask) (p .waited) (q .waited);
+    bystander = λ i n. moved-status d r i n (step-moved d r);
+    bystander-place = λ i n z. moved-place d r i n z (step-moved d r);
+    bystander-locks = λ i n f c. moved-locks v r i n c (step-moved d r) f;
+    woken-locks = λ x m c n. let (t, g) = wake-ran d r x m in left-elsewhere (g .cell) (g .waiter) (g .granted) t x (g .is) c n;
+  }

@@ -3,13 +3,12 @@ use Prim.Native.Nat.{ℕ, suc, _<_, _≤_}
 use mathlib.Core.Path.{_≡_}
 use mathlib.Core.Logic.{_≢_}
 use mathlib.Core.Bool.{true, false, _&&_}
-use mathlib.Core.List.{List, [], _∷_, _++_}
+use mathlib.Core.List.{List, [], _++_}
 use Rattle.laws.specs.Lists.{member, distinct}
 use Rattle.terms.specs.declared.letters.Letter.the-variants.{Begin}
 use Rattle.terms.specs.declared.letters.Lettered.the-variants.{Known}
 use Rattle.terms.specs.declared.letters.Lettered.{Lettered}
 use Rattle.terms.specs.Letters.{letterOf}
-use Rattle.terms.specs.Limits.{lastNumber}
 use Rattle.rules.specs.declared.Answer.the-variants.{Go, Back}
 use Rattle.rules.specs.Desk.{sentback, Desk, Request, isOpen, isLive}
 use Rattle.rules.specs.Table.{isBegin, letterIs, noNumberLeft}
@@ -29,10 +28,8 @@ pub record Ages (k : Course) : Type 0 where
   -- over any list of requests the numbers given rise, so no number is given twice
   pub given-rises : (rs : List Request) → Rising (k .gave [] rs)
   pub given-once : (rs : List Request) → distinct (k .gave [] rs) ≡ true
-  -- a begin that goes after some requests gives a number larger than all that they gave
+  -- no job begun later is older: a begin that goes after some requests gives a number larger than all that they gave, and than every open job's (demand 3)
   pub later-larger : (rs : List Request) (r : Request) (j : ℕ) → letterOf (r .kind) ≡ Known Begin → k .does rs r .said ≡ Go j → (m : ℕ) → member m (k .gave [] rs) ≡ true → m < j
-  -- no job begun later is older than one begun before, nor than one that was open (demand 3)
-  pub no-younger-in-age : (r : Request) (i : ℕ) → letterOf (r .kind) ≡ Known Begin → to k r .said ≡ Go i → (rs : List Request) (q : Request) (j : ℕ) → letterOf (q .kind) ≡ Known Begin → k .does (r ∷ rs) q .said ≡ Go j → i < j
   pub begun-later-is-younger : (j : ℕ) → isOpen (now k .stat j) ≡ true → (rs : List Request) (r : Request) (i : ℕ) → letterOf (r .kind) ≡ Known Begin → k .does rs r .said ≡ Go i → j < i
   -- a job is sent back only while an older job is live
   pub back-only-while-older : (r : Request) (j : ℕ) → to k r .said ≡ Back j → (i : ℕ) × (i < j) × (isLive (now k .stat i) ≡ true)
@@ -48,6 +45,6 @@ pub record Ages (k : Course) : Type 0 where
 -- what is promised of the numbers from a start at n on
 pub record AgesFrom (n : ℕ) (k : Course) : Type 0 where
   -- a number given is from n to 4,294,967,295
-  pub given-from : (rs : List Request) (m : ℕ) → member m (k .gave [] rs) ≡ true → (n ≤ m) × (m ≤ lastNumber)
+  pub given-from : (rs : List Request) (m : ℕ) → member m (k .gave [] rs) ≡ true → (n ≤ m) × (m ≤ 4_294_967_295)
   -- row 7 of the table as printed: the next number is above 4,294,967,295 exactly where that number was given
-  pub row-7 : (rs : List Request) (l : Lettered) → noNumberLeft l (k .seen rs .next) ≡ (letterIs isBegin l && member lastNumber (k .gave [] rs))
+  pub row-7 : (rs : List Request) (l : Lettered) → noNumberLeft l (k .seen rs .next) ≡ (letterIs isBegin l && member 4_294_967_295 (k .gave [] rs))

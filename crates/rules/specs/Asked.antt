@@ -31,6 +31,14 @@ pub data Elder (d : Desk) (j c : ℕ) : Type 0 where
 abbrev pub heldThere : Desk → Request → ℕ → Mode
 heldThere d r = d .row (r .cell) .held
 
+-- what the request's own job holds of it
+abbrev pub ownMode : Desk → Request → Mode
+ownMode d r = heldThere d r (r .job)
+
+-- the request's job with what it asks, as it stands in a queue
+abbrev pub asker : Request → Ask → Waiter
+asker r a = record { job = r .job; ask = a }
+
 -- who waits there
 abbrev pub queueThere : Desk → Request → List Waiter
 queueThere d r = d .row (r .cell) .queue
@@ -43,13 +51,13 @@ pub record OtherHolder (d : Desk) (r : Request) (i : ℕ) : Type 0 where
 -- the job asks for a promotion: it holds the cell, and not in a mode that covers its need
 pub record Promotes (d : Desk) (r : Request) (a : Ask) : Type 0 where
   pub asking : Asking d r a
-  pub holds : isFree (heldThere d r (r .job)) ≡ false
-  pub not-covered : covers (heldThere d r (r .job)) (needed a) ≡ false
+  pub holds : isFree (ownMode d r) ≡ false
+  pub not-covered : covers (ownMode d r) (needed a) ≡ false
 
 -- the job does not hold the cell
 pub record Enters (d : Desk) (r : Request) (a : Ask) : Type 0 where
   pub asking : Asking d r a
-  pub holds-nothing : isFree (heldThere d r (r .job)) ≡ true
+  pub holds-nothing : isFree (ownMode d r) ≡ true
 
 -- a job new to the cell cannot have it at once: somebody waits for it, or somebody holds it in a mode that does not agree
 pub data Hindered (d : Desk) (r : Request) (a : Ask) : Type 0 where

@@ -7,13 +7,12 @@ use Rattle.terms.specs.declared.letters.Ask.{Ask}
 use Rattle.conflict.specs.Modes.{needed, covers, grants}
 use Rattle.rules.specs.declared.Answer.the-variants.{Go, Wait, Back}
 use Rattle.rules.specs.Desk.{Request, Waiter, In}
-use Rattle.rules.specs.Asked.{Asking, OtherHolder, Promotes, Enters, Hindered, heldThere, queueThere}
-use Rattle.rules.specs.Waiting.{asker}
+use Rattle.rules.specs.Asked.{Asking, OtherHolder, Promotes, Enters, Hindered, asker, heldThere, ownMode, queueThere}
 use Rattle.rules.specs.Course.{Course, now, to}
 
 pub record Decides (k : Course) (r : Request) (a : Ask) : Type 0 where
   -- a job that holds a covering mode: go. Nothing changes (01, rule 1)
-  pub has-it : Asking (now k) r a → covers (heldThere (now k) r (r .job)) (needed a) ≡ true → (to k r .said ≡ Go (r .job)) × (to k r .desk ≡ now k) × (to k r .wakes ≡ [])
+  pub has-it : Asking (now k) r a → covers (ownMode (now k) r) (needed a) ≡ true → (to k r .said ≡ Go (r .job)) × (to k r .desk ≡ now k) × (to k r .wakes ≡ [])
   -- a promotion with no other holder: go; otherwise, older than every other holder: wait, in front; otherwise: back (01, rule 2)
   pub promotion-goes : Promotes (now k) r a → ((i : ℕ) → OtherHolder (now k) r i → ⊥) → to k r .said ≡ Go (r .job)
   pub promotion-waits : Promotes (now k) r a → (i : ℕ) → OtherHolder (now k) r i → ((i : ℕ) → OtherHolder (now k) r i → r .job < i) → to k r .said ≡ Wait (r .job)

@@ -108,7 +108,7 @@ pub data RunEnds (said : Answer) (r : Request) : Type 0 where
   by-back : said ≡ Back (r .job) → RunEnds said r
 
 -- from desk d to desk e the wake a: what was asked, that it waited for that, and what it is and holds now
-pub record Woken (d e : Desk) (a : Action) : Type 0 where
+pub record WakeTells (d e : Desk) (a : Action) : Type 0 where
   pub ask : Ask
   pub kind : a .kind ≡ recorded ask
   pub within : a .cell < cells

@@ -28,4 +28,5 @@ pub mod Decides
 pub mod Wakes
 pub mod Recorded
 pub mod DeskLimits
-pub mod Orderly
+pub mod SerialHistory
+pub mod Examples

@@ -1,7 +1,7 @@
 -- The locks of one cell: who agrees with whom, who is older, and how waiters are granted from the front (01, rules 2 to 4).
 use Prim.Native.Nat.{ℕ}
-use mathlib.Core.Bool.{Bool, true, false, not, _&&_, _||_}
-use mathlib.Core.List.{List, [], _∷_, _++_}
+use mathlib.Core.Bool.{Bool, true, false, _&&_, _||_}
+use mathlib.Core.List.{List, [], _∷_}
 use lib.Dec.{ltb}
 use Rattle.laws.specs.Choice.{pick}
 use Rattle.conflict.specs.declared.modes.Mode.{Mode}
@@ -56,14 +56,14 @@ unfoldable pub wants : (ℕ → Mode) → Waiter → Mode
 wants held w = asked (held (w .job)) (needed (w .ask))
 
 -- one more waiter at the head of those granted
-unfoldable pub woke : Waiter → Settled → Settled
-woke w s = record { row = s .row; woken = w ∷ s .woken }
+unfoldable pub wokenFirst : Waiter → Settled → Settled
+wokenFirst w s = record { row = s .row; woken = w ∷ s .woken }
 
 -- waiters are granted from the front while each agrees with the other holders; the search stops at the first that does not (01, rule 4)
 unfoldable pub settle : List ℕ → (ℕ → Mode) → List Waiter → Settled
 settle js held [] = record { row = record { held = held; queue = [] }; woken = [] }
 settle js held (w ∷ q) =
-    pick (agrees js held (w .job) (wants held w)) (woke w (settle js (at held (w .job) (wants held w)) q))
+    pick (agrees js held (w .job) (wants held w)) (wokenFirst w (settle js (at held (w .job) (wants held w)) q))
     (record { row = record { held = held; queue = w ∷ q }; woken = [] })
 
 -- one row after a job has dropped its lock and its place in the queue, and the waiters left have been granted (01, rule 4)

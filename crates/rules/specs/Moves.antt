@@ -17,7 +17,7 @@ use Rattle.rules.specs.Desk.{closed, running, waiting, sentback, isOpen,
 use Rattle.rules.specs.Locks.{agrees, alone, olderThanHolders, olderThanWaiters, isEmpty}
 use Rattle.rules.specs.Rules.{Outcome, refused, withRow, withStatus, rule4}
 use Rattle.rules.specs.Table.{Due}
-use Rattle.rules.specs.Asked.{Asking, heldThere, queueThere}
+use Rattle.rules.specs.Asked.{Asking, asker, heldThere, ownMode, queueThere}
 
 -- go: this desk, and nobody is woken
 abbrev pub goes : Desk → ℕ → Outcome
@@ -36,10 +36,6 @@ standing d j c a q =
       wakes = [];
     }
 
--- the mode that the job holds on the cell that it asks for
-abbrev pub holding : Desk → Request → Mode
-holding d r = heldThere d r (r .job)
-
 -- nobody else holds that cell
 abbrev pub noOther : Desk → Request → Bool
 noOther d r = alone (d .jobs) (heldThere d r) (r .job)
@@ -52,19 +48,15 @@ eldest d r = olderThanHolders (d .jobs) (heldThere d r) (r .job)
 abbrev pub fitsIn : Desk → Request → Ask → Bool
 fitsIn d r a = agrees (d .jobs) (heldThere d r) (r .job) (needed a)
 
--- the job and what it asks for, as it stands in a queue
-abbrev pub asker : Request → Ask → Waiter
-asker r a = record { job = r .job; ask = a }
-
 -- neither to go nor to wait: what is left of rules 2 and 3 where they say "otherwise"
 pub data Otherwise (d : Desk) (r : Request) (a : Ask) : Type 0 where
   -- rule 2: a promotion, another job holds the cell, and the job is not older than every other holder
-  no-promotion : covers (holding d r) (needed a) ≡ false → isFree (holding d r) ≡ false → noOther d r ≡ false → eldest d r ≡ false → Otherwise d r a
+  no-promotion : covers (ownMode d r) (needed a) ≡ false → isFree (ownMode d r) ≡ false → noOther d r ≡ false → eldest d r ≡ false → Otherwise d r a
   -- rule 3: a newcomer, the queue is not empty or the mode disagrees with a holder, and the job is not older than every holder and every waiter
-  no-entry : isFree (holding d r) ≡ true → (isEmpty (queueThere d r) && fitsIn d r a) ≡ false →
+  no-entry : isFree (ownMode d r) ≡ true → (isEmpty (queueThere d r) && fitsIn d r a) ≡ false →
       (eldest d r && olderThanWaiters (queueThere d r) (r .job)) ≡ false → Otherwise d r a
 
--- the moves, each outcome written out: not by the names under which the rules are defined, so that a rule which does something else is no move
+-- the moves, with what each leaves and tells written out; what rule 4 does is said by its own definition, and what that is by the promises of wakes
 pub data Moved (d : Desk) (r : Request) : Outcome → Type 0 where
   -- a refusal that the table says is due
   refuses : (why : Refusal) → Due d r why → Moved d r (refused d why)
@@ -79,18 +71,18 @@ pub data Moved (d : Desk) (r : Request) : Outcome → Type 0 where
   -- rule 5: retry makes a sent back job running again
   retries : letterOf (r .kind) ≡ Known Retry → d .stat (r .job) ≡ sentback → Moved d r (goes (withStatus d (r .job) running) (r .job))
   -- rule 1: the job holds a covering mode, and nothing changes
-  has-it : (a : Ask) → Asking d r a → covers (holding d r) (needed a) ≡ true → Moved d r (goes d (r .job))
+  has-it : (a : Ask) → Asking d r a → covers (ownMode d r) (needed a) ≡ true → Moved d r (goes d (r .job))
   -- rule 2: a promotion without another holder goes
-  promotes : (a : Ask) → Asking d r a → covers (holding d r) (needed a) ≡ false → isFree (holding d r) ≡ false → noOther d r ≡ true →
-      Moved d r (taking d (r .job) (r .cell) (asked (holding d r) (needed a)))
+  promotes : (a : Ask) → Asking d r a → covers (ownMode d r) (needed a) ≡ false → isFree (ownMode d r) ≡ false → noOther d r ≡ true →
+      Moved d r (taking d (r .job) (r .cell) (asked (ownMode d r) (needed a)))
   -- rule 2: older than every other holder it waits at the front
-  waits-in-front : (a : Ask) → Asking d r a → covers (holding d r) (needed a) ≡ false → isFree (holding d r) ≡ false → noOther d r ≡ false → eldest d r ≡ true →
+  waits-in-front : (a : Ask) → Asking d r a → covers (ownMode d r) (needed a) ≡ false → isFree (ownMode d r) ≡ false → noOther d r ≡ false → eldest d r ≡ true →
       Moved d r (standing d (r .job) (r .cell) a (asker r a ∷ queueThere d r))
   -- rule 3: a newcomer goes where the queue is empty and its mode agrees with every holder
-  enters : (a : Ask) → Asking d r a → isFree (holding d r) ≡ true → isEmpty (queueThere d r) ≡ true → fitsIn d r a ≡ true →
+  enters : (a : Ask) → Asking d r a → isFree (ownMode d r) ≡ true → isEmpty (queueThere d r) ≡ true → fitsIn d r a ≡ true →
       Moved d r (taking d (r .job) (r .cell) (needed a))
   -- rule 3: older than every holder and every waiter it waits at the end
-  waits-last : (a : Ask) → Asking d r a → isFree (holding d r) ≡ true → (isEmpty (queueThere d r) && fitsIn d r a) ≡ false →
+  waits-last : (a : Ask) → Asking d r a → isFree (ownMode d r) ≡ true → (isEmpty (queueThere d r) && fitsIn d r a) ≡ false →
       eldest d r ≡ true → olderThanWaiters (queueThere d r) (r .job) ≡ true →
       Moved d r (standing d (r .job) (r .cell) a (queueThere d r ++ asker r a ∷ []))
   -- rules 2 and 3, otherwise: sent back by rule 4

@@ -10,7 +10,7 @@ use Rattle.rules.specs.Wakes.{Wakes}
 use Rattle.rules.specs.Recorded.{Recorded}
 use Rattle.rules.specs.DeskLimits.{DeskLimits}
 use Rattle.rules.specs.Locking.{Locking}
-use Rattle.rules.specs.Orderly.{OrderlyHistory}
+use Rattle.rules.specs.SerialHistory.{SerialHistory}
 use Rattle.rules.specs.Service.{Service}
 use Rattle.rules.specs.Ages.{Ages}
 
@@ -24,7 +24,7 @@ pub record Promises (h : History) (k : Course) : Type 0 where
   pub limits : DeskLimits (now k)
   -- demand 2: locks, and the history
   pub locking : Locking k h
-  pub orderly : OrderlyHistory h
+  pub serial : SerialHistory h
   -- demand 3: who waits is served, and who is oldest is never sent back
   pub service : Service k
   pub ages : Ages k

@@ -27,10 +27,9 @@ pub record Refuses (k : Course) : Type 0 where
   pub answer-names : (r : Request) (j : ℕ) → Answers (to k r .said) j → j ≡ named (now k) r
   -- begin, commit, give-up and retry go where nothing is due
   pub answers-go : (r : Request) → letterIs asksNoCell (letterOf (r .kind)) ≡ true → NothingDue (now k) r → to k r .said ≡ Go (named (now k) r)
-  -- the number beside the word: the refusal's, from 1 to 8, or the job's
+  -- the number beside the word is the refusal's, or the job's; a step gives only the refusals 1 to 8
   pub no-with-number : (r : Request) (why : Refusal) → Due (now k) r why → (wordOf (to k r .said) ≡ no-word) × (numberBeside (to k r .said) ≡ numberOf why)
   pub job-beside : (r : Request) → NothingDue (now k) r → numberBeside (to k r .said) ≡ named (now k) r
-  pub no-one-to-eight : (r : Request) → wordOf (to k r .said) ≡ no-word → (1 ≤ numberBeside (to k r .said)) × (numberBeside (to k r .said) ≤ 8)
+  pub one-to-eight : (r : Request) (why : Refusal) → to k r .said ≡ No why → (1 ≤ numberOf why) × (numberOf why ≤ 8)
   -- requests of one kind that agree in the fields which the kind uses make the same step, and write the same
-  pub unread : (r s : Request) → r .kind ≡ s .kind → Alike (letterOf (r .kind)) r s → to k r ≡ to k s
-  pub unread-records : (r s : Request) → r .kind ≡ s .kind → Alike (letterOf (r .kind)) r s → records k r ≡ records k s
+  pub unread : (r s : Request) → r .kind ≡ s .kind → Alike (letterOf (r .kind)) r s → (to k r ≡ to k s) × (records k r ≡ records k s)

@@ -1,6 +1,6 @@
 -- The desk's rules 1 to 5, begin, commit and give-up, in the paper's order (01, The desk's rules).
 use Prim.Native.Nat.{ℕ, zero, suc}
-use mathlib.Core.Bool.{Bool, true, false, not, _&&_, _||_}
+use mathlib.Core.Bool.{Bool, false, _&&_, _||_}
 use mathlib.Core.List.{List, [], _∷_, _++_}
 use Rattle.laws.specs.Choice.{pick}
 use Rattle.terms.specs.declared.letters.Ask.{Ask}
@@ -52,8 +52,8 @@ isWoken j [] = false
 isWoken j (a ∷ rest) = same (a .job) j || isWoken j rest
 
 -- the statuses once the woken jobs run again
-unfoldable pub wakened : (ℕ → Status) → List Action → ℕ → Status
-wakened stat wakes j = pick (isWoken j wakes) running (stat j)
+unfoldable pub runAgain : (ℕ → Status) → List Action → ℕ → Status
+runAgain stat wakes j = pick (isWoken j wakes) running (stat j)
 
 -- the cells after rule 4 for job j: it drops all its locks and its place in a queue, then each queue is searched from the front
 unfoldable pub rowsAfter : Desk → ℕ → ℕ → Settled
@@ -64,7 +64,7 @@ unfoldable pub rule4 : Desk → ℕ → Status → List ℕ → Answer → Outco
 rule4 d j s js said =
     let wakes : List Action = wakesOf (rowsAfter d j) cells in
     record {
-      desk = record { next = d .next; jobs = js; stat = wakened (at (d .stat) j s) wakes; row = λ c. rowsAfter d j c .row };
+      desk = record { next = d .next; jobs = js; stat = runAgain (at (d .stat) j s) wakes; row = λ c. rowsAfter d j c .row };
       said = said;
       wakes = wakes;
     }

@@ -10,7 +10,7 @@ use Rattle.laws.specs.Lists.{member}
 use Rattle.conflict.specs.History.{History}
 use Rattle.rules.specs.declared.Answer.{Answer}
 use Rattle.rules.specs.declared.Answer.the-variants.{Go, Wait, Back as sent-back, No}
-use Rattle.rules.specs.Desk.{Desk, Request, freshDesk}
+use Rattle.rules.specs.Desk.{Desk, Request}
 use Rattle.rules.specs.Stepping.{Stepping, through}
 use Rattle.rules.specs.Step.{step, recordsBy}
 use Rattle.rules.specs.Table.{isBegin, letterIs}
@@ -61,7 +61,3 @@ pub record ReachedOn {S : Type 0} (step : Stepping S) (new : ℕ → S) (d : S) 
   pub requests : List Request
   pub desk : d ≡ through step (new first) requests
   pub history : h ≡ writes step (new first) requests
-
--- on the paper's desk
-abbrev pub Reached : Desk → History → Type 0
-Reached = ReachedOn step freshDesk

@@ -2,6 +2,7 @@
 use Prim.Native.Nat.{ℕ, _<_}
 use mathlib.Core.Path.{_≡_}
 use mathlib.Core.Logic.{_⊎_}
+use mathlib.Core.List.{List}
 use Rattle.terms.specs.declared.letters.Ask.{Ask}
 use Rattle.terms.specs.declared.letters.Letter.the-variants.{Begin, Commit, GiveUp, Retry, Asks}
 use Rattle.terms.specs.declared.letters.Lettered.the-variants.{Known}
@@ -21,8 +22,8 @@ pub record StepEffects (k : Course) : Type 0 where
   -- a sent back job holds nothing and keeps its number and its place, and as long as it is sent back it holds nothing (01, Jobs and their numbers)
   pub sends-back : (r : Request) (j : ℕ) → to k r .said ≡ Back j → SendsBack (now k) (to k r .desk) j
   pub sent-back-away : (j : ℕ) → now k .stat j ≡ sentback → Away (now k) j
-  -- a job that was closed stays closed, and its number is never open again (01, Jobs and their numbers)
-  pub closed-for-good : (r : Request) (j : ℕ) → j < now k .next → now k .stat j ≡ closed → to k r .desk .stat j ≡ closed
+  -- a job that has closed stays closed through any requests: its number is never given again (01, Jobs and their numbers)
+  pub closed-for-good : (j : ℕ) → j < now k .next → now k .stat j ≡ closed → (rs : List Request) → k .seen rs .stat j ≡ closed
   -- after a go the job holds a mode that covers what it needs, and every other job holds what it held (01, rules 1 to 3)
   pub grants-need : (r : Request) (a : Ask) (j : ℕ) → letterOf (r .kind) ≡ Known (Asks a) → to k r .said ≡ Go j → Grants (now k) (to k r .desk) r a j
   -- by rule 1 exactly what it held, by rule 2 X, by rule 3 what it needs

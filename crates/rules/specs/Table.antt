@@ -14,7 +14,7 @@ use Rattle.terms.specs.declared.refusals.Refusal.{Refusal}
 use Rattle.terms.specs.declared.refusals.Refusal.the-variants.{UnknownKind, CellAbove, NotOpen, Waiting, SentBack, AllOpen, NoNumberLeft, Running, BadLine, StartedAtZero, TooManyLines, JobOutside, Ended, ShortOrder, NoRoom, TooLong}
 use Rattle.terms.specs.Letters.{letterOf, ofRequests, hasCell}
 use Rattle.terms.specs.Limits.{cells, lastNumber}
-use Rattle.laws.specs.Lists.{member}
+use Rattle.laws.specs.Lists.{member, firstOf}
 use Rattle.rules.specs.declared.Answer.{Answer}
 use Rattle.rules.specs.declared.Answer.the-variants.{Go, Wait, Back as sent-back}
 use Rattle.rules.specs.Desk.{Status, closed, running, waiting, sentback, isOpen, Desk, Request}
@@ -144,11 +144,6 @@ holds l s c d TooLong = false
 -- the order of the tests: 1 first; begin tests 7, then 6; other kinds test 3, 4, 5, 8, then 2
 unfoldable pub order : Lettered → List Refusal
 order l = UnknownKind ∷ pick (letterIs isBegin l) (NoNumberLeft ∷ AllOpen ∷ []) (NotOpen ∷ Waiting ∷ SentBack ∷ Running ∷ CellAbove ∷ [])
-
--- the first refusal of the list whose row holds
-unfoldable pub firstOf : (Refusal → Bool) → List Refusal → Option Refusal
-firstOf f [] = none
-firstOf f (x ∷ xs) = pick (f x) (some x) (firstOf f xs)
 
 -- what the table says of a request by its letter, what its job is doing and its cell
 unfoldable pub dueBy : Desk → Lettered → Status → ℕ → Option Refusal

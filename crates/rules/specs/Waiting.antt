@@ -1,5 +1,5 @@
 -- Waiting: who is in a waiter's way, chains of waits, what it is to wait on for the same request, and to be served (demand 3).
-use Prim.Native.Nat.{ℕ, _<_, _≤_, zero, suc, _+_, _-_}
+use Prim.Native.Nat.{ℕ, _<_, _≤_, zero, suc, _+_}
 use mathlib.Core.Path.{_≡_}
 use mathlib.Core.Logic.{_≢_}
 use mathlib.Core.Bool.{true, false}
@@ -9,7 +9,7 @@ use Rattle.terms.specs.declared.letters.Ask.{Ask}
 use Rattle.terms.specs.declared.letters.Letter.the-variants.{GiveUp}
 use Rattle.terms.specs.declared.letters.Lettered.the-variants.{Known}
 use Rattle.terms.specs.Letters.{letterOf}
-use Rattle.terms.specs.Limits.{cells, places}
+use Rattle.terms.specs.Limits.{cells}
 use Rattle.conflict.specs.declared.modes.Mode.{Mode}
 use Rattle.conflict.specs.Modes.{needed, covers, isFree}
 use Rattle.laws.specs.Lists.{member, distinct}
@@ -28,10 +28,6 @@ pub data Ahead (v w : Waiter) : List Waiter → Type 0 where
 pub data InWay (r : Row) (w : Waiter) (i : ℕ) : Type 0 where
   holds-it : i ≢ w .job → isFree (r .held i) ≡ false → InWay r w i
   ahead : (v : Waiter) → v .job ≡ i → Ahead v w (r .queue) → InWay r w i
-
--- the job of a request, with what it asks
-abbrev pub asker : Request → Ask → Waiter
-asker r a = record { job = r .job; ask = a }
 
 -- job i was in the way of a request's job when that asked, on the desk as it was then: another job that held the cell, or, since a job that holds nothing waits last, one that stood in the queue (demand 3)
 pub data WasInWay (d : Desk) (r : Request) (i : ℕ) : Type 0 where
@@ -107,7 +103,7 @@ pub record ServedInTime (k : Course) (c : ℕ) (w : Waiter) : Type 0 where
   pub waits : IsWaiting (now k) c w
   -- those in its way are each in a run, and there are at most 31
   pub in-a-run : (i : ℕ) → InWay (now k .row c) w i → isLive (now k .stat i) ≡ true
-  pub at-most : AtMostInWay (places - 1) (now k .row c) w
+  pub at-most : AtMostInWay 31 (now k .row c) w
   -- whatever is requested from then on: if it does not give up while it waits, then once all those runs have ended, it was given its cell in the mode it asked for, at the latest in the step that ended the last of them
   pub served : (rs : List Request) → Patient k c w rs → AllEnd k c w rs → Served k c w rs
 

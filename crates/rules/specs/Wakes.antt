@@ -10,7 +10,7 @@ use Rattle.conflict.specs.declared.action.Action.{Action}
 use Rattle.rules.specs.Desk.{waiting, Request, In}
 use Rattle.rules.specs.Rules.{isWoken}
 use Rattle.rules.specs.Table.{named}
-use Rattle.rules.specs.Effects.{RunEnds, Woken, WokenWith}
+use Rattle.rules.specs.Effects.{RunEnds, WakeTells, WokenWith}
 use Rattle.rules.specs.WakeOrder.{Before, Sooner}
 use Rattle.rules.specs.Releasing.{AllReleased}
 use Rattle.rules.specs.Course.{Course, now, to}
@@ -20,10 +20,11 @@ pub record Wakes (k : Course) (r : Request) : Type 0 where
   pub wakes-only-rule-4 : (to k r .wakes ≡ []) ⊎ RunEnds (to k r .said) r
   pub rule-4 : RunEnds (to k r .said) r → AllReleased (now k) (to k r) r
   -- each wake was waiting for that cell with that kind before the step, and runs after it with what it asked for
-  pub woken : (x : Action) → In x (to k r .wakes) → Woken (now k) (to k r .desk) x
+  pub wake-tells : (x : Action) → In x (to k r .wakes) → WakeTells (now k) (to k r .desk) x
   pub wakes-exactly : (x : Action) → In x (to k r .wakes) → (a : Ask) → now k .stat (x .job) ≡ waiting (x .cell) a → WokenWith (now k .row (x .cell) .held (x .job)) (to k r .desk .row (x .cell) .held (x .job)) a
-  -- cell by cell, and from the front of each queue
+  -- cell by cell, and from the front of each queue, and no job twice
   pub wakes-in-order : (x y : Action) → Before x y (to k r .wakes) → Sooner (now k) x y
+  pub woken-once : (x y : Action) → Before x y (to k r .wakes) → x .job ≢ y .job
   -- a job that the answer does not name and that is not among the wakes stays as it was, keeps its place, and holds what it held
   pub bystander : (i : ℕ) → i ≢ named (now k) r → isWoken i (to k r .wakes) ≡ false → to k r .desk .stat i ≡ now k .stat i
   pub bystander-place : (i : ℕ) → i ≢ named (now k) r → i ≢ 0 → member i (to k r .desk .jobs) ≡ member i (now k .jobs)

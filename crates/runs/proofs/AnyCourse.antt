@@ -15,7 +15,8 @@ use Rattle.board.specs.Steps.{emptyDesk}
 use Rattle.runs.specs.declared.Clerk.{Clerk}
 use Rattle.runs.specs.declared.View.{View}
 use Rattle.runs.specs.Run.{Told, written}
-use Rattle.runs.specs.Programs.{onBoard, firstNumber, boardRun}
+use Rattle.board.specs.Running.{onBoard}
+use Rattle.runs.specs.Programs.{firstNumber, boardRun}
 use Rattle.runs.specs.Work.{startedClerk, viewed, roomy, unended, owing, workOf, finishOf}
 use Rattle.runs.specs.Callers.{Course, starts, works, empties, Standing}
 use Rattle.runs.specs.Tellings.{tellings, deskAfter, clerkAfter, recordsIn}

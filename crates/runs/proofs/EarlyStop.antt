@@ -6,7 +6,6 @@ use mathlib.Core.Bool.{true, false}
 use mathlib.Core.List.{List, [], _∷_, _++_, append-nil}
 use native.Mathlib.Omega.{arith}
 use lib.Dec.{ltb}
-use lib.ListN.{take}
 use borrow.Author.Tests.{leb-true, ltb-true, ltb-false, le-leb, lt-ltb, lt-leb}
 use Rattle.laws.specs.Choice.{pick, by-test}
 use Rattle.terms.specs.Limits.{requestLines}
@@ -15,13 +14,14 @@ use Rattle.formats.specs.Split.{kept, following, fresh, taken, afterAll, Found,
 use Rattle.formats.proofs.Chunks.{after-append}
 use Rattle.runs.specs.declared.Clerk.{Clerk}
 use Rattle.runs.specs.declared.View.{View}
-use Rattle.runs.specs.Run.{Stepping, written}
-use Rattle.runs.specs.Programs.{onBoard, boardRun}
+use Rattle.rules.specs.Stepping.{Stepping}
+use Rattle.runs.specs.Run.{written}
+use Rattle.board.specs.Running.{onBoard}
+use Rattle.runs.specs.Programs.{boardRun}
 use Rattle.runs.specs.Work.{startedClerk, viewed, unended, owing, allRead}
-use Rattle.runs.specs.Callers.{Course}
 use Rattle.runs.specs.Tellings.{tellings, clerkAfter, recordsIn}
 use Rattle.runs.proofs.Records.{records-append}
-use Rattle.runs.proofs.AnyCourse.{last-records, course-stands, seen-splitter}
+use Rattle.runs.proofs.AnyCourse.{last-records}
 
 -- the number of the next line is past 1,000,000 where that of this one has come to it
 past-next : (n : ℕ) → requestLines ≤ n → requestLines < following n
@@ -87,10 +87,3 @@ more-written view text more h =
 -- so what follows writes nothing
 pub nothing-after : (view : View) (text more : List ℕ) → allRead (afterAll fresh text) ≡ true → written (viewed view) (boardRun text) ≡ written (viewed view) (boardRun (text ++ more))
 nothing-after view text more h = sym (read-written view text h) ∙ more-written view text more h
-
--- A CALLER MAY STOP: once the clerk has read every line, all that has been written out and stands in the buffer is what is written of the text, whatever would follow
-pub course-stops : {view : View} {text sent : List ℕ} {c : Clerk} {out : List ℕ} {at : ℕ} → Course view text sent c out at → allRead (c .splitter) ≡ true → (more : List ℕ) →
-    sent ++ take at out ≡ written (viewed view) (boardRun (text ++ more))
-course-stops {view} {text} k h more =
-    let s = course-stands k in
-    s .said ∙ more-written view text more (ap allRead (sym (seen-splitter text (s .clerk))) ∙ h)

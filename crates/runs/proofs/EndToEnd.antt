@@ -19,7 +19,7 @@ use Rattle.conflict.proofs.Marks.{listed}
 use Rattle.formats.specs.Decimal.{decimal}
 use Rattle.formats.specs.Split.{linesOf, joined}
 use Rattle.rules.specs.Step.{Started}
-use Rattle.rules.proofs.Serial.{serial-by-commits, commits-once, committed-jobs-serializable}
+use Rattle.rules.proofs.Serial.{serial-history}
 use Rattle.verdicts.specs.declared.verdict.Verdict.the-variants.{Orderly, Knot, No}
 use Rattle.verdicts.specs.HistoryText.{readingsOf, eventsIn}
 use Rattle.verdicts.specs.Judged.{jobsOf}
@@ -59,12 +59,12 @@ module _ (text : List ℕ) where
 
   -- its order of commits names each job with a c once, and no other job
   pub history-commits-once : (distinct (commitOrder readIn) ≡ true) × ((j : ℕ) → member j (commitOrder readIn) ≡ marked isCommit j readIn)
-  history-commits-once = (subst (λ h. distinct (commitOrder h) ≡ true) (sym history-says) (commits-once started), λ j. listed j readIn)
+  history-commits-once = (subst (λ h. distinct (commitOrder h) ≡ true) (sym history-says) (serial-history started .commits-once), λ j. listed j readIn)
 
   -- DEMAND 2, OF TEXTS ALONE: whatever comes in, the history that is read in what `history` writes has a committed part that is conflict-equivalent to its jobs
   -- one after another in the order of their commits, and that order names each of them once
   pub history-serial : Equivalent (committedPart readIn) (serial (commitOrder readIn) (committedPart readIn)) × (distinct (commitOrder readIn) ≡ true) × ((j : ℕ) → member j (commitOrder readIn) ≡ marked isCommit j readIn)
-  history-serial = (subst (λ h. Equivalent (committedPart h) (serial (commitOrder h) (committedPart h))) (sym history-says) (serial-by-commits started), history-commits-once .0, history-commits-once .1)
+  history-serial = (subst (λ h. Equivalent (committedPart h) (serial (commitOrder h) (committedPart h))) (sym history-says) (serial-history started .serial-by-commits), history-commits-once .0, history-commits-once .1)
 
   -- so the first faulty line of it, if there is one, is line 4,097 or is for a job outside 1 to 255
   pub history-fault : (n : ℕ) (why : Refusal) → FirstFault (readingsOf (historyOf text)) n why → (why ≡ TooManyLines) ⊎ (why ≡ JobOutside)
@@ -85,7 +85,7 @@ module _ (text : List ℕ) where
   pub history-no-knot : (buffer : List ℕ) (n : ℕ) → judgementOf (historyOf text) buffer .said ≡ Knot n → ⊥
   history-no-knot buffer n e =
       let k = knot-said (historyOf text) buffer n e in
-      knot-said-exactly (historyOf text) buffer (k .0) (k .1) .0 (n, e) (subst (λ h. ConflictSerializable (committedPart h)) (sym history-says) (committed-jobs-serializable started))
+      knot-said-exactly (historyOf text) buffer (k .0) (k .1) .0 (n, e) (subst (λ h. ConflictSerializable (committedPart h)) (sym history-says) (serial-history started .serializable))
 
   -- the judge's limits by what comes in alone: at most 255 begins that go, and at most 4,096 lines
   pub small-input : length (givenIn (runOn text)) ≤ 255 → length (linesOf text) ≤ 4_096 → KeepsLimits (historyOn text)

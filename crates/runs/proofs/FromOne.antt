@@ -13,27 +13,27 @@ use Rattle.formats.specs.declared.Reading.the-variants.{Good, Bad}
 use Rattle.formats.specs.Lines.{readLine}
 use Rattle.formats.specs.Split.{linesOf}
 use Rattle.rules.specs.Desk.{Desk, Request, freshDesk}
-use Rattle.rules.specs.Step.{recordsBy, events, recordsOf, ownRecords, wakeRecords}
+use Rattle.rules.specs.Step.{recordsBy, events, recordsOf, ownRecords, wakeRecords, step}
 use Rattle.rules.specs.Runs.{writes, historyOf}
 use Rattle.runs.specs.Run.{answered, lineBy, runOf}
-use Rattle.runs.specs.Programs.{onPaper, runOn}
+use Rattle.runs.specs.Programs.{runOn}
 use Rattle.runs.specs.Shown.{historyOfRun}
 use Rattle.runs.specs.LinesTold.{requestOf, requestsFrom}
 
 -- one line: a bad one is no request and writes nothing, and a good one is a step
-line-history : (d : Desk) (n : ℕ) (r : Reading) (rs : List Request) (h : History) → h ≡ historyOf (answered onPaper d n r .desk) rs →
-    let t = answered onPaper d n r .told in (recordsOf (t .request) (t .said) (t .wakes) ++ h ≡ historyOf d (requestOf r ++ rs))
-unfolding answered onPaper requestOf writes recordsBy
+line-history : (d : Desk) (n : ℕ) (r : Reading) (rs : List Request) (h : History) → h ≡ historyOf (answered step d n r .desk) rs →
+    let t = answered step d n r .told in (recordsOf (t .request) (t .said) (t .wakes) ++ h ≡ historyOf d (requestOf r ++ rs))
+unfolding answered requestOf writes recordsBy
 line-history d n Bad rs h e = unfold recordsOf ownRecords wakeRecords in e
 line-history d n (Good l job cell) rs h e = ap (λ k. events d (record { kind = byteOf l; job = job; cell = cell }) ++ k) e
 
 -- all lines
-run-history : (d : Desk) (n : ℕ) (ls : List (List ℕ)) → historyOfRun (runOf onPaper d n ls) ≡ historyOf d (requestsFrom n ls)
+run-history : (d : Desk) (n : ℕ) (ls : List (List ℕ)) → historyOfRun (runOf step d n ls) ≡ historyOf d (requestsFrom n ls)
 unfolding runOf lineBy historyOfRun requestsFrom
 run-history d n [] = unfold writes in refl
 run-history d n (l ∷ ls) =
     by-test (ltb requestLines n) (λ t. rw t (unfold writes in refl))
-    (λ f. rw f (line-history d n (readLine ofRequests l) (requestsFrom (n + 1) ls) _ (run-history (answered onPaper d n (readLine ofRequests l) .desk) (n + 1) ls)))
+    (λ f. rw f (line-history d n (readLine ofRequests l) (requestsFrom (n + 1) ls) _ (run-history (answered step d n (readLine ofRequests l) .desk) (n + 1) ls)))
 
 -- STARTED AT 1: what the history program writes is the history of a desk started at 1 after the requests that the text's lines say
 pub history-from-one : (text : List ℕ) → historyOfRun (runOn text) ≡ historyOf (freshDesk 1) (requestsFrom 1 (linesOf text))

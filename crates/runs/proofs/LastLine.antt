@@ -24,7 +24,8 @@ use Rattle.formats.specs.Split.{kept, fresh, taken, afterAll, Sized, foundAt, f
 use Rattle.formats.proofs.Cuts.{taken-ended}
 use Rattle.formats.proofs.Held.{fresh-sized, taken-sized}
 use Rattle.formats.proofs.GoodLine.{good-is-record}
-use Rattle.runs.specs.Run.{Stepping, answered, lineBy}
+use Rattle.rules.specs.Stepping.{Stepping}
+use Rattle.runs.specs.Run.{answered, lineBy}
 use Rattle.runs.specs.Work.{unended, owing}
 use Rattle.runs.specs.Tellings.{telling, tellings}
 

@@ -14,27 +14,27 @@ use Rattle.formats.specs.declared.Reading.the-variants.{Good, Bad}
 use Rattle.formats.specs.Lines.{readLine}
 use Rattle.formats.specs.Split.{linesOf}
 use Rattle.rules.specs.Desk.{Desk, freshDesk}
-use Rattle.rules.specs.Step.{recordsBy, events}
+use Rattle.rules.specs.Step.{recordsBy, step}
 use Rattle.rules.specs.Waiting.{waitersOf}
 use Rattle.rules.proofs.OneRecordEach.{none-standing, one-record-each}
 use Rattle.runs.specs.Run.{answered, lineBy, runOf}
-use Rattle.runs.specs.Programs.{onPaper, firstNumber, runOn}
+use Rattle.runs.specs.Programs.{firstNumber, runOn}
 use Rattle.runs.specs.Shown.{historyOfRun, historyOn}
 use Rattle.runs.proofs.StartedRun.{recorded, bad-records}
 
 -- the records of a line and those who wait after it are at most one more than those who waited before
-line-few : (D : Desk) (n : ℕ) (r : Reading) → length (recorded (answered onPaper D n r .told)) + waitersOf (answered onPaper D n r .desk) ≤ suc (waitersOf D)
-unfolding answered onPaper recordsBy
+line-few : (D : Desk) (n : ℕ) (r : Reading) → length (recorded (answered step D n r .told)) + waitersOf (answered step D n r .desk) ≤ suc (waitersOf D)
+unfolding answered recordsBy
 line-few D n Bad = omega (arith, ap length bad-records)
 line-few D n (Good l job cell) = one-record-each D (record { kind = byteOf l; job = job; cell = cell })
 
 -- so all lines have at most one record each, and one for each who waited before them
-run-few : (D : Desk) (n : ℕ) (ls : List (List ℕ)) → length (historyOfRun (runOf onPaper D n ls)) ≤ waitersOf D + length ls
+run-few : (D : Desk) (n : ℕ) (ls : List (List ℕ)) → length (historyOfRun (runOf step D n ls)) ≤ waitersOf D + length ls
 unfolding runOf lineBy historyOfRun
 run-few D n [] = omega arith
 run-few D n (l ∷ ls) =
-    let o = answered onPaper D n (readLine ofRequests l) in
-    let rest = historyOfRun (runOf onPaper (o .desk) (n + 1) ls) in
+    let o = answered step D n (readLine ofRequests l) in
+    let rest = historyOfRun (runOf step (o .desk) (n + 1) ls) in
     by-test (ltb requestLines n) (λ e. rw e (omega arith))
     (λ e. rw e (omega (arith, length-append (recorded (o .told)) rest, line-few D n (readLine ofRequests l), run-few (o .desk) (n + 1) ls)))
 

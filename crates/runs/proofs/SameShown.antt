@@ -18,7 +18,7 @@ use Rattle.formats.specs.EventRecords.{textOf}
 use Rattle.formats.proofs.RecordLines.{text-append}
 use Rattle.runs.specs.Run.{Told, historyLines, written}
 use Rattle.runs.specs.Programs.{runOn, historyOf}
-use Rattle.runs.specs.Shown.{Shown, granted, ended, goShows, answerShows, wakesShow, answersShow, answersShowAll, historyShows, historyOfRun}
+use Rattle.runs.specs.Shown.{granted, ended, goShows, answerShows, wakesShow, answersShow, answersShowAll, historyShows, historyOfRun}
 
 -- what some records show and then others
 shows-append : (h k : History) → historyShows (h ++ k) ≡ historyShows h ++ historyShows k

@@ -18,12 +18,13 @@ use Rattle.formats.specs.Split.{linesOf}
 use Rattle.terms.specs.declared.refusals.Refusal.the-variants.{BadLine}
 use Rattle.rules.specs.declared.Answer.the-variants.{No}
 use Rattle.rules.specs.Desk.{Desk, freshDesk}
-use Rattle.rules.specs.Step.{ownRecords, wakeRecords, recordsOf, recordsBy, events, Started, fresh, after}
+use Rattle.rules.specs.Stepping.{Stepping}
+use Rattle.rules.specs.Step.{ownRecords, wakeRecords, recordsOf, recordsBy, Started, StartedOn, fresh, after, step}
 use Rattle.rules.specs.Runs.{numberIn, givenBy}
 use Rattle.rules.proofs.Numbers.{Gives, none-given, one-given, step-gives}
 use Rattle.rules.proofs.NoEventAfterEnd.{started-over}
 use Rattle.runs.specs.Run.{Told, noRequest, answered, lineBy, runOf}
-use Rattle.runs.specs.Programs.{onPaper, firstNumber, runOn}
+use Rattle.runs.specs.Programs.{firstNumber, runOn}
 use Rattle.runs.specs.Shown.{historyOfRun, givenIn, historyOn}
 
 -- a desk that has been started and has written this history, and its next number
@@ -39,15 +40,15 @@ pub bad-records : recordsOf noRequest (No BadLine) [] ≡ []
 unfolding recordsOf ownRecords wakeRecords
 bad-records = refl
 
--- one line: a bad one changes nothing, and a good one is a step
-line-started : {D : Desk} {h : History} → Started D h → (n : ℕ) (r : Reading) → Started (answered onPaper D n r .desk) (h ++ recorded (answered onPaper D n r .told))
-unfolding answered onPaper recordsBy
-line-started {D} {h} s n Bad = subst (Started D) (sym (append-nil h) ∙ ap (λ k. h ++ k) (sym bad-records)) s
+-- one line, on any desk: a bad one changes nothing, and a good one is a step
+pub line-started : {S : Type 0} {does : Stepping S} {new : ℕ → S} {d : S} {h : History} → StartedOn does new d h → (n : ℕ) (r : Reading) → StartedOn does new (answered does d n r .desk) (h ++ recorded (answered does d n r .told))
+unfolding answered recordsBy
+line-started {does = does} {new} {d} {h} s n Bad = subst (StartedOn does new d) (sym (append-nil h) ∙ ap (λ k. h ++ k) (sym bad-records)) s
 line-started s n (Good l job cell) = after s (record { kind = byteOf l; job = job; cell = cell })
 
 -- the next number grows by the numbers that a line gives
-line-next : (D : Desk) (n : ℕ) (r : Reading) → let t = answered onPaper D n r .told in (answered onPaper D n r .desk .next ≡ D .next + length (givenBy (t .request) (t .said)))
-unfolding answered onPaper
+line-next : (D : Desk) (n : ℕ) (r : Reading) → let t = answered step D n r .told in (answered step D n r .desk .next ≡ D .next + length (givenBy (t .request) (t .said)))
+unfolding answered
 line-next D n Bad = unfold givenBy numberIn noRequest in omega arith
 line-next D n (Good l job cell) = by-gives (step-gives D (record { kind = byteOf l; job = job; cell = cell }))
   where
@@ -56,13 +57,13 @@ line-next D n (Good l job cell) = by-gives (step-gives D (record { kind = byteOf
     by-gives (one-given q l e) = rw q (omega (arith, e))
 
 -- all lines
-run-started : {D : Desk} {h : History} → Started D h → (n : ℕ) (ls : List (List ℕ)) → WroteTo (h ++ historyOfRun (runOf onPaper D n ls)) (D .next + length (givenIn (runOf onPaper D n ls)))
+run-started : {D : Desk} {h : History} → Started D h → (n : ℕ) (ls : List (List ℕ)) → WroteTo (h ++ historyOfRun (runOf step D n ls)) (D .next + length (givenIn (runOf step D n ls)))
 unfolding runOf lineBy historyOfRun givenIn
 run-started {D} {h} s n [] = (D, subst (Started D) (sym (append-nil h)) s, omega arith)
 run-started {D} {h} s n (l ∷ ls) =
-    let o = answered onPaper D n (readLine ofRequests l) in
+    let o = answered step D n (readLine ofRequests l) in
     let w = run-started (line-started s n (readLine ofRequests l)) (n + 1) ls in
-    let rest = runOf onPaper (o .desk) (n + 1) ls in
+    let rest = runOf step (o .desk) (n + 1) ls in
     by-test (ltb requestLines n) (λ e. rw e (D, subst (Started D) (sym (append-nil h)) s, omega arith))
     (λ e. rw e (
       w .0,

@@ -17,9 +17,8 @@ use Rattle.conflict.proofs.Marks.{listed}
 use Rattle.conflict.proofs.OneEvent.{line-does, line-ends}
 use Rattle.rules.specs.Desk.{Desk, In, first, later}
 use Rattle.rules.specs.Step.{Started}
-use Rattle.rules.proofs.NoEventAfterEnd.{no-event-after-end}
 use Rattle.rules.proofs.RecordLimits.{recorded-jobs, recorded-cells}
-use Rattle.rules.proofs.Serial.{commits-once, committed-jobs-serializable}
+use Rattle.rules.proofs.Serial.{serial-history}
 use Rattle.verdicts.specs.declared.verdict.Verdict.the-variants.{Orderly}
 use Rattle.verdicts.specs.HistoryText.{readingsOf, eventsIn}
 use Rattle.verdicts.specs.Judgement.{judgementOf}
@@ -57,7 +56,7 @@ module _ {d : Desk} {h : History} (s : Started d h) where
 
   -- so every line of its text is read back
   pub started-read-back : AllReadBack (readingsOf (textOf h))
-  started-read-back = written-read-back h started-within (no-event-after-end s)
+  started-read-back = written-read-back h started-within (serial-history s .no-event-after-end)
 
   -- and the lines say what the desk has written
   pub started-says : eventsIn (readingsOf (textOf h)) ≡ h
@@ -74,12 +73,12 @@ module _ {d : Desk} {h : History} (s : Started d h) where
 
     -- no line of it is faulty
     pub started-faultless : AllFaultless (readingsOf (textOf h))
-    started-faultless = written-faultless h judged-within (no-event-after-end s) (k .events)
+    started-faultless = written-faultless h judged-within (serial-history s .no-event-after-end) (k .events)
 
     module _ (buffer : List ℕ) (room : judgedJobs ≤ length buffer) where
       -- orderly is said of it
       said : (n : ℕ) × (judgementOf (textOf h) buffer .said ≡ Orderly n)
-      said = written-judged h buffer judged-within (no-event-after-end s) (k .events) room .1 (committed-jobs-serializable s)
+      said = written-judged h buffer judged-within (serial-history s .no-event-after-end) (k .events) room .1 (serial-history s .serializable)
 
       -- with an order of what the desk has written
       in-order : InOrder h buffer (judgementOf (textOf h) buffer .order) (said .0)
@@ -87,7 +86,7 @@ module _ {d : Desk} {h : History} (s : Started d h) where
 
       -- that names as many jobs as have committed
       as-many : said .0 ≡ length (commitOrder h)
-      as-many = let o = in-order in o .count ∙ same-size (o .order) (commitOrder h) (o .once) (commits-once s) (λ j. o .names j ∙ sym (listed j h))
+      as-many = let o = in-order in o .count ∙ same-size (o .order) (commitOrder h) (o .once) (serial-history s .commits-once) (λ j. o .names j ∙ sym (listed j h))
 
       -- so the judge says orderly, with the number of committed jobs
       pub started-orderly : judgementOf (textOf h) buffer .said ≡ Orderly (length (commitOrder h))

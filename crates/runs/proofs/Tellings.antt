@@ -13,7 +13,8 @@ use Rattle.terms.specs.Letters.{ofRequests}
 use Rattle.terms.specs.Limits.{requestLines}
 use Rattle.formats.specs.Split.{kept, following, oneLine, every, Found, numberedOn}
 use Rattle.formats.proofs.ShortLines.{short-reads}
-use Rattle.runs.specs.Run.{Stepping, answered, lineBy, runOf}
+use Rattle.rules.specs.Stepping.{Stepping}
+use Rattle.runs.specs.Run.{answered, lineBy, runOf}
 use Rattle.runs.specs.Tellings.{telling, tellings, deskAfter}
 
 module _ {S : Type 0} (step : Stepping S) where

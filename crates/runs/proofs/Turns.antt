@@ -1,11 +1,11 @@
 -- The work, turn by turn: it has come to the chunk's end, there is no room, or a line is cut and the work goes on behind it.
 -- Assumes nothing.
 use Prim.Native.Nat.{ℕ, zero, suc, _+_, _≤_, _<_}
-use mathlib.Core.Path.{_≡_, refl, sym, ap, _∙_, subst}
-use mathlib.Core.Bool.{Bool, true, false, _&&_}
+use mathlib.Core.Path.{_≡_, refl, sym, _∙_, subst}
+use mathlib.Core.Bool.{true, false}
 use mathlib.Core.List.{List}
 use native.Mathlib.Omega.{arith}
-use lib.Dec.{ltb, leb}
+use lib.Dec.{leb}
 use lib.ListN.{length, take}
 use borrow.Author.Tests.{lt-ltb, le-ltb, leb-true}
 use Rattle.laws.specs.Choice.{by-test, not-both}
@@ -23,9 +23,9 @@ use Rattle.board.specs.declared.state.Outcome.{Outcome}
 use Rattle.board.specs.Steps.{stepOf}
 use Rattle.runs.specs.declared.Clerk.{Clerk}
 use Rattle.runs.specs.declared.View.{View}
-use Rattle.runs.specs.Run.{Told, Lined, noRequest, answered, lineBy}
-use Rattle.runs.specs.Programs.{onBoard}
-use Rattle.runs.specs.Work.{viewed, roomy, due, unended, Turn, answering, turning, cutting, Working, stopped, workBy}
+use Rattle.runs.specs.Run.{Told, answered, lineBy}
+use Rattle.board.specs.Stands.{wakesTold}
+use Rattle.runs.specs.Work.{viewed, roomy, due, unended, Turn, answering, turning, cutting, stopped, workBy}
 
 module _ (view : View) (c : Clerk) (chunk : List ℕ) (from : ℕ) (out : List ℕ) (at : ℕ) where
   -- at the chunk's end
@@ -85,7 +85,7 @@ module _ (view : View) (c : Clerk) (out : List ℕ) (at : ℕ) where
   pub turn-good : {l : Letter} {job cell to : ℕ} {o : Outcome} {after : List ℕ} → due (c .splitter) ≡ true → readLine ofRequests (foundAt (c .splitter) .bytes) ≡ Good l job cell →
       o ≡ stepOf (c .desk) (byteOf l) job cell → Wrote at to (viewed view (toldBy (c .splitter .line) l job cell (o .said))) out after →
       turning view c out at ≡ record { clerk = record { desk = o .desk; splitter = c .splitter }; at = to; out = after }
-  unfolding turning answering lineBy answered onBoard
+  unfolding turning answering lineBy answered wakesTold
   turn-good {l} {job} {cell} {to} {o} {after} e f s =
       subst
       (λ (x : Outcome). Wrote at to (viewed view (toldBy (c .splitter .line) l job cell (x .said))) out after → turning view c out at ≡ record { clerk = record { desk = x .desk; splitter = c .splitter }; at = to; out = after })

@@ -3,31 +3,21 @@ use Prim.Native.Nat.{ℕ}
 use mathlib.Core.List.{List}
 use lib.ListN.{take}
 use Rattle.formats.specs.Split.{linesOf}
-use Rattle.rules.specs.Desk.{Desk, freshDesk}
+use Rattle.rules.specs.Desk.{freshDesk}
 use Rattle.rules.specs.Step.{step}
-use Rattle.board.specs.declared.state.Desk as board
-use Rattle.board.specs.Steps.{emptyDesk, stepOf}
+use Rattle.board.specs.Steps.{emptyDesk}
+use Rattle.board.specs.Running.{onBoard}
 use Rattle.runs.specs.declared.View.{View}
 use Rattle.runs.specs.declared.View.the-variants.{Answers, History}
-use Rattle.runs.specs.Run.{Stepped, Stepping, Told, runOf, answerLines, historyLines, written}
-
--- the paper's desk, a step at a time
-unfoldable pub onPaper : Stepping Desk
-onPaper d r = let o = step d r in record { desk = o .desk; said = o .said; wakes = o .wakes }
-
--- the desk that runs, a step at a time
-unfoldable pub onBoard : Stepping board.Desk
-onBoard d r =
-    let o = stepOf d (r .kind) (r .job) (r .cell) in
-    record { desk = o .desk; said = o .said .answer; wakes = take (o .said .count) (o .said .wakes) }
+use Rattle.runs.specs.Run.{Told, runOf, answerLines, historyLines, written}
 
 -- the number that both desk programs start at (01, Lines)
 abbrev pub firstNumber : ℕ
 firstNumber = 1
 
--- the run of a text on a fresh desk
+-- the run of a text on a fresh desk of the paper
 unfoldable pub runOn : List ℕ → List Told
-runOn text = runOf onPaper (freshDesk firstNumber) 1 (linesOf text)
+runOn text = runOf step (freshDesk firstNumber) 1 (linesOf text)
 
 -- the run of a text on the desk that runs
 unfoldable pub boardRun : List ℕ → List Told

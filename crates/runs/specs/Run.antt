@@ -17,18 +17,9 @@ use Rattle.rules.specs.declared.Answer.{Answer}
 use Rattle.rules.specs.declared.Answer.the-variants.{No}
 use Rattle.rules.specs.AnswerWords.{wordOf, numberBeside}
 use Rattle.rules.specs.Desk.{Request}
+use Rattle.rules.specs.Stepping.{Stepping}
 use Rattle.rules.specs.Step.{recordsOf}
 use Rattle.formats.specs.EventRecords.{textOf}
-
--- what a step of some desk leaves and says
-pub record Stepped (S : Type 0) : Type 0 where
-  pub desk : S
-  pub said : Answer
-  pub wakes : List Action
-
--- a desk is anything that takes requests by numbers, one step at a time
-abbrev pub Stepping : Type 0 → Type 0
-Stepping S = S → Request → Stepped S
 
 -- what is known of one line when it has been answered: its number, the request that it says, the answer and the wakes
 pub record Told : Type 0 where

@@ -7,8 +7,9 @@ use Rattle.terms.specs.Limits.{requestLines}
 use Rattle.formats.specs.Split.{Found, afterAll, foundIn}
 use Rattle.runs.specs.declared.Clerk.{Clerk}
 use Rattle.runs.specs.declared.View.{View}
-use Rattle.runs.specs.Run.{Stepping, Told, Lined, lineBy, written}
-use Rattle.runs.specs.Programs.{onBoard}
+use Rattle.rules.specs.Stepping.{Stepping}
+use Rattle.runs.specs.Run.{Told, Lined, lineBy, written}
+use Rattle.board.specs.Running.{onBoard}
 use Rattle.runs.specs.Work.{viewed}
 
 module _ {S : Type 0} (step : Stepping S) where

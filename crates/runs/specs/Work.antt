@@ -9,7 +9,7 @@ use Rattle.terms.specs.declared.refusals.Refusal.the-variants.{BadLine}
 use Rattle.terms.specs.Limits.{places, requestLines}
 use Rattle.formats.specs.declared.splitter.Splitter.{Splitter}
 use Rattle.formats.specs.Records.{longestRecord}
-use Rattle.formats.specs.Split.{fresh, cutOf, Found, foundAt}
+use Rattle.formats.specs.Split.{fresh, cutOf, foundAt}
 use Rattle.formats.specs.Wrote.{putFrom}
 use Rattle.rules.specs.declared.Answer.the-variants.{No}
 use Rattle.board.specs.Steps.{emptyDesk}
@@ -20,7 +20,8 @@ use Rattle.runs.specs.declared.View.the-variants.{Answers, History}
 use Rattle.runs.specs.declared.Worked.{Worked}
 use Rattle.runs.specs.declared.Finished.{Finished}
 use Rattle.runs.specs.Run.{Told, Lined, noRequest, lineBy, answerLines, historyLines}
-use Rattle.runs.specs.Programs.{onBoard, firstNumber}
+use Rattle.board.specs.Running.{onBoard}
+use Rattle.runs.specs.Programs.{firstNumber}
 
 -- before any byte: the desk is started at 1
 unfoldable pub startedClerk : Clerk

@@ -7,7 +7,7 @@ use Rattle.laws.specs.Lists.{distinct}
 use Rattle.conflict.specs.Schedule.{Equivalent, serial, ConflictSerializable, edge, knot}
 use Rattle.conflict.specs.History.{History, committedPart, commitOrder, committed, strict, endsForGood}
 
-pub record OrderlyHistory (h : History) : Type 0 where
+pub record SerialHistory (h : History) : Type 0 where
   -- the committed part is conflict-equivalent to its jobs one after another in the order of their commits, which names no job twice (demand 2)
   pub serial-by-commits : Equivalent (committedPart h) (serial (commitOrder h) (committedPart h))
   pub commits-once : distinct (commitOrder h) ≡ true

@@ -25,15 +25,14 @@ use Rattle.rules.specs.Desk.{Status, closed, running, waiting, sentback,
 use Rattle.rules.specs.Rules.{Outcome, refused, rule4, close, sendBack, grant, queued, rule1, retry, begin}
 use Rattle.rules.specs.Step.{stepCommit, stepGiveUp, stepRetry, stepBegin, stepBy, step}
 use Rattle.rules.specs.Table.{letterIs}
-use Rattle.rules.specs.Waiting.{asker}
-use Rattle.rules.specs.Asked.{Asking, Elder}
+use Rattle.rules.specs.Asked.{Asking, Elder, asker}
 use Rattle.rules.specs.Moves.{standing, Moved, refuses, begins, commits, gives-up, retries, has-it, promotes, waits-in-front, enters, waits-last, goes-back}
 use Rattle.rules.specs.Effects.{Joined, promotion, newcomer}
 use Rattle.rules.proofs.Answers.{other-answer}
 use Rattle.rules.proofs.Moved.{step-moved, elder-of}
 
 -- what an answer tells: of which job it is, the rule's outcome, and what held before
-pub record Course (d : Desk) (r : Request) (i j : ℕ) (o : Outcome) (P : Type 0) : Type 0 where
+pub record Tells (d : Desk) (r : Request) (i j : ℕ) (o : Outcome) (P : Type 0) : Type 0 where
   pub job : j ≡ i
   pub outcome : step d r ≡ o
   pub was : P
@@ -43,44 +42,44 @@ same-go : {i j : ℕ} → Go i ≡ Go j → j ≡ i
 same-go e = cc
 
 -- a commit that goes is of a running job, and closes it
-pub commit-went : (d : Desk) (r : Request) (j : ℕ) → letterOf (r .kind) ≡ Known Commit → step d r .said ≡ Go j → Course d r (r .job) j (close d (r .job)) (d .stat (r .job) ≡ running)
+pub commit-went : (d : Desk) (r : Request) (j : ℕ) → letterOf (r .kind) ≡ Known Commit → step d r .said ≡ Go j → Tells d r (r .job) j (close d (r .job)) (d .stat (r .job) ≡ running)
 unfolding stepCommit refused close rule4
 commit-went d r j e g = by-status (d .stat (r .job)) refl (unfold step stepBy in ap (stepBy d r) e)
   where
-    by-status : (s : Status) → d .stat (r .job) ≡ s → step d r ≡ stepCommit d (r .job) s → Course d r (r .job) j (close d (r .job)) (d .stat (r .job) ≡ running)
+    by-status : (s : Status) → d .stat (r .job) ≡ s → step d r ≡ stepCommit d (r .job) s → Tells d r (r .job) j (close d (r .job)) (d .stat (r .job) ≡ running)
     by-status closed q h = other-answer (sym (ap (λ o. o .said) h) ∙ g) refl
     by-status running q h = record { job = same-go (sym (ap (λ o. o .said) h) ∙ g); outcome = h; was = q }
     by-status (waiting c a) q h = other-answer (sym (ap (λ o. o .said) h) ∙ g) refl
     by-status sentback q h = other-answer (sym (ap (λ o. o .said) h) ∙ g) refl
 
 -- a give-up that goes is of an open job, and closes it
-pub give-up-went : (d : Desk) (r : Request) (j : ℕ) → letterOf (r .kind) ≡ Known GiveUp → step d r .said ≡ Go j → Course d r (r .job) j (close d (r .job)) (isOpen (d .stat (r .job)) ≡ true)
+pub give-up-went : (d : Desk) (r : Request) (j : ℕ) → letterOf (r .kind) ≡ Known GiveUp → step d r .said ≡ Go j → Tells d r (r .job) j (close d (r .job)) (isOpen (d .stat (r .job)) ≡ true)
 unfolding stepGiveUp refused close rule4 isOpen
 give-up-went d r j e g = by-status (d .stat (r .job)) refl (unfold step stepBy in ap (stepBy d r) e)
   where
-    by-status : (s : Status) → d .stat (r .job) ≡ s → step d r ≡ stepGiveUp d (r .job) s → Course d r (r .job) j (close d (r .job)) (isOpen (d .stat (r .job)) ≡ true)
+    by-status : (s : Status) → d .stat (r .job) ≡ s → step d r ≡ stepGiveUp d (r .job) s → Tells d r (r .job) j (close d (r .job)) (isOpen (d .stat (r .job)) ≡ true)
     by-status closed q h = other-answer (sym (ap (λ o. o .said) h) ∙ g) refl
     by-status running q h = record { job = same-go (sym (ap (λ o. o .said) h) ∙ g); outcome = h; was = rw q }
     by-status (waiting c a) q h = record { job = same-go (sym (ap (λ o. o .said) h) ∙ g); outcome = h; was = rw q }
     by-status sentback q h = record { job = same-go (sym (ap (λ o. o .said) h) ∙ g); outcome = h; was = rw q }
 
 -- a retry that goes is of a sent back job, and makes it run
-pub retry-went : (d : Desk) (r : Request) (j : ℕ) → letterOf (r .kind) ≡ Known Retry → step d r .said ≡ Go j → Course d r (r .job) j (retry d (r .job)) (d .stat (r .job) ≡ sentback)
+pub retry-went : (d : Desk) (r : Request) (j : ℕ) → letterOf (r .kind) ≡ Known Retry → step d r .said ≡ Go j → Tells d r (r .job) j (retry d (r .job)) (d .stat (r .job) ≡ sentback)
 unfolding stepRetry refused retry
 retry-went d r j e g = by-status (d .stat (r .job)) refl (unfold step stepBy in ap (stepBy d r) e)
   where
-    by-status : (s : Status) → d .stat (r .job) ≡ s → step d r ≡ stepRetry d (r .job) s → Course d r (r .job) j (retry d (r .job)) (d .stat (r .job) ≡ sentback)
+    by-status : (s : Status) → d .stat (r .job) ≡ s → step d r ≡ stepRetry d (r .job) s → Tells d r (r .job) j (retry d (r .job)) (d .stat (r .job) ≡ sentback)
     by-status closed q h = other-answer (sym (ap (λ o. o .said) h) ∙ g) refl
     by-status running q h = other-answer (sym (ap (λ o. o .said) h) ∙ g) refl
     by-status (waiting c a) q h = other-answer (sym (ap (λ o. o .said) h) ∙ g) refl
     by-status sentback q h = record { job = same-go (sym (ap (λ o. o .said) h) ∙ g); outcome = h; was = q }
 
 -- a begin that goes gives the next number, which was still to be given, to a job for which a place was free
-pub begin-went : (d : Desk) (r : Request) (j : ℕ) → letterOf (r .kind) ≡ Known Begin → step d r .said ≡ Go j → Course d r (d .next) j (begin d) ((d .next ≤ lastNumber) × (member 0 (d .jobs) ≡ true))
+pub begin-went : (d : Desk) (r : Request) (j : ℕ) → letterOf (r .kind) ≡ Known Begin → step d r .said ≡ Go j → Tells d r (d .next) j (begin d) ((d .next ≤ lastNumber) × (member 0 (d .jobs) ≡ true))
 unfolding stepBegin refused begin
 begin-went d r j e g = by-tests (unfold step stepBy in ap (stepBy d r) e)
   where
-    by-tests : step d r ≡ stepBegin d → Course d r (d .next) j (begin d) ((d .next ≤ lastNumber) × (member 0 (d .jobs) ≡ true))
+    by-tests : step d r ≡ stepBegin d → Tells d r (d .next) j (begin d) ((d .next ≤ lastNumber) × (member 0 (d .jobs) ≡ true))
     by-tests h =
         by-test (ltb lastNumber (d .next)) (λ t. other-answer (sym (ap (λ o. o .said) (rw t at h)) ∙ g) refl)
         (λ f. by-test (member 0 (d .jobs)) (λ t. let q : step d r ≡ begin d = rw (f, t) at h in record { job = same-go (sym (ap (λ o. o .said) q) ∙ g); outcome = q; was = (ltb-false lastNumber (d .next) f, t) })
@@ -177,9 +176,9 @@ same-back : {i j : ℕ} → Back i ≡ Back j → j ≡ i
 same-back e = cc
 
 -- a job that is sent back was running, and somebody older stood in its way
-pub ask-back : (d : Desk) (r : Request) (j : ℕ) → step d r .said ≡ Back j → Course d r (r .job) j (sendBack d (r .job)) ((a : Ask) × Asking d r a × Elder d (r .job) (r .cell))
+pub ask-back : (d : Desk) (r : Request) (j : ℕ) → step d r .said ≡ Back j → Tells d r (r .job) j (sendBack d (r .job)) ((a : Ask) × Asking d r a × Elder d (r .job) (r .cell))
 ask-back d r j g = by-move (held-up (step-moved d r) (ap goesOrRefuses g)) refl g
   where
-    by-move : {o : Outcome} → HeldUp d r o → step d r ≡ o → o .said ≡ Back j → Course d r (r .job) j (sendBack d (r .job)) ((a : Ask) × Asking d r a × Elder d (r .job) (r .cell))
+    by-move : {o : Outcome} → HeldUp d r o → step d r ≡ o → o .said ≡ Back j → Tells d r (r .job) j (sendBack d (r .job)) ((a : Ask) × Asking d r a × Elder d (r .job) (r .cell))
     by-move (waits a q k p) h e = other-answer e refl
     by-move (leaves a k x) h e = record { job = unfold rule4 in same-back e; outcome = unfold sendBack in h; was = (a, k, x) }
