@@ -1,7 +1,7 @@
 -- Each branch of the code against the definition by cases that it follows.
 -- Assumes nothing.
 use Prim.Native.Nat.{ℕ}
-use mathlib.Core.Path.{_≡_, sym}
+use mathlib.Core.Path.{_≡_, sym, _∙_}
 use mathlib.Core.List.{[], append-nil}
 use Rattle.terms.specs.declared.letters.Letter.{Letter}
 use Rattle.terms.specs.declared.letters.Letter.the-variants.{Asks}
@@ -16,13 +16,13 @@ use Rattle.rules.specs.declared.Answer.{Answer}
 use Rattle.runs.specs.declared.View.{View}
 use Rattle.runs.specs.declared.View.the-variants.{Answers, History}
 use Rattle.rules.specs.Step.{recordsOf, ownRecords, wakeRecords}
-use Rattle.formats.specs.EventRecords.{askBy, textOf}
+use Rattle.formats.specs.EventRecords.{askBy, eventLine, textOf}
 use Rattle.rules.specs.AnswerWords.{wordOf, numberBeside}
 use Rattle.runs.specs.Run.{answerLines, historyLines, wakeLines}
 use Rattle.runs.specs.Work.{viewed, unended}
 use Rattle.clerk.specs.declared.records.Noted.{Noted}
 use Rattle.clerk.specs.declared.records.Noted.the-variants.{Nothing, Line}
-use Rattle.clerk.specs.Parts.{noted, notedBytes, firstRecord, wakeRecord}
+use Rattle.clerk.specs.Parts.{asking, notedBytes, firstRecord, wakeRecord}
 
 -- nothing is noted
 pub nothing-noted : (n : Noted) → n ≡ Nothing → [] ≡ notedBytes n
@@ -41,9 +41,9 @@ unfolding firstRecord
 first-answer view line l cell a w n e f g = rw (e, f, g)
 
 -- the first record in the history
-pub first-noted : (view : View) (line : ℕ) (l : Letter) (cell : ℕ) (a : Answer) (n : Noted) → view ≡ History → n ≡ noted l cell a → notedBytes n ≡ firstRecord view line l cell a
+pub first-noted : (view : View) (line : ℕ) (l : Letter) (cell : ℕ) (a : Answer) (n : Noted) → view ≡ History → notedBytes n ≡ textOf (ownRecords (asking l cell) a) → notedBytes n ≡ firstRecord view line l cell a
 unfolding firstRecord
-first-noted view line l cell a n e f = rw (e, f)
+first-noted view line l cell a n e f = f ∙ rw e
 
 -- a wake among the answers
 pub wake-answer : (view : View) (line : ℕ) (a : Action) → view ≡ Answers → answerRecord line Wake (a .job) ≡ wakeRecord view line a
@@ -52,7 +52,7 @@ wake-answer view line a e = rw e
 
 -- a wake in the history
 pub wake-noted : (view : View) (line : ℕ) (a : Action) (k : Ask) → view ≡ History → k ≡ askBy (a .kind) → lineRecord (Asks k) (a .job) (a .cell) ≡ wakeRecord view line a
-unfolding wakeRecord
+unfolding wakeRecord eventLine
 wake-noted view line a k e f = rw (e, f)
 
 -- a bad line among the answers

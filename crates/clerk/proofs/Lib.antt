@@ -1,5 +1,6 @@
 pub mod Adding
 pub mod Cases
+pub mod Noting
 pub mod Waking
 pub mod Telling
 pub mod Holding

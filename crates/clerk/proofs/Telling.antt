@@ -2,63 +2,49 @@
 -- Assumes nothing.
 use Prim.Native.Nat.{ℕ}
 use mathlib.Core.Path.{_≡_, refl, sym, ap, ap₂, _∙_}
-use mathlib.Core.List.{List, [], _∷_, _++_, append-nil}
+use mathlib.Core.List.{List, [], _∷_, _++_}
 use lib.ListN.{take}
-use Rattle.terms.specs.declared.letters.Ask.{Ask}
-use Rattle.terms.specs.declared.letters.Ask.the-variants.{Read, Write, Increment}
 use Rattle.terms.specs.declared.letters.Letter.{Letter}
 use Rattle.terms.specs.declared.letters.Letter.the-variants.{Begin, Commit, GiveUp, Retry, Back, Asks}
-use Rattle.terms.specs.declared.letters.Lettered.the-variants.{Known}
+use Rattle.terms.specs.declared.letters.Lettered.{Lettered}
+use Rattle.terms.specs.declared.letters.Lettered.the-variants.{Known, Unknown}
 use Rattle.terms.specs.Letters.{byteOf, letterOf}
-use Rattle.terms.proofs.Alphabet.{letter-of-byte}
 use Rattle.conflict.specs.declared.action.Action.{Action}
+use Rattle.conflict.specs.declared.action.Event.the-variants.{Does}
 use Rattle.conflict.specs.Modes.{recorded}
-use Rattle.conflict.proofs.Clauses.{records-read, records-write, records-increment}
-use Rattle.formats.specs.Records.{lineRecord}
 use Rattle.rules.specs.declared.Answer.{Answer}
 use Rattle.rules.specs.declared.Answer.the-variants.{Go, Wait, Back as goes-back, No}
 use Rattle.rules.specs.Desk.{Request}
 use Rattle.rules.specs.Step.{wentBy, ownRecords, recordsOf}
 use Rattle.rules.specs.Step as step
 use Rattle.board.specs.declared.state.Said.{Said}
-use Rattle.formats.specs.EventRecords.{askBy, markLetter, eventLine, textOf}
+use Rattle.formats.specs.EventRecords.{textOf}
 use Rattle.formats.proofs.RecordLines.{text-append}
 use Rattle.runs.specs.declared.View.{View}
 use Rattle.runs.specs.declared.View.the-variants.{Answers, History as TheHistory}
 use Rattle.runs.specs.Run.{wakeLines, answerLines, historyLines}
 use Rattle.runs.specs.Work.{viewed}
 use Rattle.runs.proofs.Turns.{toldBy}
-use Rattle.clerk.specs.Parts.{notedGo, noted, notedBytes, firstRecord, wakeRecord, wakeRecords, lineRecords}
+use Rattle.clerk.specs.Parts.{asking, firstRecord, wakeRecord, wakeRecords, lineRecords}
 
--- what is asked is the letter of the kind that is recorded of it
-ask-recorded : (a : Ask) → askBy (recorded a) ≡ a
-unfolding askBy
-ask-recorded Read = rw records-read
-ask-recorded Write = rw records-write
-ask-recorded Increment = rw records-increment
+-- what the history records of a request that goes does not name the job that asked
+went-of : (r s : Request) (j : ℕ) (l : Lettered) → r .cell ≡ s .cell → wentBy r j l ≡ wentBy s j l
+unfolding wentBy
+went-of r s j Unknown e = refl
+went-of r s j (Known Back) e = refl
+went-of r s j (Known Begin) e = refl
+went-of r s j (Known Commit) e = refl
+went-of r s j (Known GiveUp) e = refl
+went-of r s j (Known Retry) e = refl
+went-of r s j (Known (Asks a)) e = ap (λ c. Does (record { kind = recorded a; job = j; cell = c }) ∷ []) e
 
-module _ (job cell : ℕ) where
-  -- the request of a line that says it
-  abbrev asking : Letter → Request
-  asking l = record { kind = byteOf l; job = job; cell = cell }
-
-  -- what the history notes of a request that goes
-  went-noted : (l : Letter) (j : ℕ) → notedBytes (notedGo l j cell) ≡ textOf (wentBy (asking l) j (Known l))
-  unfolding notedGo notedBytes wentBy textOf eventLine markLetter
-  went-noted Begin j = refl
-  went-noted Commit j = sym (append-nil _)
-  went-noted GiveUp j = sym (append-nil _)
-  went-noted Retry j = refl
-  went-noted Back j = refl
-  went-noted (Asks a) j = ap (λ b. lineRecord (Asks b) j cell) (sym (ask-recorded a)) ∙ sym (append-nil _)
-
-  -- and of its answer
-  own-noted : (l : Letter) (a : Answer) → notedBytes (noted l cell a) ≡ textOf (ownRecords (asking l) a)
-  unfolding noted ownRecords notedBytes textOf eventLine markLetter
-  own-noted l (Go j) = went-noted l j ∙ ap (λ k. textOf (wentBy (asking l) j k)) (sym (letter-of-byte l))
-  own-noted l (Wait j) = refl
-  own-noted l (goes-back j) = sym (append-nil _)
-  own-noted l (No why) = refl
+-- nor does what it records of any answer
+own-of : (l : Letter) (job cell : ℕ) (a : Answer) → ownRecords (asking l cell) a ≡ ownRecords (record { kind = byteOf l; job = job; cell = cell }) a
+unfolding ownRecords
+own-of l job cell (Go j) = went-of (asking l cell) (record { kind = byteOf l; job = job; cell = cell }) j (letterOf (byteOf l)) refl
+own-of l job cell (Wait j) = refl
+own-of l job cell (goes-back j) = refl
+own-of l job cell (No why) = refl
 
 -- the wakes among the answers
 wakes-answered : (line : ℕ) (ws : List Action) → wakeRecords Answers line ws ≡ wakeLines line ws
@@ -68,7 +54,7 @@ wakes-answered line (a ∷ ws) = ap (λ l. wakeRecord Answers line a ++ l) (wake
 
 -- the wakes in the history
 wakes-noted : (line : ℕ) (ws : List Action) → wakeRecords TheHistory line ws ≡ textOf (step.wakeRecords ws)
-unfolding wakeRecords wakeRecord step.wakeRecords textOf eventLine
+unfolding wakeRecords wakeRecord step.wakeRecords textOf
 wakes-noted line [] = refl
 wakes-noted line (a ∷ ws) = ap (λ l. wakeRecord TheHistory line a ++ l) (wakes-noted line ws)
 
@@ -78,5 +64,5 @@ pub records-told : (view : View) (line : ℕ) (l : Letter) (job cell : ℕ) (sai
 unfolding lineRecords viewed firstRecord answerLines historyLines recordsOf
 records-told Answers line l job cell said = ap (λ r. firstRecord Answers line l cell (said .answer) ++ r) (wakes-answered line (take (said .count) (said .wakes)))
 records-told TheHistory line l job cell said =
-    ap₂ (λ h k. h ++ k) (own-noted job cell l (said .answer)) (wakes-noted line (take (said .count) (said .wakes)))
+    ap₂ (λ h k. h ++ k) (ap textOf (own-of l job cell (said .answer))) (wakes-noted line (take (said .count) (said .wakes)))
     ∙ sym (text-append (ownRecords (record { kind = byteOf l; job = job; cell = cell }) (said .answer)) (step.wakeRecords (take (said .count) (said .wakes))))

@@ -3,18 +3,21 @@ use Prim.Native.Nat.{ℕ, _≤_}
 use mathlib.Core.List.{List, [], _∷_, _++_}
 use lib.ListN.{length, take}
 use Rattle.terms.specs.declared.letters.Letter.{Letter}
-use Rattle.terms.specs.declared.letters.Letter.the-variants.{Begin, Commit, GiveUp, Retry, Back, Asks}
+use Rattle.terms.specs.declared.letters.Letter.the-variants.{Asks}
 use Rattle.terms.specs.declared.words.Word.the-variants.{Wake}
+use Rattle.terms.specs.Letters.{byteOf}
 use Rattle.conflict.specs.declared.action.Action.{Action}
+use Rattle.conflict.specs.declared.action.Event.the-variants.{Does}
+use Rattle.formats.specs.EventRecords.{eventLine, textOf}
 use Rattle.formats.specs.Records.{answerRecord, lineRecord}
 use Rattle.formats.specs.Wrote.{Wrote}
 use Rattle.rules.specs.declared.Answer.{Answer}
-use Rattle.rules.specs.declared.Answer.the-variants.{Go, Wait, Back as goes-back, No}
 use Rattle.board.specs.declared.state.Said.{Said}
 use Rattle.runs.specs.declared.View.{View}
 use Rattle.runs.specs.declared.View.the-variants.{Answers, History}
-use Rattle.formats.specs.EventRecords.{askBy}
 use Rattle.rules.specs.AnswerWords.{wordOf, numberBeside}
+use Rattle.rules.specs.Desk.{Request}
+use Rattle.rules.specs.Step.{ownRecords}
 use Rattle.clerk.specs.declared.records.Noted.{Noted}
 use Rattle.clerk.specs.declared.records.Noted.the-variants.{Nothing, Line}
 
@@ -23,23 +26,11 @@ pub record Added (most at to : ℕ) (bytes before after : List ℕ) : Type 0 whe
   pub wrote : Wrote at to bytes before after
   pub few : length bytes ≤ most
 
--- what the history notes of a request that goes: its letter with the job, and the cell where it asks for one; begin and retry give nothing (01, Lines)
-unfoldable pub notedGo : Letter → ℕ → ℕ → Noted
-notedGo Begin job cell = Nothing
-notedGo Commit job cell = Line Commit job 0
-notedGo GiveUp job cell = Line GiveUp job 0
-notedGo Retry job cell = Nothing
-notedGo Back job cell = Nothing
-notedGo (Asks a) job cell = Line (Asks a) job cell
+-- the request of a good line, as far as its history records go: these do not name the job that asked, but the one answered
+abbrev pub asking : Letter → ℕ → Request
+asking l cell = record { kind = byteOf l; job = 0; cell = cell }
 
--- what the history notes of a request and its answer, beside the wakes (01, Lines)
-unfoldable pub noted : Letter → ℕ → Answer → Noted
-noted l cell (Go j) = notedGo l j cell
-noted l cell (Wait j) = Nothing
-noted l cell (goes-back j) = Line Back j 0
-noted l cell (No why) = Nothing
-
--- its bytes
+-- the bytes of what the history notes of a request
 unfoldable pub notedBytes : Noted → List ℕ
 notedBytes Nothing = []
 notedBytes (Line l job cell) = lineRecord l job cell
@@ -47,12 +38,12 @@ notedBytes (Line l job cell) = lineRecord l job cell
 -- the first record of a line in a view
 unfoldable pub firstRecord : View → ℕ → Letter → ℕ → Answer → List ℕ
 firstRecord Answers line l cell a = answerRecord line (wordOf a) (numberBeside a)
-firstRecord History line l cell a = notedBytes (noted l cell a)
+firstRecord History line l cell a = textOf (ownRecords (asking l cell) a)
 
 -- the record of a wake in a view
 unfoldable pub wakeRecord : View → ℕ → Action → List ℕ
 wakeRecord Answers line a = answerRecord line Wake (a .job)
-wakeRecord History line a = lineRecord (Asks (askBy (a .kind))) (a .job) (a .cell)
+wakeRecord History line a = eventLine (Does a)
 
 -- one for each wake
 unfoldable pub wakeRecords : View → ℕ → List Action → List ℕ

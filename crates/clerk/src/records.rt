@@ -20,9 +20,11 @@ ghost use Rattle.terms.specs.Limits.{requestLines, lastNumber};
 ghost use Rattle.formats.specs.Records.{ofAnswers, answerRecord, longestRecord, lineRecord};
 ghost use Rattle.formats.specs.Wrote.{Wrote};
 ghost use Rattle.rules.specs.AnswerWords.{wordOf, numberBeside};
-ghost use Rattle.formats.specs.EventRecords.{askBy};
+ghost use Rattle.formats.specs.EventRecords.{askBy, textOf};
+ghost use Rattle.rules.specs.Step.{wentBy, ownRecords};
+ghost use Rattle.terms.specs.declared.letters.Lettered.the-variants.{Known};
 ghost use Rattle.runs.specs.Work.{viewed, unended, wakesRoom, lineRoom};
-ghost use Rattle.clerk.specs.Parts.{Added, notedGo, noted, notedBytes, firstRecord, wakeRecord, wakeRecords, lineRecords};
+ghost use Rattle.clerk.specs.Parts.{Added, asking, notedBytes, firstRecord, wakeRecord, wakeRecords, lineRecords};
 
 // What the history notes of a request, beside the wakes: one line of a letter, or nothing.
 enum Noted {
@@ -67,7 +69,7 @@ fn ask_by(k: Kind) -> Ask
 
 // What the history notes of a request that goes.
 fn noted_go(letter: Letter, job: u32, cell: u32) -> Noted
-    ensures { λ r. ⌜ r ≡ notedGo letter job cell ⌝ }
+    ensures { λ r. ⌜ notedBytes r ≡ textOf (wentBy (asking letter cell) job (Known letter)) ⌝ }
 {
     match letter {
         Letter::Begin => Noted::Nothing,
@@ -93,7 +95,7 @@ fn noted_go(letter: Letter, job: u32, cell: u32) -> Noted
 
 // What the history notes of a request and its answer.
 fn noted_of(letter: Letter, cell: u32, a: Answer) -> Noted
-    ensures { λ r. ⌜ r ≡ noted letter cell a ⌝ }
+    ensures { λ r. ⌜ notedBytes r ≡ textOf (ownRecords (asking letter cell) a) ⌝ }
 {
     match a {
         Answer::Go(j) => noted_go(letter, j, cell),

@@ -16,7 +16,7 @@ use Rattle.runs.specs.declared.Clerk.{Clerk}
 use Rattle.runs.specs.declared.View.{View}
 use Rattle.runs.specs.declared.Worked.{Worked}
 use Rattle.runs.specs.declared.Finished.{Finished}
-use Rattle.runs.specs.Work.{lineRoom, roomy, due, owing, answering, turning, cutting, stopped, workBy, workOf, finishOf}
+use Rattle.runs.specs.Work.{lineRoom, viewed, unended, roomy, due, owing, answering, turning, cutting, stopped, workBy, workOf, finishOf}
 
 -- bytes that are put into a buffer end within it
 put-within : (out bytes : List ℕ) (at : ℕ) → at ≤ length out → at + length bytes ≤ length (putFrom out at bytes)
@@ -78,5 +78,5 @@ pub last-within : (view : View) (c : Clerk) (out : List ℕ) (f : Finished) (aft
 unfolding finishOf
 last-within view c out f after e g =
     by-test (owing (c .splitter))
-    (λ o. by-test (roomy out 0) (λ r. rw (e, g, o, r) (put-within out _ 0 (omega arith))) (λ r. rw (e, g, o, r) (omega arith)))
+    (λ o. by-test (roomy out 0) (λ r. rw (e, g, o, r) (put-within out (viewed view (unended (c .splitter .line))) 0 (omega arith))) (λ r. rw (e, g, o, r) (omega arith)))
     (λ o. rw (e, g, o) (omega arith))

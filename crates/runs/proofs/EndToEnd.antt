@@ -112,5 +112,5 @@ module _ (text : List ℕ) where
     pub history-verdict : (order : List ℕ) × SmallestFirst (edge (committedPart (historyOn text))) (jobsOf (historyOn text)) order
         × (verdictOf (historyOf text) ≡ 111 ∷ 114 ∷ 100 ∷ 101 ∷ 114 ∷ 108 ∷ 121 ∷ joined (map (λ j. 9 ∷ decimal j) order) ++ 10 ∷ [])
     history-verdict =
-        let p = printed-orderly (historyOf text) history-fits history-faultless (subst (λ h. ConflictSerializable (committedPart h)) (sym history-says) (committed-jobs-serializable started)) in
+        let p = printed-orderly (historyOf text) history-fits history-faultless (subst (λ h. ConflictSerializable (committedPart h)) (sym history-says) (serial-history started .serializable)) in
         (p .0, subst (λ h. SmallestFirst (edge (committedPart h)) (jobsOf h) (p .0)) history-says (p .1), p .2)

@@ -16,8 +16,10 @@ use Rattle.formats.proofs.TextLines.{lines-one, lines-end, lines-only}
 use Rattle.rules.specs.Desk.{freshDesk}
 use Rattle.runs.specs.declared.View.{View}
 use Rattle.runs.specs.declared.View.the-variants.{Answers, History}
-use Rattle.runs.specs.Run.{Stepping, Told, lineBy, runOf, answerLines, historyLines, written}
-use Rattle.runs.specs.Programs.{onPaper, firstNumber, runOn, answersOf, historyOf, programOf}
+use Rattle.rules.specs.Step.{step}
+use Rattle.rules.specs.Stepping.{Stepping}
+use Rattle.runs.specs.Run.{Told, lineBy, runOf, answerLines, historyLines, written}
+use Rattle.runs.specs.Programs.{firstNumber, runOn, answersOf, historyOf, programOf}
 
 -- what holds of every line holds of the first ones
 first-every : (f : List ℕ → Bool) (n : ℕ) (ls : List (List ℕ)) → every f ls ≡ true → every f (take n ls) ≡ true
@@ -66,13 +68,13 @@ module _ {S : Type 0} (step : Stepping S) where
 -- EACH LINE HAS ITS ANSWER: of a text of at most 1,000,000 lines as many answers are told as it has lines
 pub all-lines-told : (text : List ℕ) → length (linesOf text) ≤ 1_000_000 → length (runOn text) ≡ length (linesOf text)
 unfolding runOn
-all-lines-told text h = run-all onPaper (freshDesk firstNumber) 1 (linesOf text) (omega arith)
+all-lines-told text h = run-all step (freshDesk firstNumber) 1 (linesOf text) (omega arith)
 
 -- the run of a text is that of its first 1,000,000 lines
 run-million : (text : List ℕ) → runOn text ≡ runOn (joined (take 1_000_000 (linesOf text)))
 unfolding runOn
 run-million text =
-    sym (run-first onPaper (freshDesk firstNumber) 1 1_000_000 (linesOf text) (omega arith)) ∙ ap (runOf onPaper (freshDesk firstNumber) 1) (sym (first-lines 1_000_000 text))
+    sym (run-first step (freshDesk firstNumber) 1 1_000_000 (linesOf text) (omega arith)) ∙ ap (runOf step (freshDesk firstNumber) 1) (sym (first-lines 1_000_000 text))
 
 -- A MILLION LINES: either program writes of a text what it writes of the text's first 1,000,000 lines
 pub million-lines : (view : View) (text : List ℕ) → programOf view text ≡ programOf view (joined (take 1_000_000 (linesOf text)))

@@ -17,16 +17,16 @@ use Rattle.rules.specs.Step.{stepCommit, stepGiveUp, stepRetry, stepAsk, stepBe
 use Rattle.verdicts.specs.Order.{preceded, first, ready, without as order-without, ends, leads, taken as order-taken, orderOf, stuck}
 use Rattle.verdicts.specs.Knot.{predecessor, upTo, from, walk, least, turnTo, turn, knotIn}
 use Rattle.verdicts.specs.Judged.{findingBy, judged, insert, sorted, jobsOf, findingOf}
-use Rattle.verdicts.specs.HistoryText.{readingsOf, faultOfGood, faultOf, lineFault, endedAfter, orLater, firstFaulty, eventOf, eventsIn, bare}
+use Rattle.verdicts.specs.HistoryText.{readingsOf, faultOfGood, faultOf, lineFault, endedAfter, orLater, firstFaulty, eventOf, eventsIn}
 use Rattle.verdicts.specs.Judgement.{filled, sayFinding, sayLines, judgementOf}
 use Rattle.formats.specs.EventRecords.{askBy, markLetter, eventLine, textOf}
 use Rattle.rules.specs.AnswerWords.{wordOf, numberBeside}
-use Rattle.runs.specs.Run.{noRequest, answered, lineBy, runOf, wakeLines, answerLines, historyLines, written}
+use Rattle.runs.specs.Run.{answered, lineBy, runOf, wakeLines, answerLines, historyLines, written}
 use Rattle.verdicts.specs.VerdictLine.{sayLine, judgedLine, verdictOf}
 use Rattle.runs.specs.Programs.{runOn, answersOf, historyOf}
 use Rattle.samples.specs.Samples.{bytes, Sample, writes, samples}
 
 -- every sample's program writes its output, given its input
 pub as-the-paper-says : map (λ (s : Sample). writes (s .program) (bytes (s .input))) samples ≡ map (λ (s : Sample). bytes (s .output)) samples
-unfolding needed recorded covers beside grants asked isFree member agree conflicts keep touches edge isCommit isBack marked partOf committedPart put commitOrder digitsIn decimal answerRecord field lineRecord isDigit digitsOf afterDigits valueFrom shortest numberThen ending cellPart jobPart letterPart readLine inFront linesOf at idle freshDesk seated vacated locks-every everyWaiter isEmpty agrees alone olderThanHolders olderThanWaiters without wants wokenFirst settle released refused withRow withStatus wake wakesAt wakesOf isWoken runAgain rowsAfter rule4 close sendBack grant queued rule1 rule2 rule3 ask retry begin stepCommit stepGiveUp stepRetry stepAsk stepBegin stepBy step wentBy ownRecords wakeRecords recordsOf preceded first ready order-without ends leads order-taken orderOf stuck predecessor upTo from walk least turnTo turn knotIn findingBy judged insert sorted jobsOf findingOf readingsOf faultOfGood faultOf lineFault endedAfter orLater firstFaulty eventOf eventsIn bare filled sayFinding sayLines judgementOf noRequest answered lineBy runOf wordOf numberBeside wakeLines answerLines askBy markLetter eventLine textOf historyLines written runOn answersOf historyOf tabbed wordLine sayLine judgedLine verdictOf bytes writes
+unfolding needed recorded covers beside grants asked isFree member agree conflicts keep touches edge isCommit isBack marked partOf committedPart put commitOrder digitsIn decimal answerRecord field lineRecord isDigit digitsOf afterDigits valueFrom shortest numberThen ending cellPart jobPart letterPart readLine inFront linesOf at idle freshDesk seated vacated locks-every everyWaiter isEmpty agrees alone olderThanHolders olderThanWaiters without wants wokenFirst settle released refused withRow withStatus wake wakesAt wakesOf isWoken runAgain rowsAfter rule4 close sendBack grant queued rule1 rule2 rule3 ask retry begin stepCommit stepGiveUp stepRetry stepAsk stepBegin stepBy step wentBy ownRecords wakeRecords recordsOf preceded first ready order-without ends leads order-taken orderOf stuck predecessor upTo from walk least turnTo turn knotIn findingBy judged insert sorted jobsOf findingOf readingsOf faultOfGood faultOf lineFault endedAfter orLater firstFaulty eventOf eventsIn filled sayFinding sayLines judgementOf answered lineBy runOf wordOf numberBeside wakeLines answerLines askBy markLetter eventLine textOf historyLines written runOn answersOf historyOf tabbed wordLine sayLine judgedLine verdictOf bytes writes
 as-the-paper-says = refl

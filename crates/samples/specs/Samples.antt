@@ -41,9 +41,9 @@ S1-history = "r\t2\t5\nw\t2\t5\nc\t2\nw\t1\t5\nc\t1\n"
 abbrev pub wakes : String
 wakes = "b\nb\nb\nb\nw\t4\t5\nw\t4\t3\nr\t3\t5\nr\t2\t5\nw\t1\t3\nc\t4\n"
 
--- a run of ours with a sending back, a retry and a give-up that wakes the job before it
+-- a run of ours with a sending back, a retry, a give-up that wakes an older job, a retry that is refused, a read under X (01, rule 1), and k, which is no request
 abbrev pub returns : String
-returns = "b\nb\nr\t1\t5\nw\t2\t5\nt\t2\nr\t2\t5\nw\t1\t5\na\t2\nt\t1\n"
+returns = "b\nb\nr\t1\t5\nw\t2\t5\nt\t2\nr\t2\t5\nw\t1\t5\na\t2\nt\t1\nr\t1\t5\nk\t1\n"
 
 -- the starred samples, S1 to S9, and after them ours; jobs are begun first, cell 5 unless said
 abbrev pub samples : List Sample
@@ -100,13 +100,13 @@ samples =
       output = "1\tgo\t1\n2\tgo\t2\n3\tgo\t3\n4\tgo\t4\n5\tgo\t4\n6\tgo\t4\n7\twait\t3\n8\twait\t2\n9\twait\t1\n10\tgo\t4\n10\twake\t1\n10\twake\t3\n10\twake\t2\n";
     }
     ∷ record { program = history; input = wakes; output = "w\t4\t5\nw\t4\t3\nc\t4\nw\t1\t3\nr\t3\t5\nr\t2\t5\n" }
-    -- ours: back, retry and give-up; a retry of a running job is refused
+    -- ours: back, retry and give-up; 8, a go by rule 1, and 9
     ∷ record {
       program = answers;
       input = returns;
-      output = "1\tgo\t1\n2\tgo\t2\n3\tgo\t1\n4\tback\t2\n5\tgo\t2\n6\tgo\t2\n7\twait\t1\n8\tgo\t2\n8\twake\t1\n9\tno\t8\n";
+      output = "1\tgo\t1\n2\tgo\t2\n3\tgo\t1\n4\tback\t2\n5\tgo\t2\n6\tgo\t2\n7\twait\t1\n8\tgo\t2\n8\twake\t1\n9\tno\t8\n10\tgo\t1\n11\tno\t9\n";
     }
-    ∷ record { program = history; input = returns; output = "r\t1\t5\nk\t2\nr\t2\t5\na\t2\nw\t1\t5\n" }
+    ∷ record { program = history; input = returns; output = "r\t1\t5\nk\t2\nr\t2\t5\na\t2\nw\t1\t5\nr\t1\t5\n" }
     -- ours: what job 1 read before its k does not count; after an a there is no further line; t is of no history
     ∷ record { program = verdict; input = "r\t1\t0\nw\t2\t0\nk\t1\nr\t1\t0\nc\t1\nc\t2\n"; output = "orderly\t2\t1\n" }
     ∷ record { program = verdict; input = "r\t1\t0\na\t1\nc\t1\n"; output = "no\t3\t13\n" }

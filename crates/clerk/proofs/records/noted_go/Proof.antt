@@ -1,7 +1,7 @@
--- `clerk::records::noted_go` meets its contract: each letter as the definition says.
+-- `clerk::records::noted_go` meets its contract: each letter as the desk records it.
 -- Assumes nothing.
 use borrow.Author.Needs.{needs}
-use Rattle.clerk.specs.Parts.{notedGo}
+use Rattle.clerk.proofs.Noting.{went-begin, went-commit, went-give-up, went-retry, went-back, went-asks}
 use Rattle.clerk.proofs.records.noted_go.Statement.{statement}
 use Rattle.clerk.proofs.records.noted_go.Tie as tie
 
@@ -24,28 +24,22 @@ enum-known-letter : tie.Need-enum-known-letter
 enum-known-letter c = search needs
 
 returns : tie.Need-returns
-unfolding notedGo
-returns c = search needs
+returns c = search went-begin
 
 returns-2 : tie.Need-returns-2
-unfolding notedGo
-returns-2 c = rw (c .enum-told2 .given .1)
+returns-2 c = search went-commit
 
 returns-3 : tie.Need-returns-3
-unfolding notedGo
-returns-3 c = rw (c .enum-told3 .given .1)
+returns-3 c = search went-give-up
 
 returns-4 : tie.Need-returns-4
-unfolding notedGo
-returns-4 c = search needs
+returns-4 c = search went-retry
 
 returns-5 : tie.Need-returns-5
-unfolding notedGo
-returns-5 c = search needs
+returns-5 c = search went-back
 
 returns-6 : tie.Need-returns-6
-unfolding notedGo
-returns-6 c = rw (c .before .letter .given .1)
+returns-6 c = search went-asks
 
 pub noted-go-spec : {M : Type 1} → statement M
 noted-go-spec =

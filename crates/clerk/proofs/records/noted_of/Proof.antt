@@ -1,7 +1,7 @@
--- `clerk::records::noted_of` meets its contract: each answer as the definition says.
+-- `clerk::records::noted_of` meets its contract: each answer as the desk records it.
 -- Assumes nothing.
 use borrow.Author.Needs.{needs}
-use Rattle.clerk.specs.Parts.{noted}
+use Rattle.clerk.proofs.Noting.{own-go, own-wait, own-back, own-no}
 use Rattle.clerk.proofs.records.noted_of.Statement.{statement}
 use Rattle.clerk.proofs.records.noted_of.Tie as tie
 
@@ -21,20 +21,16 @@ enum-told-2 : tie.Need-enum-told-2
 enum-told-2 c = search needs
 
 returns : tie.Need-returns
-unfolding noted
-returns c = rw (c .before .before .a .given .1) (c .noted-go .ensures)
+returns c = search own-go
 
 returns-2 : tie.Need-returns-2
-unfolding noted
-returns-2 c = search needs
+returns-2 c = search own-wait
 
 returns-3 : tie.Need-returns-3
-unfolding noted
-returns-3 c = rw (c .before .a2 .given .1)
+returns-3 c = search own-back
 
 returns-4 : tie.Need-returns-4
-unfolding noted
-returns-4 c = search needs
+returns-4 c = search own-no
 
 pub noted-of-spec : {M : Type 1} → statement M
 noted-of-spec =
