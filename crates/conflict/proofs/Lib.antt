@@ -22,3 +22,5 @@ pub mod OneEvent
 pub mod StillHeld
 pub mod Ways
 pub mod CodeLaws
+pub mod Conflicting
+pub mod CellSets

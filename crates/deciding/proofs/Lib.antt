@@ -11,7 +11,7 @@ pub mod Placing
 pub mod Marking
 pub mod Counting
 pub mod Searching
-pub mod Clashing
+pub mod Acting
 pub mod ByParts
 pub mod Seeking
 pub mod TakingAway
