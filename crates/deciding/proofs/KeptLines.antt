@@ -20,8 +20,9 @@ use Rattle.verdicts.specs.Arrays.{historyBy}
 use Rattle.deciding.specs.Lists.{listed}
 use Rattle.deciding.specs.Counted.{hasCommit, countedFrom}
 use Rattle.deciding.specs.Meeting.{actionAt}
+use Rattle.deciding.specs.Kept.{eventAt}
 use Rattle.deciding.proofs.Codes.{part-line, back-line}
-use Rattle.deciding.proofs.Events.{eventAt, eventsFrom, history-events}
+use Rattle.deciding.proofs.Events.{eventsFrom, history-events}
 use Rattle.deciding.proofs.Marked.{has-commit, counted-since}
 
 -- a line that is put in front brings its action

@@ -21,6 +21,7 @@ pub mod Putting
 pub mod Assembled
 pub mod Said
 pub mod JobFlags
-pub mod Nameless
+pub mod KeptFaults
+pub mod Faultless
 pub mod KeptLaws
 pub mod KeptUnique

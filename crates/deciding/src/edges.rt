@@ -23,7 +23,7 @@ fn kind_of(code: u8) -> Kind
 }
 
 // A byte as a number of 32 bits.
-fn wide(byte: u8) -> u32
+pub fn wide(byte: u8) -> u32
     ensures { λ r. ⌜ r ≡ byte ⌝ }
 {
     byte as u32
