@@ -21,3 +21,5 @@ pub mod OneEvent
 pub mod StillHeld
 pub mod Ways
 pub mod ModeCodes
+pub mod Conflicting
+pub mod CellSets

@@ -2,8 +2,17 @@
 -- Assumes nothing.
 use mathlib.Core.Path.{sym, _∙_}
 use Rattle.laws.specs.Unique.{Unique}
+use Rattle.conflict.proofs.CellSets.{same-cells}
 use Rattle.conflict.proofs.action.kinds_agree.Reads as kinds-agree
 use Rattle.conflict.proofs.action.kinds_agree.Kinds as kinds-agreeK
+use Rattle.conflict.proofs.action.actions_conflict.Reads as actions-conflict
+use Rattle.conflict.proofs.action.actions_conflict.Kinds as actions-conflictK
+use Rattle.conflict.proofs.cells.with_cell.Reads as with-cell
+use Rattle.conflict.proofs.cells.with_cell.Kinds as with-cellK
+use Rattle.conflict.proofs.cells.has_cell.Reads as has-cell
+use Rattle.conflict.proofs.cells.has_cell.Kinds as has-cellK
+use Rattle.conflict.proofs.cells.meeting_cells.Reads as meeting-cells
+use Rattle.conflict.proofs.cells.meeting_cells.Kinds as meeting-cellsK
 use Rattle.conflict.proofs.modes.needed_mode.Reads as needed-mode
 use Rattle.conflict.proofs.modes.needed_mode.Kinds as needed-modeK
 use Rattle.conflict.proofs.modes.recorded_kind.Reads as recorded-kind
@@ -25,6 +34,18 @@ use Rattle.conflict.proofs.modes.mode_of.Kinds as mode-ofK
 
 pub kinds-agree-unique : Unique kinds-agreeK.ps kinds-agreeK.r kinds-agree.Post
 kinds-agree-unique κs a x y e f p q = p ∙ sym q
+
+pub actions-conflict-unique : Unique actions-conflictK.ps actions-conflictK.r actions-conflict.Post
+actions-conflict-unique κs a x y e f p q = p ∙ sym q
+
+pub with-cell-unique : Unique with-cellK.ps with-cellK.r with-cell.Post
+with-cell-unique κs a x y e f p q = same-cells x y (λ c. p c ∙ sym (q c))
+
+pub has-cell-unique : Unique has-cellK.ps has-cellK.r has-cell.Post
+has-cell-unique κs a x y e f p q = p ∙ sym q
+
+pub meeting-cells-unique : Unique meeting-cellsK.ps meeting-cellsK.r meeting-cells.Post
+meeting-cells-unique κs a x y e f p q = same-cells x y (λ c. p c ∙ sym (q c))
 
 pub needed-mode-unique : Unique needed-modeK.ps needed-modeK.r needed-mode.Post
 needed-mode-unique κs a x y e f p q = p ∙ sym q

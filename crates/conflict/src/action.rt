@@ -1,6 +1,6 @@
 // Actions and the events of a history, and which kinds of action conflict (01, The judge's rules).
 ghost use mathlib.Core.Path.{_≡_};
-ghost use Rattle.conflict.specs.Schedule.{agree};
+ghost use Rattle.conflict.specs.Schedule.{agree, conflicts};
 
 // The kinds of action that a history records.
 pub enum Kind {
@@ -46,4 +46,19 @@ pub fn kinds_agree(a: Kind, b: Kind) -> bool
             Kind::Increment => true,
         },
     }
+}
+
+// Whether two actions conflict: they are by two jobs on one cell, and their kinds do not agree.
+pub fn actions_conflict(a: Action, b: Action) -> bool
+    ensures { λ r. ⌜ r ≡ conflicts a b ⌝ }
+{
+    if a.cell != b.cell {
+        return false;
+    }
+    if a.job == b.job {
+        return false;
+    }
+    let one = a.kind;
+    let other = b.kind;
+    !kinds_agree(one, other)
 }

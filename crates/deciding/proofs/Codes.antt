@@ -9,7 +9,6 @@ use lib.Dec.{eqb, ltb}
 use borrow.Author.Tests.{eqb-true, eqb-false, ne-eqb, lt-ltb, le-ltb, ltb-true, ltb-false}
 use Rattle.laws.specs.Choice.{pick, by-test}
 use Rattle.laws.specs.Lists.{same}
-use Rattle.conflict.specs.declared.action.Action.{Action}
 use Rattle.conflict.specs.declared.action.Mark.{Mark}
 use Rattle.conflict.specs.declared.action.Mark.the-variants.{Commit, GiveUp, Back}
 use Rattle.conflict.specs.declared.action.Event.the-variants.{Does, Ends}
@@ -18,11 +17,7 @@ use Rattle.conflict.specs.History.{History, isCommit, isBack, marked, partOf}
 use Rattle.conflict.proofs.Clauses.{keep-not}
 use Rattle.conflict.proofs.OneEvent.{marked-does, marked-ends, commit-not-back, give-up-not-back, back-is-back, commit-is-commit, give-up-not-commit, back-not-commit, part-does, part-ends}
 use Rattle.verdicts.specs.Arrays.{eventBy}
-use Rattle.deciding.specs.Meeting.{kindBy}
-
--- the action that a number below 3 stands for
-unfoldable pub actionBy : ℕ → ℕ → ℕ → Action
-actionBy c job cell = record { kind = kindBy c; job = job; cell = cell }
+use Rattle.deciding.specs.Meeting.{kindBy, actionBy}
 
 -- the mark that a number from 3 on stands for
 unfoldable pub markBy : ℕ → Mark

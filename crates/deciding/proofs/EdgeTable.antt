@@ -24,7 +24,7 @@ use Rattle.deciding.specs.Grouped.{linesOf, partAt, edgeBy, edgesIn}
 use Rattle.deciding.proofs.Tabled.{tab-at}
 use Rattle.deciding.proofs.Listing.{listed-same}
 use Rattle.deciding.proofs.Marked.{has-commit}
-use Rattle.deciding.proofs.KeptLines.{actionAt, counts, part-lines}
+use Rattle.deciding.proofs.KeptLines.{counts, part-lines}
 use Rattle.deciding.proofs.Meetings.{ofJob, edge-is}
 
 -- a test is false where it cannot be true
@@ -65,10 +65,10 @@ module _ (codes jobs : List ℕ) (n : ℕ) (bytes : (p : ℕ) → p < n → getD
         (commit-job n i (omega arith) c .1) (λ t. rw (eqb-true (getD jobs p 0) i t) c))
 
     -- two jobs with a c have an edge where their lines meet
-    pub lines-edge : (i j : ℕ) → hasCommit codes jobs n i ≡ true → hasCommit codes jobs n j ≡ true → same i j ≡ false → meetings (clashing codes cells) (linesOf owners n i) (linesOf owners n j) ≡ edge (committedPart (historyBy codes jobs cells n)) i j
+    pub lines-edge : (i j : ℕ) → hasCommit codes jobs n i ≡ true → hasCommit codes jobs n j ≡ true → same i j ≡ false → meetings (clashing codes jobs cells) (linesOf owners n i) (linesOf owners n j) ≡ edge (committedPart (historyBy codes jobs cells n)) i j
     unfolding linesOf
     lines-edge i j ci cj e =
-        ap₂ (meetings (clashing codes cells))
+        ap₂ (meetings (clashing codes jobs cells))
         (listed-same (λ p. same (getD owners p 0) i) (ofJob jobs (counts codes jobs cells n) i) 0 n (λ p a b. owner-is i p ci (omega arith)))
         (listed-same (λ p. same (getD owners p 0) j) (ofJob jobs (counts codes jobs cells n) j) 0 n (λ p a b. owner-is j p cj (omega arith)))
         ∙ sym (ap (λ s. edge s i j) (part-lines codes jobs cells n) ∙ edge-is codes jobs cells (counts codes jobs cells n) i j 0 n e)
@@ -87,7 +87,7 @@ module _ (codes jobs : List ℕ) (n : ℕ) (bytes : (p : ℕ) → p < n → getD
       done-is i b = ap (λ l. getD l i false) dones ∙ tab-at (hasCommit codes jobs n) 256 false i b
 
       -- the edges by the parts are those of the committed part
-      edge-by : (i j : ℕ) → i < 256 → j < 256 → edgeBy codes cells done lines starts i j ≡ edge (committedPart (historyBy codes jobs cells n)) i j
+      edge-by : (i j : ℕ) → i < 256 → j < 256 → edgeBy codes jobs cells done lines starts i j ≡ edge (committedPart (historyBy codes jobs cells n)) i j
       unfolding edgeBy
       edge-by i j bi bj =
           by-test (same i j)
@@ -99,7 +99,7 @@ module _ (codes jobs : List ℕ) (n : ℕ) (bytes : (p : ℕ) → p < n → getD
           (λ g. rw (done-is i bi ∙ g) (sym (never (edge (committedPart (historyBy codes jobs cells n)) i j) (λ h. not-both (edge-commit i j h .0) g))))))
 
       -- the table of them is the precedence graph of the committed part
-      pub table-edges : (table : List Bool) → table ≡ tab (λ x. edgeBy codes cells done lines starts (x % 256) (x / 256)) 65536 → edgesIn table ≡ edge (committedPart (historyBy codes jobs cells n))
+      pub table-edges : (table : List Bool) → table ≡ tab (λ x. edgeBy codes jobs cells done lines starts (x % 256) (x / 256)) 65536 → edgesIn table ≡ edge (committedPart (historyBy codes jobs cells n))
       unfolding edgesIn
       table-edges table e =
           fun-ext (λ i. fun-ext (λ j.
@@ -109,10 +109,10 @@ module _ (codes jobs : List ℕ) (n : ℕ) (bytes : (p : ℕ) → p < n → getD
           let bj : j < 256 = ltb-true j 256 (and-second (ltb i 256) (ltb j 256) t) in
           let low : (j * 256 + i) % 256 ≡ i = omega arith in
           let high : (j * 256 + i) / 256 ≡ j = omega arith in
-          let there : getD table (j * 256 + i) false ≡ edgeBy codes cells done lines starts i j =
+          let there : getD table (j * 256 + i) false ≡ edgeBy codes jobs cells done lines starts i j =
           ap (λ l. getD l (j * 256 + i) false) e
-          ∙ tab-at (λ x. edgeBy codes cells done lines starts (x % 256) (x / 256)) 65536 false (j * 256 + i) (omega arith)
-          ∙ ap₂ (edgeBy codes cells done lines starts) low high in
+          ∙ tab-at (λ x. edgeBy codes jobs cells done lines starts (x % 256) (x / 256)) 65536 false (j * 256 + i) (omega arith)
+          ∙ ap₂ (edgeBy codes jobs cells done lines starts) low high in
           rw t (there ∙ edge-by i j bi bj))
           (λ f. rw f (sym (never (edge (committedPart (historyBy codes jobs cells n)) i j)
           (λ h.

@@ -21,27 +21,23 @@ use Rattle.conflict.specs.declared.action.Event.the-variants.{Does, Ends}
 use Rattle.conflict.specs.History.{History, isCommit, isBack, marked}
 use Rattle.conflict.proofs.Appended.{marked-append}
 use Rattle.verdicts.specs.Arrays.{eventBy, historyBy}
-use Rattle.deciding.specs.Counted.{hasCommit, countedFrom}
+use Rattle.deciding.specs.Kept.{eventAt}
 
 module _ (codes jobs cells : List ℕ) where
-  -- the event of line p
-  unfoldable pub eventAt : ℕ → Event
-  eventAt p = eventBy (getD codes p 0) (getD jobs p 0) (getD cells p 0)
-
   -- the events of the m lines from k on
   unfoldable pub eventsFrom : ℕ → ℕ → History
   eventsFrom k zero = []
-  eventsFrom k (suc m) = eventAt k ∷ eventsFrom (suc k) m
+  eventsFrom k (suc m) = eventAt codes jobs cells k ∷ eventsFrom (suc k) m
 
   -- one line more stands at the end
-  pub events-more : (k m : ℕ) → eventsFrom k (suc m) ≡ eventsFrom k m ++ eventAt (k + m) ∷ []
+  pub events-more : (k m : ℕ) → eventsFrom k (suc m) ≡ eventsFrom k m ++ eventAt codes jobs cells (k + m) ∷ []
   unfolding eventsFrom
   events-more k zero = rw (add-zero k)
-  events-more k (suc m) = ap (λ h. eventAt k ∷ h) (events-more (suc k) m ∙ ap (λ n. eventsFrom (suc k) m ++ eventAt n ∷ []) (omega arith))
+  events-more k (suc m) = ap (λ h. eventAt codes jobs cells k ∷ h) (events-more (suc k) m ∙ ap (λ n. eventsFrom (suc k) m ++ eventAt codes jobs cells n ∷ []) (omega arith))
 
   -- the history of the first n lines is their events
   pub history-events : (n : ℕ) → historyBy codes jobs cells n ≡ eventsFrom 0 n
   unfolding historyBy eventsFrom eventAt
   history-events zero = refl
   history-events (suc n) =
-      ap (λ h. h ++ eventAt n ∷ []) (history-events n) ∙ sym (events-more 0 n ∙ ap (λ p. eventsFrom 0 n ++ eventAt p ∷ []) (zero-add n))
+      ap (λ h. h ++ eventAt codes jobs cells n ∷ []) (history-events n) ∙ sym (events-more 0 n ∙ ap (λ p. eventsFrom 0 n ++ eventAt codes jobs cells p ∷ []) (zero-add n))

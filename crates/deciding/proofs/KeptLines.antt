@@ -19,8 +19,10 @@ use Rattle.conflict.proofs.OneEvent.{part-none, part-whole}
 use Rattle.verdicts.specs.Arrays.{historyBy}
 use Rattle.deciding.specs.Lists.{listed}
 use Rattle.deciding.specs.Counted.{hasCommit, countedFrom}
-use Rattle.deciding.proofs.Codes.{actionBy, part-line, back-line}
-use Rattle.deciding.proofs.Events.{eventAt, eventsFrom, history-events}
+use Rattle.deciding.specs.Meeting.{actionAt}
+use Rattle.deciding.specs.Kept.{eventAt}
+use Rattle.deciding.proofs.Codes.{part-line, back-line}
+use Rattle.deciding.proofs.Events.{eventsFrom, history-events}
 use Rattle.deciding.proofs.Marked.{has-commit, counted-since}
 
 -- a line that is put in front brings its action
@@ -40,10 +42,6 @@ and-none true b = refl
 and-none false b = refl
 
 module _ (codes jobs cells : List ℕ) where
-  -- the action on line p
-  unfoldable pub actionAt : ℕ → Action
-  actionAt p = actionBy (getD codes p 0) (getD jobs p 0) (getD cells p 0)
-
   -- line p is an action of a job with a c among the first n lines, and stands where that job's actions count
   unfoldable pub counts : ℕ → ℕ → Bool
   counts n p = ltb (getD codes p 0) 3 && (hasCommit codes jobs n (getD jobs p 0) && leb (countedFrom codes jobs n (getD jobs p 0)) p)
@@ -68,16 +66,16 @@ module _ (codes jobs cells : List ℕ) where
       (ap not (sym (act-no-back (getD jobs k 0) k m t)) ∙ sym (counted-since codes jobs cells (getD jobs k 0) k (suc m))))
 
   -- of the lines from k on the committed part has those that count
-  part-from : (n k m : ℕ) → k + m ≡ n → partOf (historyBy codes jobs cells n) (eventsFrom codes jobs cells k m) ≡ map actionAt (listed (counts n) k m)
+  part-from : (n k m : ℕ) → k + m ≡ n → partOf (historyBy codes jobs cells n) (eventsFrom codes jobs cells k m) ≡ map (actionAt codes jobs cells) (listed (counts n) k m)
   unfolding eventsFrom eventAt listed actionAt
   part-from n k zero e = part-none (historyBy codes jobs cells n)
   part-from n k (suc m) e =
       part-line (getD codes k 0) (getD jobs k 0) (getD cells k 0) (historyBy codes jobs cells n) (eventsFrom codes jobs cells (suc k) m)
-      ∙ ap₂ (λ b s. keep b (actionAt k) s) (rw (← e) (counts-is k m)) (part-from n (suc k) m (omega arith))
-      ∙ sym (put-map actionAt (counts n k) k (listed (counts n) (suc k) m))
+      ∙ ap₂ (λ b s. keep b (actionAt codes jobs cells k) s) (rw (← e) (counts-is k m)) (part-from n (suc k) m (omega arith))
+      ∙ sym (put-map (actionAt codes jobs cells) (counts n k) k (listed (counts n) (suc k) m))
 
   -- the committed part is the actions on the lines that count
-  pub part-lines : (n : ℕ) → committedPart (historyBy codes jobs cells n) ≡ map actionAt (listed (counts n) 0 n)
+  pub part-lines : (n : ℕ) → committedPart (historyBy codes jobs cells n) ≡ map (actionAt codes jobs cells) (listed (counts n) 0 n)
   part-lines n =
       part-whole (historyBy codes jobs cells n)
       ∙ ap (partOf (historyBy codes jobs cells n)) (history-events codes jobs cells n)

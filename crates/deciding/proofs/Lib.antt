@@ -11,7 +11,7 @@ pub mod Placing
 pub mod Marking
 pub mod Counting
 pub mod Searching
-pub mod Clashing
+pub mod Acting
 pub mod ByParts
 pub mod Seeking
 pub mod TakingAway
@@ -21,6 +21,7 @@ pub mod Putting
 pub mod Assembled
 pub mod Said
 pub mod JobFlags
-pub mod Nameless
+pub mod KeptFaults
+pub mod Faultless
 pub mod KeptLaws
 pub mod KeptUnique

@@ -16,8 +16,9 @@ use Rattle.conflict.proofs.Appended.{marked-append}
 use Rattle.conflict.proofs.OneEvent.{marked-none}
 use Rattle.verdicts.specs.Arrays.{historyBy}
 use Rattle.deciding.specs.Counted.{hasCommit, countedFrom}
+use Rattle.deciding.specs.Kept.{eventAt}
 use Rattle.deciding.proofs.Codes.{commit-line, back-line}
-use Rattle.deciding.proofs.Events.{eventAt, eventsFrom, events-more}
+use Rattle.deciding.proofs.Events.{eventsFrom, events-more}
 
 -- a test behind another, with one that fails, may as well stand first
 or-last : (a b c : Bool) → c ≡ false → (a || (b || c)) ≡ (b || a)

@@ -1,23 +1,30 @@
--- Which lines' actions conflict, and whether one of some lines stands before one of others that it conflicts with (01, The judge's rules).
+-- The actions on lines that are kept as numbers, which of them conflict, and whether one of some lines stands before one of others that it conflicts with (01, The judge's rules).
 use Prim.Native.Nat.{ℕ}
-use mathlib.Core.Bool.{Bool, true, false, not, _&&_, _||_}
+use mathlib.Core.Bool.{Bool, false, _&&_, _||_}
 use mathlib.Core.List.{List, [], _∷_}
 use lib.Dec.{eqb, ltb}
 use lib.ListN.{getD}
 use Rattle.laws.specs.Choice.{pick}
-use Rattle.laws.specs.Lists.{same}
 use Rattle.conflict.specs.declared.action.Kind.{Kind}
 use Rattle.conflict.specs.declared.action.Kind.the-variants.{Read, Write, Increment}
-use Rattle.conflict.specs.Schedule.{agree}
+use Rattle.conflict.specs.declared.action.Action.{Action}
+use Rattle.conflict.specs.Schedule.{conflicts}
 
 -- the kind of action that a number stands for: 0 read, 1 write, any other increment
 unfoldable pub kindBy : ℕ → Kind
 kindBy c = pick (eqb c 0) Read (pick (eqb c 1) Write Increment)
 
--- the actions on lines x and y are on one cell, and their kinds do not agree
-unfoldable pub clashing : List ℕ → List ℕ → ℕ → ℕ → Bool
-clashing codes cells x y =
-    same (getD cells x 0) (getD cells y 0) && not (agree (kindBy (getD codes x 0)) (kindBy (getD codes y 0)))
+-- the action that a number below 3 stands for, of a job on a cell
+unfoldable pub actionBy : ℕ → ℕ → ℕ → Action
+actionBy code job cell = record { kind = kindBy code; job = job; cell = cell }
+
+-- the action on line p
+unfoldable pub actionAt : List ℕ → List ℕ → List ℕ → ℕ → Action
+actionAt codes jobs cells p = actionBy (getD codes p 0) (getD jobs p 0) (getD cells p 0)
+
+-- the actions on lines x and y conflict
+unfoldable pub clashing : List ℕ → List ℕ → List ℕ → ℕ → ℕ → Bool
+clashing codes jobs cells x y = conflicts (actionAt codes jobs cells x) (actionAt codes jobs cells y)
 
 -- line x stands before a line of ys that it conflicts with
 unfoldable pub meetsLater : (ℕ → ℕ → Bool) → ℕ → List ℕ → Bool

@@ -45,7 +45,7 @@ fn edges_of<'a>(
     let count = tallies(&owner, n);
     let start = starts(&count);
     let lines = grouped(&owner, &start, n);
-    edge_table(codes, cells, done, &lines, &start)
+    edge_table(codes, jobs, cells, done, &lines, &start)
 }
 
 // The knot that the walk back from a job ends in, put into the first places of the buffer.

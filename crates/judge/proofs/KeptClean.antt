@@ -1,23 +1,26 @@
 -- What is said of the lines that a faultless text leaves in the arrays is the judgement on the text.
 -- Assumes nothing.
 use Prim.Native.Nat.{ℕ, _≤_, _<_}
-use mathlib.Core.Path.{_≡_, sym, ap, _∙_, subst}
-use mathlib.Core.List.{List}
+use mathlib.Core.Path.{_≡_, refl, sym, ap, _∙_, subst}
+use mathlib.Core.List.{List, []}
 use borrow.Author.Tests.{ltb-true, ltb-false}
 use lib.Dec.{ltb}
 use lib.ListN.{length}
 use Rattle.laws.specs.Choice.{by-test}
 use Rattle.terms.specs.declared.refusals.Refusal.the-variants.{ShortOrder}
 use Rattle.terms.specs.Limits.{judgedJobs}
+use Rattle.verdicts.specs.HistoryText.{readingsOf}
 use Rattle.verdicts.specs.declared.verdict.Verdict.{Verdict}
 use Rattle.verdicts.specs.declared.verdict.Verdict.the-variants.{No}
-use Rattle.deciding.specs.Kept.{keptJudgement}
+use Rattle.deciding.specs.declared.kept.Found.the-variants.{Faultless as found-none}
+use Rattle.deciding.specs.Kept.{firstFault, keptJudgement}
 use Rattle.deciding.proofs.KeptLaws.{kept-short, kept-decided}
 use Rattle.judge.specs.declared.scan.Scanned.{Scanned}
 use Rattle.judge.specs.declared.scan.Scanned.the-variants.{Faultless}
-use Rattle.judge.specs.Scanned.{ScannedAs}
+use Rattle.judge.specs.Scanned.{Clean, ScannedAs}
 use Rattle.judge.specs.Judged.{JudgedAs}
-use Rattle.judge.proofs.Handing.{judged-short, clean-within, clean-named, judged-clean}
+use Rattle.judge.proofs.Handing.{judged-short, judged-clean}
+use Rattle.judge.proofs.KeptSound.{text-sound}
 
 module _ (text codes jobs cells buffer : List ℕ) (x : Scanned) (s : ScannedAs text codes jobs cells x) (n : ℕ) (said : Verdict) (after : List ℕ) (e : x ≡ Faultless n)
     (p : said ≡ keptJudgement codes jobs cells buffer n .said) (q : after ≡ keptJudgement codes jobs cells buffer n .order) where
@@ -31,7 +34,8 @@ module _ (text codes jobs cells buffer : List ℕ) (x : Scanned) (s : ScannedAs 
   -- for any other the lines decide, and none of them is refused
   kept-long-enough : judgedJobs ≤ length buffer → JudgedAs text buffer after (record { said = said; from = 0; to = 0 })
   kept-long-enough h =
-      let d = kept-decided codes jobs cells buffer n h (clean-within text codes jobs cells x s n e) (clean-named text codes jobs cells x s n e) in
+      let c : Clean text codes jobs cells n = subst (ScannedAs text codes jobs cells) e s in
+      let d = kept-decided codes jobs cells buffer n h found-none (sym (ap (firstFault 1 []) (c .says) ∙ text-sound (readingsOf text) (c .faultless))) refl in
       judged-clean text codes jobs cells buffer x h s n said after e (p ∙ ap (λ j. j .said) d) (q ∙ ap (λ j. j .order) d)
 
   -- the judge hands on what is said of the lines

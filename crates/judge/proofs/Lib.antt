@@ -7,6 +7,7 @@ pub mod Scanning
 pub mod FewLines
 pub mod SmallNumbers
 pub mod Handing
+pub mod KeptSound
 pub mod KeptClean
 pub mod Numbered
 pub mod JudgeUnique

@@ -14,16 +14,16 @@ use Rattle.deciding.proofs.edges.meets.Statement.{statement}
 use Rattle.deciding.proofs.edges.meets.Tie as tie
 
 abbrev Inv-loop : tie.InvT-loop
-Inv-loop codes cells xs ys found₀ i x k₀ found k = (k ≤ length ys) × (found ≡ false) × (meetsLater (clashing codes cells) x ys ≡ meetsLater (clashing codes cells) x (take k ys))
+Inv-loop codes jobs cells xs ys found₀ i x k₀ found k = (k ≤ length ys) × (found ≡ false) × (meetsLater (clashing codes jobs cells) x ys ≡ meetsLater (clashing codes jobs cells) x (take k ys))
 
 abbrev μ-loop : tie.MeasureT-loop
-μ-loop codes cells xs ys found₀ i x k₀ found k = k
+μ-loop codes jobs cells xs ys found₀ i x k₀ found k = k
 
 abbrev Inv-outer : tie.InvT-outer
-Inv-outer codes cells xs ys found₀ i₀ found i = (found ≡ false) × (meetings (clashing codes cells) xs ys ≡ meetings (clashing codes cells) (drop i xs) ys)
+Inv-outer codes jobs cells xs ys found₀ i₀ found i = (found ≡ false) × (meetings (clashing codes jobs cells) xs ys ≡ meetings (clashing codes jobs cells) (drop i xs) ys)
 
 abbrev μ-outer : tie.MeasureT-outer
-μ-outer codes cells xs ys found₀ i₀ found i = length xs - i
+μ-outer codes jobs cells xs ys found₀ i₀ found i = length xs - i
 
 outer-holds : tie.Need-outer-holds Inv-loop μ-loop Inv-outer μ-outer
 outer-holds c = (refl, refl)
