@@ -20,3 +20,4 @@ pub mod EndToEnd
 pub mod BadLines
 pub mod FromOne
 pub mod VerdictLine
+pub mod VerdictWords

@@ -7,4 +7,5 @@ pub mod Judgement
 pub mod Arrays
 pub mod LineTable
 pub mod Answers
+pub mod AsWorded
 pub mod Written
