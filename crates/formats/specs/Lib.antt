@@ -6,3 +6,4 @@ pub mod Lines
 pub mod GoodLine
 pub mod Fields
 pub mod Split
+pub mod Quoted

@@ -24,7 +24,8 @@ use Rattle.rules.specs.AnswerWords.{wordOf, numberBeside}
 use Rattle.runs.specs.Run.{answered, lineBy, runOf, wakeLines, answerLines, historyLines, written}
 use Rattle.verdicts.specs.VerdictLine.{sayLine, judgedLine, verdictOf}
 use Rattle.runs.specs.Programs.{runOn, answersOf, historyOf}
-use Rattle.samples.specs.Samples.{bytes, Sample, writes, samples}
+use Rattle.formats.specs.Quoted.{bytes}
+use Rattle.samples.specs.Samples.{Sample, writes, samples}
 
 -- every sample's program writes its output, given its input
 pub as-the-paper-says : map (λ (s : Sample). writes (s .program) (bytes (s .input))) samples ≡ map (λ (s : Sample). bytes (s .output)) samples

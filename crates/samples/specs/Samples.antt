@@ -1,15 +1,9 @@
 -- The paper's starred samples S1 to S9: program, input text, output text (01, Samples to hold it against).
 use Prim.Native.Nat.{ℕ}
-use Prim.Native.Char.{code}
-use Prim.Native.String.{String, [] as none, _∷_ as _then_}
+use Prim.Native.String.{String}
 use mathlib.Core.List.{List, [], _∷_}
 use Rattle.verdicts.specs.VerdictLine.{verdictOf}
 use Rattle.runs.specs.Programs.{answersOf, historyOf}
-
--- the bytes of a quoted text
-unfoldable pub bytes : String → List ℕ
-bytes none = []
-bytes (c then s) = code c ∷ bytes s
 
 -- the three programs (01, What is delivered)
 pub data Program : Type 0 where

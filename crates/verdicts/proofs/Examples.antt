@@ -1,4 +1,5 @@
--- Four histories, computed: the empty one, one with a k and a committed job without actions, a walk that starts off its cycle, and a knot of three that shows the direction.
+-- Histories, computed: the empty one, one with a k and a committed job without actions, a walk that starts off its cycle, a knot of three that shows the direction,
+-- and where there is a choice: an order behind two predecessors, a job with two remaining predecessors, and two cycles.
 -- Assumes nothing.
 use Prim.Native.Nat.{ℕ}
 use mathlib.Core.Path.{_≡_, refl}
@@ -54,21 +55,36 @@ off-cycle = w 7 2 ∷ r 1 2 ∷ r 3 A ∷ r 7 A ∷ w 3 A ∷ w 7 A ∷ r 3 4 �
 abbrev three-round : History
 three-round = w 3 0 ∷ w 5 0 ∷ w 5 1 ∷ w 2 1 ∷ w 2 2 ∷ w 3 2 ∷ c 5 ∷ c 3 ∷ c 2 ∷ []
 
--- a history and the verdict on it
+-- 3 and then 2 give to 1, and 4 is free: at each place the smallest whose predecessors all stand, so 1 stands as soon as both do, and before 4
+abbrev two-ahead : History
+two-ahead = w 3 A ∷ r 2 B ∷ w 1 A ∷ w 1 B ∷ r 4 2 ∷ c 4 ∷ c 3 ∷ c 1 ∷ c 2 ∷ []
+
+-- 1 and 2 give to each other, and so do 1 and 3: of the two remaining predecessors of 1 the walk takes 2
+abbrev two-predecessors : History
+two-predecessors = w 1 0 ∷ w 3 0 ∷ w 3 1 ∷ w 1 1 ∷ w 1 2 ∷ w 2 2 ∷ w 2 3 ∷ w 1 3 ∷ c 3 ∷ c 2 ∷ c 1 ∷ []
+
+-- 2 and 3 give to each other, and later 1 and 4 do: of the two cycles the walk finds that of the smallest job
+abbrev two-cycles : History
+two-cycles = w 2 0 ∷ w 3 0 ∷ w 3 1 ∷ w 2 1 ∷ c 2 ∷ c 3 ∷ w 1 2 ∷ w 4 2 ∷ w 4 3 ∷ w 1 3 ∷ c 4 ∷ c 1 ∷ []
+
+-- a history and what is found of it
 pub record Sample : Type 0 where
   pub history : History
-  pub verdict : Finding
+  pub finding : Finding
 
 -- the samples
 abbrev pub samples : List Sample
 samples =
-    record { history = []; verdict = orderly [] }
-    ∷ record { history = sent-back; verdict = orderly (2 ∷ 1 ∷ 9 ∷ []) }
-    ∷ record { history = off-cycle; verdict = knotted (3 ∷ 7 ∷ []) }
-    ∷ record { history = three-round; verdict = knotted (2 ∷ 3 ∷ 5 ∷ []) }
+    record { history = []; finding = orderly [] }
+    ∷ record { history = sent-back; finding = orderly (2 ∷ 1 ∷ 9 ∷ []) }
+    ∷ record { history = off-cycle; finding = knotted (3 ∷ 7 ∷ []) }
+    ∷ record { history = three-round; finding = knotted (2 ∷ 3 ∷ 5 ∷ []) }
+    ∷ record { history = two-ahead; finding = orderly (2 ∷ 3 ∷ 1 ∷ 4 ∷ []) }
+    ∷ record { history = two-predecessors; finding = knotted (1 ∷ 2 ∷ []) }
+    ∷ record { history = two-cycles; finding = knotted (1 ∷ 4 ∷ []) }
     ∷ []
 
 -- each is judged so
-pub tried : map (λ s. findingOf (s .history)) samples ≡ map (λ s. s .verdict) samples
+pub tried : map (λ s. findingOf (s .history)) samples ≡ map (λ s. s .finding) samples
 unfolding member agree conflicts keep touches edge isCommit isBack marked partOf committedPart put commitOrder preceded first ready without ends leads taken orderOf stuck predecessor upTo from walk least turnTo turn knotIn findingBy judged insert sorted jobsOf findingOf
 tried = refl

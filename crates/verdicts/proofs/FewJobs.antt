@@ -3,19 +3,16 @@
 use Prim.Native.Nat.{ℕ, zero, suc, _-_, _≤_, _<_}
 use mathlib.Core.Path.{_≡_, refl, sym, ap, _∙_, subst}
 use mathlib.Core.Logic.{_≢_}
-use mathlib.Core.Bool.{Bool, true, false, not, _&&_}
+use mathlib.Core.Bool.{true, false, not, _&&_}
 use mathlib.Core.List.{List, [], _∷_, _++_}
-use mathlib.Core.Option.{Option, none, some}
 use native.Mathlib.Omega.{arith}
 use lib.Dec.{leb}
 use lib.ListN.{length, getD}
 use borrow.Author.Tests.{eqb-true, eqb-false, leb-true, not-false}
-use Rattle.laws.specs.Choice.{pick, by-test, not-both}
+use Rattle.laws.specs.Choice.{by-test, not-both}
 use Rattle.laws.specs.Lists.{same, member, distinct}
 use Rattle.laws.proofs.Parts.{and-first, and-second, or-either}
 use Rattle.terms.specs.declared.letters.Letter.the-variants.{Begin, Commit, GiveUp, Retry, Back, Asks}
-use Rattle.terms.specs.declared.refusals.Refusal.{Refusal}
-use Rattle.terms.specs.declared.refusals.Refusal.the-variants.{BadLine, CellAbove, TooManyLines, JobOutside, Ended}
 use Rattle.terms.specs.Limits.{judgedJobs}
 use Rattle.conflict.specs.declared.action.Mark.{Mark}
 use Rattle.conflict.specs.declared.action.Mark.the-variants.{Commit as commits, GiveUp as gives-up, Back as goes-back}
@@ -25,7 +22,8 @@ use Rattle.conflict.proofs.OneEvent.{marked-none, marked-does, marked-ends}
 use Rattle.formats.specs.declared.Reading.{Reading}
 use Rattle.formats.specs.declared.Reading.the-variants.{Good, Bad}
 use Rattle.verdicts.specs.HistoryText.{eventOf, eventsIn}
-use Rattle.verdicts.specs.LineTable.{tooMany, isBad, outside, above, overAlready, holds, order, firstOf, tableSays, readingAt, linesBefore, AllFaultless}
+use Rattle.verdicts.specs.LineTable.{outside, readingAt, linesBefore, AllFaultless}
+use Rattle.verdicts.proofs.CleanLines.{clean-line}
 use Rattle.verdicts.proofs.Walking.{no-more}
 
 -- the numbers from n down to 1
@@ -51,32 +49,8 @@ pub at-most-255 : (js : List ℕ) → distinct js ≡ true → ((j : ℕ) → me
 at-most-255 js d within =
     omega (arith, no-more js (countdown judgedJobs) d (λ j m. counted judgedJobs j (within j m .0) (within j m .1)), counted-length judgedJobs)
 
--- a row that is first of those that are left and of which none holds does not hold, and none of the others does
-pick-none : (b : Bool) (x : Refusal) (rest : Option Refusal) → pick b (some x) rest ≡ none → (b ≡ false) × (rest ≡ none)
-pick-none true x rest e = let z : _≡_ {A = ℕ} 0 1 = cc in absurd (omega arith)
-pick-none false x rest e = (refl, e)
-
--- no row holds of a faultless line
-pub record Clean (n : ℕ) (before : List Reading) (r : Reading) : Type 0 where
-  pub few : tooMany n ≡ false
-  pub good : isBad r ≡ false
-  pub inside : outside r ≡ false
-  pub below : above r ≡ false
-  pub open′ : overAlready before r ≡ false
-
--- where the table says nothing, each row by itself does not hold
-pub clean-line : (n : ℕ) (before : List Reading) (r : Reading) → tableSays n before r ≡ none → Clean n before r
-unfolding tableSays firstOf holds order
-clean-line n before r e =
-    let p = pick-none (tooMany n) TooManyLines _ e in
-    let q = pick-none (isBad r) BadLine _ (p .1) in
-    let s = pick-none (outside r) JobOutside _ (q .1) in
-    let t = pick-none (above r) CellAbove _ (s .1) in
-    let u = pick-none (overAlready before r) Ended _ (t .1) in
-    record { few = p .0; good = q .0; inside = s .0; below = t .0; open′ = u .0 }
-
 -- a job that is not outside is 1 to 255
-not-outside : (job : ℕ) → not (leb 1 job && leb job judgedJobs) ≡ false → (1 ≤ job) × (job ≤ judgedJobs)
+pub not-outside : (job : ℕ) → not (leb 1 job && leb job judgedJobs) ≡ false → (1 ≤ job) × (job ≤ judgedJobs)
 not-outside job e =
     let both : (leb 1 job && leb job judgedJobs) ≡ true = not-false (leb 1 job && leb job judgedJobs) e in
     (leb-true 1 job (and-first (leb 1 job) (leb job judgedJobs) both), leb-true job judgedJobs (and-second (leb 1 job) (leb job judgedJobs) both))

@@ -6,7 +6,6 @@ use mathlib.Core.Logic.{_↔_}
 use mathlib.Core.List.{List}
 use native.Mathlib.Omega.{arith}
 use lib.ListN.{length}
-use Rattle.terms.specs.Limits.{judgedJobs}
 use Rattle.conflict.specs.Schedule.{ConflictSerializable, edge}
 use Rattle.conflict.specs.History.{History, committedPart}
 use Rattle.verdicts.specs.declared.verdict.Verdict.the-variants.{Orderly, Knot}
@@ -39,14 +38,14 @@ order-only h before after n o two s = smallest-first-unique (edge (committedPart
 
 module _ (text buffer : List ℕ) where
   -- the cases of an answer that is orderly
-  order-case : (j : Judgement) → Answers text buffer j → (n : ℕ) → j .said ≡ Orderly n → (judgedJobs ≤ length buffer) × AllFaultless (readingsOf text) × InOrder (eventsIn (readingsOf text)) buffer (j .order) n
+  order-case : (j : Judgement) → Answers text buffer j → (n : ℕ) → j .said ≡ Orderly n → (255 ≤ length buffer) × AllFaultless (readingsOf text) × InOrder (eventsIn (readingsOf text)) buffer (j .order) n
   order-case j (short h) n e = let z : _≡_ {A = ℕ} 0 1 = cc in absurd (omega arith)
   order-case j (faulty room f s) n e = let z : _≡_ {A = ℕ} 0 1 = cc in absurd (omega arith)
   order-case j (in-order {n = m} {after = after} room all o) n e = let q : m ≡ n = cc in (room, all, rw (← q) o)
   order-case j (in-knot room all k) n e = let z : _≡_ {A = ℕ} 0 1 = cc in absurd (omega arith)
 
   -- the cases of an answer that is a knot
-  knot-case : (j : Judgement) → Answers text buffer j → (n : ℕ) → j .said ≡ Knot n → (judgedJobs ≤ length buffer) × AllFaultless (readingsOf text) × InKnot (eventsIn (readingsOf text)) buffer (j .order) n
+  knot-case : (j : Judgement) → Answers text buffer j → (n : ℕ) → j .said ≡ Knot n → (255 ≤ length buffer) × AllFaultless (readingsOf text) × InKnot (eventsIn (readingsOf text)) buffer (j .order) n
   knot-case j (short h) n e = let z : _≡_ {A = ℕ} 0 1 = cc in absurd (omega arith)
   knot-case j (faulty room f s) n e = let z : _≡_ {A = ℕ} 0 1 = cc in absurd (omega arith)
   knot-case j (in-order room all o) n e = let z : _≡_ {A = ℕ} 0 1 = cc in absurd (omega arith)
@@ -54,15 +53,15 @@ module _ (text buffer : List ℕ) where
 
   -- orderly is said only of a faultless text, and then a serial order of its committed jobs, each once, smallest first, fills the buffer's first places; the length said is its, at most 255
   pub orderly-said : (n : ℕ) → judgementOf text buffer .said ≡ Orderly n →
-      (judgedJobs ≤ length buffer) × AllFaultless (readingsOf text) × InOrder (eventsIn (readingsOf text)) buffer (judgementOf text buffer .order) n
+      (255 ≤ length buffer) × AllFaultless (readingsOf text) × InOrder (eventsIn (readingsOf text)) buffer (judgementOf text buffer .order) n
   orderly-said n e = order-case (judgementOf text buffer) (answers text buffer) n e
 
   -- a knot is said only of a faultless text, and then a knot of conflicts between committed jobs, none twice, from its smallest, fills the buffer's first places; the length said is its, at most 255
   pub knot-said : (n : ℕ) → judgementOf text buffer .said ≡ Knot n →
-      (judgedJobs ≤ length buffer) × AllFaultless (readingsOf text) × InKnot (eventsIn (readingsOf text)) buffer (judgementOf text buffer .order) n
+      (255 ≤ length buffer) × AllFaultless (readingsOf text) × InKnot (eventsIn (readingsOf text)) buffer (judgementOf text buffer .order) n
   knot-said n e = knot-case (judgementOf text buffer) (answers text buffer) n e
 
-  module _ (room : judgedJobs ≤ length buffer) (all : AllFaultless (readingsOf text)) where
+  module _ (room : 255 ≤ length buffer) (all : AllFaultless (readingsOf text)) where
     -- a faultless text is answered by orderly or by a knot
     by-answer : {P : Type 0} (j : Judgement) → Answers text buffer j → ((n : ℕ) → j .said ≡ Orderly n → InOrder (eventsIn (readingsOf text)) buffer (j .order) n → P) →
         ((n : ℕ) → j .said ≡ Knot n → InKnot (eventsIn (readingsOf text)) buffer (j .order) n → P) → P

@@ -11,7 +11,6 @@ use lib.ListN.{length, take, drop}
 use Rattle.laws.specs.Choice.{by-test}
 use Rattle.terms.specs.declared.refusals.Refusal.{Refusal}
 use Rattle.terms.specs.declared.refusals.Refusal.the-variants.{ShortOrder}
-use Rattle.terms.specs.Limits.{judgedJobs}
 use Rattle.formats.specs.declared.Reading.{Reading}
 use Rattle.verdicts.specs.declared.verdict.Verdict.the-variants.{No}
 use Rattle.verdicts.specs.HistoryText.{readingsOf}
@@ -26,8 +25,8 @@ use Rattle.verdicts.proofs.LineBack.{bare-stands, stands-behind}
 module _ (text buffer : List ℕ) where
   -- a refusal said is 14 for a short buffer, or the one that is due for the first faulty line, handed back; the buffer stays
   refused-cases : {P : Type 0} (j : Judgement) → Answers text buffer j → (n : ℕ) (why : Refusal) → j .said ≡ No n why →
-      (n ≡ 0 → why ≡ ShortOrder → length buffer < judgedJobs → j .line ≡ [] → j .order ≡ buffer → P) →
-      (judgedJobs ≤ length buffer → FirstFault (readingsOf text) n why → Stands text n (j .line) → j .order ≡ buffer → P) → P
+      (n ≡ 0 → why ≡ ShortOrder → length buffer < 255 → j .line ≡ [] → j .order ≡ buffer → P) →
+      (255 ≤ length buffer → FirstFault (readingsOf text) n why → Stands text n (j .line) → j .order ≡ buffer → P) → P
   refused-cases j (short h) n why e one′ two′ = one′ (cc) (cc) h refl refl
   refused-cases j (faulty {n = m} {why = x} {line = l} room f s) n why e one′ two′ =
       let p : m ≡ n = cc in
@@ -37,7 +36,7 @@ module _ (text buffer : List ℕ) where
   refused-cases j (in-knot room all k) n why e one′ two′ = let z : _≡_ {A = ℕ} 0 1 = cc in absurd (omega arith)
 
   -- refusal 14, with line number 0, is given exactly where the buffer has fewer than 255 places, whatever the text is
-  pub short-exactly : (judgementOf text buffer .said ≡ No 0 ShortOrder) ↔ (length buffer < judgedJobs)
+  pub short-exactly : (judgementOf text buffer .said ≡ No 0 ShortOrder) ↔ (length buffer < 255)
   short-exactly = (
     λ e. refused-cases (judgementOf text buffer) (answers text buffer) 0 ShortOrder e (λ n w h l o. h) (λ room f s o. let one : 1 ≤ 0 = f .from in absurd (omega arith)),
     λ h. ap (λ j. j .said) (answers-exactly text buffer _ .0 (short h)),
@@ -49,7 +48,7 @@ module _ (text buffer : List ℕ) where
       refused-cases (judgementOf text buffer) (answers text buffer) 0 why e (λ n w h l o. w) (λ room f s o. let one : 1 ≤ 0 = f .from in absurd (omega arith))
 
   -- a line is refused exactly where the buffer has its 255 places, the lines before it are faultless, and the refusal is the first of 11, 9, 12, 2, 13 whose row holds for it
-  pub refused-exactly : (n : ℕ) (why : Refusal) → 1 ≤ n → (judgementOf text buffer .said ≡ No n why) ↔ ((judgedJobs ≤ length buffer) × FirstFault (readingsOf text) n why)
+  pub refused-exactly : (n : ℕ) (why : Refusal) → 1 ≤ n → (judgementOf text buffer .said ≡ No n why) ↔ ((255 ≤ length buffer) × FirstFault (readingsOf text) n why)
   refused-exactly n why h = (
     λ e. refused-cases (judgementOf text buffer) (answers text buffer) n why e (λ z w g l o. absurd (omega arith)) (λ room f s o. (room, f)),
     λ g. ap (λ j. j .said) (answers-exactly text buffer _ .0 (faulty (g .0) (g .1) (bare-stands text n (g .1 .from) (g .1 .to)))),

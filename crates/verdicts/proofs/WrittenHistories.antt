@@ -24,6 +24,7 @@ use Rattle.verdicts.specs.HistoryText.{readingsOf, eventsIn}
 use Rattle.verdicts.specs.Judgement.{judgementOf}
 use Rattle.verdicts.specs.LineTable.{outside, holds, order, firstOf, tableSays, holdsAt, AllFaultless}
 use Rattle.formats.specs.EventRecords.{eventLine, textOf, within, allWithin}
+use Rattle.verdicts.proofs.CleanLines.{no-row}
 use Rattle.verdicts.proofs.JudgedTexts.{orderly-said-exactly}
 use Rattle.formats.proofs.EventsRead.{action-within, mark-within, within-more, reads-action, reads-mark, text-short}
 use Rattle.verdicts.proofs.RecordsSay.{records-say}
@@ -45,11 +46,6 @@ lines-inside h w n from to =
 few-lines : (ls : List Reading) (n : ℕ) → n ≤ judgedLines → holdsAt ls n TooManyLines ≡ false
 unfolding holds
 few-lines ls n h = ne-eqb n (suc judgedLines) (omega arith)
-
--- where none of the rows holds the table says nothing
-no-row : (f : Refusal → Bool) → f TooManyLines ≡ false → f BadLine ≡ false → f JobOutside ≡ false → f CellAbove ≡ false → f Ended ≡ false → firstOf f order ≡ none
-unfolding firstOf order
-no-row f a b c d e = rw (a, b, c, d, e)
 
 -- the lines of the text say the history
 pub written-says : (h : History) → allWithin lastNumber h ≡ true → eventsIn (readingsOf (textOf h)) ≡ h

@@ -9,3 +9,4 @@ pub mod LineTable
 pub mod Answers
 pub mod KeepsLimits
 pub mod VerdictLine
+pub mod AsWorded
