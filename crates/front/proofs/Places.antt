@@ -1,77 +1,75 @@
--- Where the clerk's work comes to: the place after the records lies within the buffer, and a place in the chunk is left behind where there is room.
+-- Where a call of the work comes to, and where a chunk and a text do, call after call and chunk after chunk.
 -- Assumes nothing.
-use Prim.Native.Nat.{ℕ, zero, suc, _+_, _≤_, _<_}
-use mathlib.Core.Path.{_≡_}
-use mathlib.Core.Bool.{true}
-use mathlib.Core.List.{List}
+use Prim.Native.Nat.{ℕ, _+_, _-_, _≤_, _<_}
+use mathlib.Core.Path.{_≡_, refl, sym, ap, _∙_}
+use mathlib.Core.Bool.{true, false, not}
+use mathlib.Core.List.{List, [], _++_}
 use native.Mathlib.Omega.{arith}
-use lib.Dec.{ltb}
-use lib.ListN.{length, length-append, length-take}
-use borrow.Author.Tests.{lt-ltb, le-leb, ltb-true}
-use Rattle.laws.specs.Choice.{by-test}
-use Rattle.formats.specs.Split.{cutOf}
-use Rattle.formats.specs.Wrote.{putFrom}
-use Rattle.formats.proofs.Cuts.{cut-ahead}
+use lib.ListN.{length, take, drop, length-append, length-take}
+use lib.Seq.{take-add, take-all}
+use borrow.Author.Tests.{le-leb}
+use Rattle.laws.specs.Choice.{by-test, not-both}
 use Rattle.runs.specs.declared.Clerk.{Clerk}
 use Rattle.runs.specs.declared.View.{View}
 use Rattle.runs.specs.declared.Worked.{Worked}
 use Rattle.runs.specs.declared.Finished.{Finished}
-use Rattle.runs.specs.Work.{lineRoom, viewed, unended, roomy, due, owing, answering, turning, cutting, stopped, workBy, workOf, finishOf}
+use Rattle.runs.specs.Work.{startedClerk, lineRoom, viewed, unended, roomy, owing, workOf, finishOf}
+use Rattle.runs.specs.Tellings.{clerkAfter}
+use Rattle.formats.specs.Split.{part}
+use Rattle.formats.specs.Wrote.{putFrom}
+use Rattle.runs.proofs.Records.{clerk-append, clerk-none}
+use Rattle.runs.proofs.Progress.{call-used, call-moved}
+use Rattle.runs.proofs.AnyCourse.{call-did}
+use Rattle.front.specs.declared.Served.{Served}
+use Rattle.front.specs.Serving.{Turned, Serves, Saw}
+
+-- a call from the buffer's first byte on, with room for a line and a byte to work on
+pub call-turned : (view : View) (c : Clerk) (chunk : List ℕ) (from : ℕ) (out : List ℕ) {w : Worked} {after : List ℕ} → from < length chunk → lineRoom ≤ length out →
+    w ≡ workOf view c chunk from out 0 .worked → after ≡ workOf view c chunk from out 0 .out → Turned view c chunk from w after
+unfolding roomy
+call-turned view c chunk from out {w} {after} h l e f =
+    let d = call-did view c chunk from out 0 (omega arith) in
+    let on : from < workOf view c chunk from out 0 .worked .next =
+    by-test (workOf view c chunk from out 0 .worked .full) (call-moved view c chunk from out 0 (omega arith) (le-leb (0 + lineRoom) (length out) (omega arith)))
+    (λ n. let u = call-used view c chunk from out 0 n in omega arith) in
+    rw (e, f) (record { ahead = on; within = d .within; clerk = d .clerk; records = d .text })
+
+-- the bytes of a chunk up to a place, and from there on up to another
+up-to : (chunk : List ℕ) (from to : ℕ) → from ≤ to → take from chunk ++ part chunk from to ≡ take to chunk
+up-to chunk from to h = let e : from + (to - from) ≡ to = omega arith in sym (take-add from (to - from) chunk) ∙ ap (λ n. take n chunk) e
+
+-- a clerk who has seen a chunk up to a place has, after a call, seen it up to the place told
+pub seen-more : (c : Clerk) {view : View} {k : Clerk} {chunk out : List ℕ} {from : ℕ} {w : Worked} → k ≡ clerkAfter c (take from chunk) → Turned view k chunk from w out → w .clerk ≡ clerkAfter c (take (w .next) chunk)
+seen-more c {chunk = chunk} {from = from} {w = w} e t =
+    let h = t .ahead in
+    t .clerk ∙ ap (λ x. clerkAfter x (part chunk from (w .next))) e ∙ sym (clerk-append c (take from chunk) (part chunk from (w .next))) ∙ ap (clerkAfter c) (up-to chunk from (w .next) (omega arith))
+
+-- output that is not taken ends the work there
+pub serves-some : {c k : Clerk} {chunk : List ℕ} {from : ℕ} → k ≡ clerkAfter c (take from chunk) → Serves c chunk (record { clerk = k; seen = from; taken = false })
+serves-some e = record { some = e; all = λ t. not-both t refl }
+
+-- at the chunk's end the clerk has seen it all
+pub serves-all : {c k : Clerk} {chunk : List ℕ} {from : ℕ} → k ≡ clerkAfter c (take from chunk) → length chunk ≤ from → Serves c chunk (record { clerk = k; seen = from; taken = true })
+serves-all {c} {chunk = chunk} {from} e h = record { some = e; all = λ t. e ∙ ap (clerkAfter c) (take-all from chunk h) }
+
+-- a clerk who has seen a text and then bytes has seen the text with them
+saw-on : {c k : Clerk} (s : Saw c) (bytes : List ℕ) → k ≡ clerkAfter c bytes → Saw k
+saw-on s bytes e = record { text = s .text ++ bytes; clerk = e ∙ ap (λ x. clerkAfter x bytes) (s .clerk) ∙ sym (clerk-append startedClerk (s .text) bytes) }
+
+-- a clerk at the start has seen nothing
+pub saw-none : {c : Clerk} → c ≡ startedClerk → Saw c
+saw-none e = record { text = []; clerk = e ∙ sym (clerk-none startedClerk) }
+
+-- after a chunk he has seen it too, all of it or as far as output was taken
+pub saw-chunk : {c : Clerk} {chunk : List ℕ} {s : Served} → Saw c → Serves c chunk s → not (s .taken) ≡ false → Saw (s .clerk)
+saw-chunk {chunk = chunk} {s} w t e = by-test (s .taken) (λ y. saw-on w chunk (t .all y)) (λ n. not-both (ap not n) e)
+
+pub saw-part : {c : Clerk} {chunk : List ℕ} {s : Served} → Saw c → Serves c chunk s → Saw (s .clerk)
+saw-part {chunk = chunk} {s} w t = saw-on w (take (s .seen) chunk) (t .some)
 
 -- bytes that are put into a buffer end within it
 put-within : (out bytes : List ℕ) (at : ℕ) → at ≤ length out → at + length bytes ≤ length (putFrom out at bytes)
 put-within out bytes at h = simp (length-append, length-take) (omega arith)
-
--- so do the records of a line
-turn-within : (view : View) (c : Clerk) (out : List ℕ) (at : ℕ) → at ≤ length out → turning view c out at .at ≤ length (turning view c out at .out)
-unfolding turning answering
-turn-within view c out at h = by-test (due (c .splitter)) (λ e. rw e (put-within out _ at h)) (λ e. rw e h)
-
--- and those of a chunk, by turns
-turns-within : (n : ℕ) (view : View) (c : Clerk) (chunk : List ℕ) (from : ℕ) (out : List ℕ) (at : ℕ) → at ≤ length out →
-    workBy n view c chunk from out at .worked .at ≤ length (workBy n view c chunk from out at .out)
-unfolding workBy stopped
-turns-within zero view c chunk from out at h = h
-turns-within (suc n) view c chunk from out at h =
-    let t = turning view (cutting c chunk from) out at in
-    by-test (ltb from (length chunk))
-    (λ e. by-test (roomy out at)
-    (λ f. rw (e, f) (turns-within n view (t .clerk) chunk (cutOf (c .splitter) chunk from .next) (t .out) (t .at) (turn-within view (cutting c chunk from) out at h)))
-    (λ f. rw (e, f) h))
-    (λ e. rw e h)
-
--- no turn goes back in the chunk
-turns-ahead : (n : ℕ) (view : View) (c : Clerk) (chunk : List ℕ) (from : ℕ) (out : List ℕ) (at : ℕ) → from ≤ workBy n view c chunk from out at .worked .next
-unfolding workBy stopped
-turns-ahead zero view c chunk from out at = omega arith
-turns-ahead (suc n) view c chunk from out at =
-    let t = turning view (cutting c chunk from) out at in
-    by-test (ltb from (length chunk))
-    (λ e. by-test (roomy out at)
-    (λ f. rw (e, f) (omega (arith, cut-ahead (c .splitter) chunk from (ltb-true from (length chunk) e) .0, turns-ahead n view (t .clerk) chunk (cutOf (c .splitter) chunk from .next) (t .out) (t .at))))
-    (λ f. rw (e, f) (omega arith)))
-    (λ e. rw e (omega arith))
-
--- where there is room and a byte is left, the work goes on at least one byte
-first-ahead : (n : ℕ) (view : View) (c : Clerk) (chunk : List ℕ) (from : ℕ) (out : List ℕ) (at : ℕ) → 0 < n → from < length chunk → roomy out at ≡ true →
-    from < workBy n view c chunk from out at .worked .next
-unfolding workBy
-first-ahead zero view c chunk from out at p h f = absurd (omega arith)
-first-ahead (suc n) view c chunk from out at p h f =
-    let t = turning view (cutting c chunk from) out at in
-    rw (lt-ltb from (length chunk) h, f)
-    (omega (arith, cut-ahead (c .splitter) chunk from h .0, turns-ahead n view (t .clerk) chunk (cutOf (c .splitter) chunk from .next) (t .out) (t .at)))
-
-module _ (view : View) (c : Clerk) (chunk : List ℕ) (from : ℕ) (out : List ℕ) where
-  -- the records that work from the buffer's first byte on has written end within the buffer
-  pub records-within : (w : Worked) (after : List ℕ) → w ≡ workOf view c chunk from out 0 .worked → after ≡ workOf view c chunk from out 0 .out → w .at ≤ length after
-  unfolding workOf
-  records-within w after e f = rw (e, f) (turns-within (length chunk) view c chunk from out 0 (omega arith))
-
-  -- work from the buffer's first byte on leaves its place in the chunk behind
-  pub work-ahead : (w : Worked) → w ≡ workOf view c chunk from out 0 .worked → from < length chunk → lineRoom ≤ length out → from < w .next
-  unfolding workOf roomy
-  work-ahead w e h l = rw e (first-ahead (length chunk) view c chunk from out 0 (omega arith) h (le-leb (0 + lineRoom) (length out) (omega arith)))
 
 -- the record that the end of the input has written ends within the buffer
 pub last-within : (view : View) (c : Clerk) (out : List ℕ) (f : Finished) (after : List ℕ) → f ≡ finishOf view c out 0 .finished → after ≡ finishOf view c out 0 .out → f .at ≤ length after

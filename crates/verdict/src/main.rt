@@ -5,9 +5,11 @@ use libc::STDOUT_FILENO;
 use reporter::verdict::verdict_line;
 use terms::limits::JUDGED_BYTES;
 ghost use mathlib.Core.Path.{_≡_};
-ghost use Prim.Native.Nat.{_≤_};
+ghost use Prim.Native.Nat.{_+_, _≤_};
 ghost use lib.ListN.{length, take};
+ghost use Rattle.terms.specs.Limits.{judgedBytes};
 ghost use Rattle.verdicts.specs.VerdictLine.{verdictOf, lineLimit};
+ghost use Rattle.verdict.specs.Taking.{fitting, kept, Took, Judges};
 
 // One byte more than a text may have is enough of a longer one.
 const READ: usize = JUDGED_BYTES + 1;
@@ -15,6 +17,12 @@ const READ: usize = JUDGED_BYTES + 1;
 // How many bytes of the text were read, and whether the input came to its end or to a text that is too long: no read failed.
 struct Taken {
     len: usize,
+    whole: bool,
+}
+
+// Where the line on what was read ends, and whether no read failed.
+struct Judged {
+    next: usize,
     whole: bool,
 }
 
@@ -32,7 +40,7 @@ fn put_line(text: &[u8], out: &mut [u8]) -> usize
 // A chunk's bytes kept behind those that are, as far as there is room for them, and how many there are then.
 fn keep(text: &mut [u8], before: usize, chunk: &[u8]) -> usize
     requires { ⌜ before ≤ length (now text) ⌝ }
-    ensures { λ r. ⌜ r ≤ length (now (text .exit)) ⌝ }
+    ensures { λ r. ⌜ (r ≡ before + fitting (now (text .entry)) before (now (chunk .entry))) × (now (text .exit) ≡ kept (now (text .entry)) before (now (chunk .entry))) ⌝ }
 {
     let mut len = before;
     let mut i = 0;
@@ -49,7 +57,7 @@ fn keep(text: &mut [u8], before: usize, chunk: &[u8]) -> usize
 
 // Reads until the input ends or the text's buffer is full. Nothing says that input ends, so the loop counts down from a number of turns that no run uses up.
 fn take_all(input: &mut [u8], text: &mut [u8]) -> Taken
-    ensures { λ r. ⌜ r .len ≤ length (now (text .exit)) ⌝ }
+    ensures { λ r. ⌜ Took (now (text .entry)) (now (text .exit)) (r .len) ⌝ }
 {
     let mut len = 0;
     let mut turns = u64::MAX;
@@ -71,17 +79,36 @@ fn take_all(input: &mut [u8], text: &mut [u8]) -> Taken
     Taken { len, whole: false }
 }
 
-// Writes out the line on what was read. Where a read fails there is no text to judge, and nothing is written: no verdict on half a history.
-fn report(input: &mut [u8], text: &mut [u8], out: &mut [u8])
-    requires { ⌜ lineLimit ≤ length (now out) ⌝ }
+// The line on all that was read. Where a read fails there is no text to judge, and there is no line: no verdict on half a history.
+fn judge_all(input: &mut [u8], text: &mut [u8], out: &mut [u8]) -> Judged
+    requires { ⌜ (length (now text) ≡ judgedBytes + 1) × (lineLimit ≤ length (now out)) ⌝ }
+    ensures { λ r. ⌜ Judges (now (out .exit)) (r .next) (r .whole) ⌝ }
 {
     let taken = take_all(input, text);
     if !taken.whole {
-        return;
+        return Judged {
+            next: 0,
+            whole: false,
+        };
     }
     let n = taken.len;
     let next = put_line(&text[0..n], out);
-    io::write_all(STDOUT_FILENO, &out[0..next]);
+    Judged { next, whole: true }
+}
+
+// Writes out the line on what was read, and says on standard error what failed.
+fn report(input: &mut [u8], text: &mut [u8], out: &mut [u8])
+    requires { ⌜ (length (now text) ≡ judgedBytes + 1) × (lineLimit ≤ length (now out)) ⌝ }
+{
+    let judged = judge_all(input, text, out);
+    if !judged.whole {
+        os::fail(b"verdict: cannot read");
+        return;
+    }
+    let next = judged.next;
+    if !io::write_all(STDOUT_FILENO, &out[0..next]) {
+        os::fail(b"verdict: cannot write");
+    }
 }
 
 fn main() {

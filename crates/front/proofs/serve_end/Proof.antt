@@ -11,11 +11,20 @@ finish-requires c κs = search needs
 put-out-requires : tie.Need-put-out-requires
 put-out-requires c κs = let f = c .before .before .before .finish in last-within _ _ _ _ _ (f .ensures .0) (f .ensures .1)
 
+say-untaken-requires : tie.Need-say-untaken-requires
+say-untaken-requires c κs = search needs
+
 same-length : tie.Need-same-length
 same-length c = search needs
 
 returns : tie.Need-returns
 returns c = search needs
 
+same-length-2 : tie.Need-same-length-2
+same-length-2 c = search needs
+
+returns-2 : tie.Need-returns-2
+returns-2 c = search needs
+
 pub serve-end-spec : {M : Type 1} → statement M
-serve-end-spec = tie.close (tie.spec finish-requires put-out-requires same-length returns)
+serve-end-spec = tie.close (tie.spec finish-requires put-out-requires say-untaken-requires same-length returns same-length-2 returns-2)

@@ -1,20 +1,24 @@
--- `verdict::take_all` is safe and ends. The loop's invariant: what is kept lies within its buffer, and both buffers keep their lengths.
+-- `verdict::take_all` meets its contract. The loop's invariant: the first bytes of what was read so far are kept, as far as there is room, and both buffers keep their lengths.
 -- The measure is the number of turns that are left. Assumes nothing.
 use Prim.Native.Nat.{_≤_}
 use mathlib.Core.Path.{_≡_}
 use borrow.Author.Needs.{needs}
 use lib.ListN.{length}
+use native.Mathlib.Omega.{arith}
+use Rattle.verdict.specs.Taking.{Took}
+use Rattle.verdict.proofs.Keeping.{took-none, took-more, took-within}
 use Rattle.verdict.proofs.take_all.Statement.{statement}
 use Rattle.verdict.proofs.take_all.Tie as tie
 
 abbrev Inv-loop : tie.InvT-loop
-Inv-loop input₀ text₀ len₀ turns₀ input text len turns = (len ≤ length text) × (length text ≡ length text₀) × (length input ≡ length input₀)
+Inv-loop input₀ text₀ len₀ turns₀ input text len turns =
+    (Took text₀ text len) × (len ≤ length text) × (length text ≡ length text₀) × (length input ≡ length input₀)
 
 abbrev μ-loop : tie.MeasureT-loop
 μ-loop input₀ text₀ len₀ turns₀ input text len turns = turns
 
 loop-holds : tie.Need-loop-holds Inv-loop μ-loop
-loop-holds c = search needs
+loop-holds c = (took-none _, omega arith, search needs, search needs)
 
 same-length : tie.Need-same-length Inv-loop μ-loop
 same-length c = search needs
@@ -23,7 +27,7 @@ same-length-2 : tie.Need-same-length-2 Inv-loop μ-loop
 same-length-2 c = search needs
 
 returns : tie.Need-returns Inv-loop μ-loop
-returns c = search needs
+returns c = c .before .before .loop .inv .0
 
 read-requires : tie.Need-read-requires Inv-loop μ-loop
 read-requires c κs = search needs
@@ -35,7 +39,7 @@ same-length-4 : tie.Need-same-length-4 Inv-loop μ-loop
 same-length-4 c = search needs
 
 returns-2 : tie.Need-returns-2 Inv-loop μ-loop
-returns-2 c = search needs
+returns-2 c = c .before .before .before .before .before .before .before .loop .inv .0
 
 count-requires : tie.Need-count-requires Inv-loop μ-loop
 count-requires c κs = search needs
@@ -47,7 +51,7 @@ same-length-6 : tie.Need-same-length-6 Inv-loop μ-loop
 same-length-6 c = search needs
 
 returns-3 : tie.Need-returns-3 Inv-loop μ-loop
-returns-3 c = search needs
+returns-3 c = c .before .before .before .before .before .before .before .before .before .before .loop .inv .0
 
 sub-keep : tie.Need-sub-keep Inv-loop μ-loop
 sub-keep c = search needs
@@ -68,7 +72,11 @@ loop-less : tie.Need-loop-less Inv-loop μ-loop
 loop-less c = search needs
 
 loop-again : tie.Need-loop-again Inv-loop μ-loop
-loop-again c = search needs
+loop-again c =
+    let l = c .before .before .before .before .before .before .before .before .before .before .before .before .before .before .before .before .loop in
+    let k = c .before .before .keep in
+    let t = took-more (l .inv .0) (omega arith) _ (l .inv .2) (k .ensures .0) (k .ensures .1) in
+    (t, omega (arith, took-within t), search needs, search needs)
 
 same-length-7 : tie.Need-same-length-7 Inv-loop μ-loop
 same-length-7 c = search needs
@@ -77,7 +85,7 @@ same-length-8 : tie.Need-same-length-8 Inv-loop μ-loop
 same-length-8 c = search needs
 
 returns-4 : tie.Need-returns-4 Inv-loop μ-loop
-returns-4 c = search needs
+returns-4 c = c .before .loop .inv .0
 
 pub take-all-spec : {M : Type 1} → statement M
 take-all-spec =
