@@ -57,6 +57,7 @@ pub mod SomebodyRuns
 pub mod WaiterSees
 pub mod WaiterStep
 pub mod RecordLimits
+pub mod FewRecords
 pub mod OneRecordEach
 pub mod ExactModes
 pub mod RunEnded

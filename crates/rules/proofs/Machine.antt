@@ -21,7 +21,8 @@ use Rattle.rules.proofs.Release.{woken-covers}
 use Rattle.rules.proofs.RunEnd.{row-releases, wakesAfter}
 use Rattle.rules.proofs.Kept.{started-inv}
 use Rattle.rules.proofs.Written.{asking, Wrote, nothing, action, mark, step-wrote}
-use Rattle.rules.proofs.WakeRecords.{WakeOf, record-of}
+use Rattle.rules.proofs.WakeOrder.{GrantedAt, search-order}
+use Rattle.rules.proofs.WakeRecords.{recorded-wake}
 
 -- the desk's locks as the machine's table: what each job holds on each cell
 abbrev pub tableOf : Desk → Table
@@ -35,7 +36,7 @@ acts-all {t} {h} k (a ∷ xs) f =
     subst (λ g. Ran t g) (append-assoc h (Does a ∷ []) (wakeRecords xs)) (acts-all (acts k a (f a first)) xs (λ b m. f b (later m)))
 
 -- when a run ends, each woken job holds a mode that lets it do what it asked
-wakes-allowed : {d : Desk} → Inv d → (j : ℕ) (a : Action) → WakeOf (rowsAfter d j) a → lets (rowsAfter d j (a .cell) .row .held (a .job)) (a .kind) ≡ true
+wakes-allowed : {d : Desk} → Inv d → (j : ℕ) (a : Action) → GrantedAt (rowsAfter d j) cells a → lets (rowsAfter d j (a .cell) .row .held (a .job)) (a .kind) ≡ true
 unfolding wake
 wakes-allowed {d} v j a w =
     rw (w .is) (covers-lets (rowsAfter d j (w .cell) .row .held (w .waiter .job)) (w .waiter .ask) (woken-covers (row-releases v j (w .cell)) (w .waiter) (w .granted)))
@@ -50,7 +51,7 @@ wrote-ran {d} {r} {h = h} v (mark m s js said open′ last′) k =
     let rows = row-releases v j in
     subst (Ran (λ i c. rowsAfter d j c .row .held i)) (append-assoc h (Ends m j ∷ []) (wakeRecords (wakesAfter d j)))
     (acts-all (stops k m j (λ c. rows c .dropped) (λ i n c. rows c .grown i n) (λ i k c. rows c .pairs i k)) (wakesAfter d j)
-    (λ a p. wakes-allowed v j a (record-of (rowsAfter d j) a cells p)))
+    (λ a p. wakes-allowed v j a (search-order (rowsAfter d j) cells .granted (recorded-wake (wakesAfter d j) p))))
 
 -- a step of the desk is a run of the machine
 pub step-machine : {d : Desk} {h : History} → Inv d → (r : Request) → Ran (tableOf d) h → Ran (tableOf (step d r .desk)) (h ++ events d r)

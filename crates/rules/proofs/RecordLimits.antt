@@ -16,12 +16,13 @@ use Rattle.rules.specs.Rules.{Outcome, wake, rowsAfter}
 use Rattle.rules.specs.Step.{events, Started, fresh, after}
 use Rattle.rules.specs.Invariant.{Inv}
 use Rattle.rules.proofs.Kept.{started-inv}
-use Rattle.rules.proofs.RunEnd.{row-releases}
+use Rattle.rules.proofs.RunEnd.{wakesAfter, row-releases}
 use Rattle.rules.proofs.Written.{asking, Wrote, nothing, action, mark, step-wrote}
-use Rattle.rules.proofs.WakeRecords.{WakeOf, record-of}
+use Rattle.rules.proofs.WakeOrder.{GrantedAt, search-order}
+use Rattle.rules.proofs.WakeRecords.{same-action, recorded-wake}
 use Rattle.rules.proofs.NoEventAfterEnd.{line-open}
 use Rattle.rules.proofs.NumberLimits.{limits}
-use Rattle.rules.proofs.UnderLock.{same-action, no-mark}
+use Rattle.rules.proofs.UnderLock.{no-mark}
 use Rattle.rules.proofs.Queue.{in-none, in-split, in-either}
 
 -- in every history that the desk writes, a job's number is from 1 to 4,294,967,295
@@ -33,7 +34,7 @@ recorded-jobs (after {d = d} {h = h} s r) j l =
 
 module _ {d : Desk} (v : Inv d) (r : Request) where
   -- a woken action is on the cell in whose queue its job stood
-  woken-cell : (x : Action) → WakeOf (rowsAfter d (r .job)) x → x .cell < cells
+  woken-cell : (x : Action) → GrantedAt (rowsAfter d (r .job)) cells x → x .cell < cells
   unfolding wake
   woken-cell x k =
       let w = k .waiter in
@@ -44,7 +45,7 @@ module _ {d : Desk} (v : Inv d) (r : Request) where
   unfolding asking
   wrote-cell (nothing w) x h = in-none h
   wrote-cell (action a k w c) x h = in-split h (λ e. subst (λ y. y .cell < cells) (sym (same-action e)) (k .within)) in-none
-  wrote-cell (mark m s js said o l) x h = in-split h no-mark (λ k. woken-cell x (record-of (rowsAfter d (r .job)) x cells k))
+  wrote-cell (mark m s js said o l) x h = in-split h no-mark (λ k. woken-cell x (search-order (rowsAfter d (r .job)) cells .granted (recorded-wake (wakesAfter d (r .job)) k)))
 
 -- in every history that the desk writes, an action's cell is below 64
 pub recorded-cells : {d : Desk} {h : History} → Started d h → (x : Action) → In (Does x) h → x .cell < 64

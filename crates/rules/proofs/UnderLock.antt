@@ -19,18 +19,15 @@ use Rattle.rules.specs.Locking.{Locking}
 use Rattle.rules.specs.Histories.{AskedBy, request, waiter, UnderLock}
 use Rattle.rules.specs.Invariant.{Inv}
 use Rattle.rules.proofs.Release.{woken-covers}
-use Rattle.rules.proofs.RunEnd.{row-releases}
+use Rattle.rules.proofs.RunEnd.{wakesAfter, row-releases}
 use Rattle.rules.proofs.Kept.{started-inv}
 use Rattle.rules.proofs.Moved.{step-moved}
 use Rattle.rules.proofs.Holding.{moved-held}
 use Rattle.rules.proofs.Written.{asking, Wrote, nothing, action, mark, step-wrote}
 use Rattle.rules.proofs.Machine.{started-machine}
-use Rattle.rules.proofs.WakeRecords.{WakeOf, record-of}
+use Rattle.rules.proofs.WakeOrder.{GrantedAt, search-order}
+use Rattle.rules.proofs.WakeRecords.{same-action, recorded-wake}
 use Rattle.rules.proofs.Queue.{in-none, in-split}
-
--- an action is one other action only if they are the same
-pub same-action : {x y : Action} → Does x ≡ Does y → x ≡ y
-same-action e = cc
 
 -- an action is no mark
 pub no-mark : {P : Type 0} {x : Action} {m : Mark} {j : ℕ} → Does x ≡ Ends m j → P
@@ -42,7 +39,7 @@ Locked d r e x = (a : Ask) × AskedBy d r x a × UnderLock e x a
 
 module _ {d : Desk} (v : Inv d) {r : Request} where
   -- an action that is woken when a run ends
-  woken-locked : (e : Desk) (x : Action) → ((c : ℕ) → e .row c ≡ rowsAfter d (r .job) c .row) → WakeOf (rowsAfter d (r .job)) x → Locked d r e x
+  woken-locked : (e : Desk) (x : Action) → ((c : ℕ) → e .row c ≡ rowsAfter d (r .job) c .row) → GrantedAt (rowsAfter d (r .job)) cells x → Locked d r e x
   unfolding wake
   woken-locked e x q k =
       let c = k .cell in
@@ -77,7 +74,7 @@ module _ {d : Desk} (v : Inv d) {r : Request} where
       ))
       in-none
   wrote-locked {o} (mark m s js said open′ last′) x h =
-      in-split h no-mark (λ k. woken-locked (o .desk) x (λ c. refl) (record-of (rowsAfter d (r .job)) x cells k))
+      in-split h no-mark (λ k. woken-locked (o .desk) x (λ c. refl) (search-order (rowsAfter d (r .job)) cells .granted (recorded-wake (wakesAfter d (r .job)) k)))
 
 -- what is promised of locks
 pub locking : {d : Desk} {h : History} → Started d h → Locking (from d) h

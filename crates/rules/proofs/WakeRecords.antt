@@ -1,48 +1,28 @@
--- The records of the wakes: each is of a waiter that was granted at its cell, and a job has one exactly if it is among the wakes.
+-- The records of the wakes: each is of a wake, and a job has one exactly if it is among the wakes.
 -- Assumes nothing.
-use Prim.Native.Nat.{ℕ, zero, suc}
-use mathlib.Core.Path.{_≡_, refl, ap, subst, _∙_}
+use Prim.Native.Nat.{ℕ}
+use mathlib.Core.Path.{_≡_, ap, _∙_}
 use mathlib.Core.Bool.{_||_}
-use mathlib.Core.List.{List, [], _∷_, _++_}
+use mathlib.Core.List.{List, [], _∷_}
+use Rattle.laws.specs.Lists.{same}
 use Rattle.conflict.specs.declared.action.Action.{Action}
 use Rattle.conflict.specs.declared.action.Event.the-variants.{Does}
-use Rattle.laws.specs.Lists.{same}
 use Rattle.conflict.specs.History.{lineOf}
 use Rattle.conflict.proofs.OneEvent.{line-none, line-does}
-use Rattle.rules.specs.Desk.{Waiter, In, first, later}
-use Rattle.rules.specs.Locks.{Settled}
-use Rattle.rules.specs.Rules.{wake, wakesAt, wakesOf, isWoken}
+use Rattle.rules.specs.Desk.{In, later}
+use Rattle.rules.specs.Rules.{isWoken}
 use Rattle.rules.specs.Step.{wakeRecords}
-use Rattle.rules.proofs.Queue.{in-none, in-split, in-either}
+use Rattle.rules.proofs.Queue.{in-none, in-split, is-first}
 
--- the records of two lists of wakes
-records-append : (xs ys : List Action) → wakeRecords (xs ++ ys) ≡ wakeRecords xs ++ wakeRecords ys
+-- an action is one other action only if they are the same
+pub same-action : {x y : Action} → Does x ≡ Does y → x ≡ y
+same-action e = cc
+
+-- an action whose record stands among theirs is one of the wakes
+pub recorded-wake : {a : Action} (xs : List Action) → In (Does a) (wakeRecords xs) → In a xs
 unfolding wakeRecords
-records-append [] ys = refl
-records-append (a ∷ xs) ys = ap (λ h. Does a ∷ h) (records-append xs ys)
-
--- an action is the wake of a waiter granted at its cell
-pub record WakeOf (s : ℕ → Settled) (a : Action) : Type 0 where
-  pub cell : ℕ
-  pub waiter : Waiter
-  pub granted : In waiter (s cell .woken)
-  pub is : a ≡ wake cell waiter
-
--- each record of a cell's wakes is of a waiter granted there
-record-at : (s : ℕ → Settled) (a : Action) (c : ℕ) (q : List Waiter) → ((w : Waiter) → In w q → In w (s c .woken)) → In (Does a) (wakeRecords (wakesAt c q)) → WakeOf s a
-unfolding wakeRecords wakesAt
-record-at s a c [] f h = in-none h
-record-at s a c (w ∷ q) f h =
-    in-split h (λ e. record { cell = c; waiter = w; granted = f w first; is = cc }) (λ k. record-at s a c q (λ v m. f v (later m)) k)
-
--- each record of the wakes of cells that are searched is of a waiter granted at one of them
-pub record-of : (s : ℕ → Settled) (a : Action) (n : ℕ) → In (Does a) (wakeRecords (wakesOf s n)) → WakeOf s a
-unfolding wakesOf wakeRecords
-record-of s a zero h = in-none h
-record-of s a (suc c) h =
-    in-either (wakeRecords (wakesOf s c)) (wakeRecords (wakesAt c (s c .woken)))
-    (subst (In (Does a)) (records-append (wakesOf s c) (wakesAt c (s c .woken))) h)
-    (record-of s a c) (record-at s a c (s c .woken) (λ w m. m))
+recorded-wake [] h = in-none h
+recorded-wake {a} (x ∷ xs) h = in-split h (λ e. is-first (same-action e)) (λ k. later (recorded-wake xs k))
 
 -- a line of a job stands among the records exactly if the job is among the wakes
 pub line-woken : (j : ℕ) (xs : List Action) → lineOf j (wakeRecords xs) ≡ isWoken j xs

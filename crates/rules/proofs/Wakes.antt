@@ -30,7 +30,7 @@ woken-either j [] b = refl
 woken-either j (x ∷ a) b = by-test (same (x .job) j) (λ t. rw t) (λ f. rw f (woken-either j a b))
 
 -- who is among the wakes has one
-woken-in : (j : ℕ) (xs : List Action) → isWoken j xs ≡ true → (x : Action) × In x xs × (x .job ≡ j)
+pub woken-in : (j : ℕ) (xs : List Action) → isWoken j xs ≡ true → (x : Action) × In x xs × (x .job ≡ j)
 unfolding isWoken
 woken-in j [] h = not-both h refl
 woken-in j (v ∷ xs) h = or-either (same (v .job) j) (isWoken j xs) h (λ t. (v, first, eqb-true (v .job) j t)) (λ k. more (woken-in j xs k))

@@ -12,10 +12,12 @@ use Rattle.conflict.specs.Modes.{needed}
 use Rattle.conflict.specs.History.{History}
 use Rattle.conflict.proofs.ModeLaws.{is-free, asked-free}
 use Rattle.conflict.proofs.ExactNeeds.{promotion-asks}
-use Rattle.rules.specs.Desk.{waiting, Waiter, Desk, Request, In}
+use mathlib.Core.List.{[]}
+use Rattle.rules.specs.declared.Answer.the-variants.{Go}
+use Rattle.rules.specs.Desk.{closed, waiting, Waiter, Desk, Request, In}
 use Rattle.rules.specs.Locks.{wants}
 use Rattle.rules.specs.Rules.{wake, rowsAfter}
-use Rattle.rules.specs.Step.{step, Started}
+use Rattle.rules.specs.Step.{recordsBy, step, Started}
 use Rattle.rules.specs.Course.{from}
 use Rattle.rules.specs.Waiting.{Ahead}
 use Rattle.rules.specs.WakeOrder.{Before, Sooner, smaller-cell, stood-ahead}
@@ -27,8 +29,10 @@ use Rattle.rules.proofs.Moved.{step-moved}
 use Rattle.rules.proofs.Queue.{falling-left, without-falling}
 use Rattle.rules.proofs.Statuses.{one-ask, one-cell}
 use Rattle.rules.proofs.AheadLaws.{ahead-in, ahead-of, ahead-younger, younger-ahead}
-use Rattle.rules.proofs.RunEnd.{row-releases}
-use Rattle.rules.proofs.Waking.{moved-wakes}
+use Rattle.rules.proofs.RunEnd.{wakesAfter, row-releases}
+use Rattle.rules.proofs.Waking.{rule4-wakes, moved-wakes}
+use Rattle.rules.proofs.Written.{step-wrote}
+use Rattle.rules.proofs.OneRecordEach.{wrote-one}
 use Rattle.rules.proofs.Bystanders.{moved-status, moved-place}
 use Rattle.rules.proofs.OthersLocks.{moved-locks, granted-elsewhere}
 use Rattle.rules.proofs.WakeOrder.{Searched, granted-ahead, before-first, before-second, search-order}
@@ -63,6 +67,23 @@ granted-exactly {d} v j c w i a k =
     subst (WokenWith (d .row c .held (w .job)) (rowsAfter d j c .row .held (w .job))) (one-ask (v .rows c .stands w (t .woken-was w i)) k)
     (subst (λ m. WokenWith (d .row c .held (w .job)) m (w .ask)) (sym (t .takes w i)) (wants-exactly (d .row c .held) w))
 
+module _ {d : Desk} (v : Inv d) where
+  -- who comes first in the search is another job than who comes later
+  not-twice : {x y : Action} → Sooner d x y → x .job ≡ y .job → (a b : Ask) → d .stat (x .job) ≡ waiting (x .cell) a → d .stat (y .job) ≡ waiting (y .cell) b → ⊥
+  unfolding wake
+  not-twice (smaller-cell l) e a b p q = let z = one-cell p (ap (d .stat) e ∙ q) in omega (arith, l, z)
+  not-twice (stood-ahead c u w e f k) g a b p q =
+      let l : w .job < u .job = ahead-younger (v .rows c .down) k in
+      let z : u .job ≡ w .job = sym (ap (λ t. t .job) e) ∙ g ∙ ap (λ t. t .job) f in
+      omega (arith, l, z)
+
+  -- so when a run ends no job is told twice
+  apart : (j : ℕ) (x y : Action) → Before x y (wakesAfter d j) → x .job ≢ y .job
+  apart j x y b e =
+      let p = rule4-wakes v j closed [] (Go 0) x (before-first b) in
+      let q = rule4-wakes v j closed [] (Go 0) y (before-second b) in
+      not-twice (searched-sooner v j (search-order (rowsAfter d j) cells .ordered b)) e (p .ask) (q .ask) (p .waited) (q .waited)
+
 module _ {d : Desk} {h : History} (s : Started d h) (r : Request) where
   v : Inv d
   v = started-inv s
@@ -81,29 +102,19 @@ module _ {d : Desk} {h : History} (s : Started d h) (r : Request) where
   unfolding wake
   left-elsewhere b u k t y e c q = rw (e, t .row c) (granted-elsewhere v (r .job) b c u k (rw e at q))
 
-  -- who stands ahead in a queue is another job than who stands behind
-  not-twice : {x y : Action} → Sooner d x y → x .job ≡ y .job → (a b : Ask) → d .stat (x .job) ≡ waiting (x .cell) a → d .stat (y .job) ≡ waiting (y .cell) b → ⊥
-  unfolding wake
-  not-twice (smaller-cell l) e a b p q = let z = one-cell p (ap (d .stat) e ∙ q) in omega (arith, l, z)
-  not-twice (stood-ahead c u w e f k) g a b p q =
-      let l : w .job < u .job = ahead-younger (v .rows c .down) k in
-      let z : u .job ≡ w .job = sym (ap (λ t. t .job) e) ∙ g ∙ ap (λ t. t .job) f in
-      omega (arith, l, z)
-
   -- what is promised of wakes and bystanders
   pub wakes : Wakes (from d) r
+  unfolding recordsBy
   wakes = record {
     wakes-only-rule-4 = only-rule-4 (step-moved d r);
     rule-4 = λ e. let k = ran d r e in record { settled = rowsAfter d (r .job); rows = k .row; wakes = k .wakes; releases = row-releases v (r .job) };
     wake-tells = λ x. moved-wakes v x (step-moved d r);
     wakes-exactly = λ x m a k. let (t, g) = wake-ran d r x m in left-with (g .cell) (g .waiter) (g .granted) t x (g .is) a k;
     wakes-in-order = λ x y b. searched-sooner v (r .job) (searched b);
-    woken-once = λ x y b e.
-        let p = moved-wakes v x (step-moved d r) (before-first b) in
-        let q = moved-wakes v y (step-moved d r) (before-second b) in
-        not-twice (searched-sooner v (r .job) (searched b)) e (p .ask) (q .ask) (p .waited) (q .waited);
+    woken-once = λ x y b. apart v (r .job) x y (subst (Before x y) (wake-ran d r x (before-first b) .0 .wakes) b);
     bystander = λ i n. moved-status d r i n (step-moved d r);
     bystander-place = λ i n z. moved-place d r i n z (step-moved d r);
     bystander-locks = λ i n f c. moved-locks v r i n c (step-moved d r) f;
     woken-locks = λ x m c n. let (t, g) = wake-ran d r x m in left-elsewhere (g .cell) (g .waiter) (g .granted) t x (g .is) c n;
+    one-record-each = wrote-one v (step-wrote d r v) (apart v (r .job));
   }

@@ -34,7 +34,7 @@ module _ {d : Desk} (v : Inv d) (j : ℕ) (s : Status) (js : List ℕ) (said : A
   }
 
   -- who is among the wakes when job j's run ends
-  rule4-wakes : (a : Action) → In a (wakesAfter d j) → WakeTells d (rule4 d j s js said .desk) a
+  pub rule4-wakes : (a : Action) → In a (wakesAfter d j) → WakeTells d (rule4 d j s js said .desk) a
   rule4-wakes a h =
       let g = search-order (rowsAfter d j) cells .granted h in
       subst (WakeTells d (rule4 d j s js said .desk)) (sym (g .is)) (granted-wakes (g .cell) (g .waiter) (g .below) (g .granted))

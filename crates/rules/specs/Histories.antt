@@ -1,9 +1,11 @@
 -- What stands in a history, and the lock that an action is done under (01, Lines; 01, The desk's rules; demand 2).
-use Prim.Native.Nat.{ℕ}
+use Prim.Native.Nat.{ℕ, _+_}
 use mathlib.Core.Path.{_≡_}
 use mathlib.Core.Logic.{_≢_}
 use mathlib.Core.Bool.{Bool, true, false}
 use mathlib.Core.List.{[], _∷_}
+use Rattle.laws.specs.Choice.{pick}
+use Rattle.laws.specs.Lists.{same}
 use Rattle.terms.specs.declared.letters.Ask.{Ask}
 use Rattle.terms.specs.declared.letters.Letter.the-variants.{Asks}
 use Rattle.terms.specs.declared.letters.Lettered.the-variants.{Known}
@@ -37,3 +39,9 @@ onlyActions (Ends m j ∷ h) = false
 pub data MarkFirst : History → Type 0 where
   no-mark : {h : History} → onlyActions h ≡ true → MarkFirst h
   mark : (m : Mark) (j : ℕ) {h : History} → onlyActions h ≡ true → MarkFirst (Ends m j ∷ h)
+
+-- how many records of a job stand in a history
+unfoldable pub recordsFor : ℕ → History → ℕ
+recordsFor j [] = 0
+recordsFor j (Does x ∷ h) = pick (same (x .job) j) 1 0 + recordsFor j h
+recordsFor j (Ends m i ∷ h) = pick (same i j) 1 0 + recordsFor j h

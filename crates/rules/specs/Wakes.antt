@@ -1,5 +1,5 @@
--- What is promised of wakes and bystanders: who is woken, in what order, with what mode, and that nobody else's status, place or lock changes (01, rule 4; 01, The desk's rules).
-use Prim.Native.Nat.{ℕ}
+-- What is promised of wakes and bystanders: who is woken, in what order, with what mode, that nobody else's status, place or lock changes, and that nobody is recorded twice (01, rule 4; 01, Lines).
+use Prim.Native.Nat.{ℕ, _≤_}
 use mathlib.Core.Path.{_≡_}
 use mathlib.Core.Logic.{_≢_, _⊎_}
 use mathlib.Core.Bool.{false}
@@ -13,7 +13,8 @@ use Rattle.rules.specs.Table.{named}
 use Rattle.rules.specs.Effects.{RunEnds, WakeTells, WokenWith}
 use Rattle.rules.specs.WakeOrder.{Before, Sooner}
 use Rattle.rules.specs.Releasing.{AllReleased}
-use Rattle.rules.specs.Course.{Course, now, to}
+use Rattle.rules.specs.Histories.{recordsFor}
+use Rattle.rules.specs.Course.{Course, now, to, records}
 
 pub record Wakes (k : Course) (r : Request) : Type 0 where
   -- nobody is woken but by a commit, a give-up or a sending back, and then rule 4 is carried out
@@ -31,3 +32,5 @@ pub record Wakes (k : Course) (r : Request) : Type 0 where
   pub bystander-locks : (i : ℕ) → i ≢ named (now k) r → isWoken i (to k r .wakes) ≡ false → (c : ℕ) → to k r .desk .row c .held i ≡ now k .row c .held i
   -- a wake's job holds on every cell but the wake's exactly what it held
   pub woken-locks : (x : Action) → In x (to k r .wakes) → (c : ℕ) → c ≢ x .cell → to k r .desk .row c .held (x .job) ≡ now k .row c .held (x .job)
+  -- in a step each job has one record at most: its request's own, or that of its wake (01, Lines)
+  pub one-record-each : (j : ℕ) → recordsFor j (records k r) ≤ 1

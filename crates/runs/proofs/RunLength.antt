@@ -16,7 +16,7 @@ use Rattle.formats.specs.Split.{linesOf}
 use Rattle.rules.specs.Desk.{Desk, freshDesk}
 use Rattle.rules.specs.Step.{recordsBy, step}
 use Rattle.rules.specs.Waiting.{waitersOf}
-use Rattle.rules.proofs.OneRecordEach.{none-standing, one-record-each}
+use Rattle.rules.proofs.FewRecords.{none-standing, few-records}
 use Rattle.runs.specs.Run.{answered, lineBy, runOf}
 use Rattle.runs.specs.Programs.{firstNumber, runOn}
 use Rattle.runs.specs.Shown.{historyOfRun, historyOn}
@@ -26,7 +26,7 @@ use Rattle.runs.proofs.StartedRun.{recorded, bad-records}
 line-few : (D : Desk) (n : ℕ) (r : Reading) → length (recorded (answered step D n r .told)) + waitersOf (answered step D n r .desk) ≤ suc (waitersOf D)
 unfolding answered recordsBy
 line-few D n Bad = omega (arith, ap length bad-records)
-line-few D n (Good l job cell) = one-record-each D (record { kind = byteOf l; job = job; cell = cell })
+line-few D n (Good l job cell) = few-records D (record { kind = byteOf l; job = job; cell = cell })
 
 -- so all lines have at most one record each, and one for each who waited before them
 run-few : (D : Desk) (n : ℕ) (ls : List (List ℕ)) → length (historyOfRun (runOf step D n ls)) ≤ waitersOf D + length ls
