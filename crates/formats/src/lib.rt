@@ -1,23 +1,32 @@
 // The lines that come in and the records that go out, as definitions, and the types that the definitions speak of; the splitter, whose methods stand with its type (01, Lines).
 pub mod splitter;
 
-use terms::letters::Letter;
-use terms::refusals::Refusal;
+pub use splitter::Cut;
+pub use splitter::Splitter;
+pub use splitter::line_end;
+use terms::Letter;
+use terms::Refusal;
 
-// A good line with its letter, job and cell, 0 for a field that the letter does not have; or a bad line, which is refusal 9.
+// What a line says.
 pub enum Reading {
+    // a good line with its letter, job and cell, 0 for a field that the letter does not have
     Good { letter: Letter, job: u32, cell: u32 },
+    // a bad line, which is refusal 9
     Bad,
 }
 
-// A number of a line with the place after it, or none.
+// A number field of a line.
 pub enum Numeral {
+    // the number, and the place after it
     Is { value: u32, next: usize },
+    // no number stands there, or one that is too large
     Missing,
 }
 
-// The place after the record, or the refusal of a record that does not fit.
+// What writing a record tells.
 pub enum Written {
+    // the place after the record
     Next(usize),
+    // the record does not fit, and every byte of the buffer stays
     Refused(Refusal),
 }

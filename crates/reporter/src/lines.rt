@@ -1,12 +1,12 @@
 // Lines of a word and numbers: a line that fits is written whole, from the buffer's first byte on, and of one that does not nothing is written (01, The judge's rules; refusal 15).
 use formats::Written;
-use terms::refusals::Refusal;
-use terms::words::Word;
-use terms::words::spelled;
-use text::writer::width;
-use text::writer::write_end;
-use text::writer::write_field;
-use text::writer::write_word;
+use terms::Refusal;
+use terms::Word;
+use terms::spelled;
+use text::width;
+use text::write_end;
+use text::write_field;
+use text::write_word;
 ghost use mathlib.Core.Path.{_≡_};
 ghost use mathlib.Core.List.{[], _∷_};
 ghost use Prim.Native.Nat.{_+_, _≤_, _<_};

@@ -1,6 +1,6 @@
 // What a clerk keeps between the chunks of an input, and the runs of the desk programs as definitions (01, What is delivered).
 use board::state::Desk;
-use formats::splitter::Splitter;
+use formats::Splitter;
 ghost use mathlib.Core.Path.{_≡_};
 ghost use Rattle.runs.specs.Work.{startedClerk};
 
@@ -12,7 +12,9 @@ pub struct Clerk {
 
 // Which records are written: the answers or the history.
 pub enum View {
+    // the answers, one for each line, each with its wakes
     Answers,
+    // what was granted and what ended, in order
     History,
 }
 

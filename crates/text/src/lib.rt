@@ -1,3 +1,12 @@
 // The lines that come in and the records that go out: line reader and record writer (01, Lines).
 pub mod reader;
 pub mod writer;
+
+pub use reader::read_history;
+pub use reader::read_request;
+pub use writer::width;
+pub use writer::write_answer;
+pub use writer::write_end;
+pub use writer::write_field;
+pub use writer::write_line;
+pub use writer::write_word;

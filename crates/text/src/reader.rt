@@ -1,14 +1,14 @@
 // The line reader: what one line of requests or of a history says (01, Lines).
 use formats::Numeral;
 use formats::Reading;
-use terms::letters::Letter;
-use terms::letters::Lettered;
-use terms::letters::has_cell;
-use terms::letters::has_job;
-use terms::letters::letter_of;
-use terms::letters::of_histories;
-use terms::letters::of_requests;
+use terms::Letter;
+use terms::Lettered;
+use terms::has_cell;
+use terms::has_job;
+use terms::letter_of;
 use terms::limits::LAST_NUMBER;
+use terms::of_histories;
+use terms::of_requests;
 use terms::words::NEWLINE;
 use terms::words::TAB;
 ghost use mathlib.Core.Path.{_≡_};

@@ -1,15 +1,15 @@
 // The record writer: one record into a lent buffer, from the place given and not before it (01, Lines).
 // The buffer's part from that place on is lent, and within it the later part to one field writer after another; each writes from its part's first byte on.
 use formats::Written;
-use terms::letters::Letter;
-use terms::letters::byte_of;
-use terms::letters::has_cell;
-use terms::letters::has_job;
-use terms::refusals::Refusal;
+use terms::Letter;
+use terms::Refusal;
+use terms::Word;
+use terms::byte_of;
+use terms::has_cell;
+use terms::has_job;
+use terms::spelled;
 use terms::words::NEWLINE;
 use terms::words::TAB;
-use terms::words::Word;
-use terms::words::spelled;
 ghost use mathlib.Core.Path.{_≡_};
 ghost use mathlib.Core.Bool.{true};
 ghost use mathlib.Core.List.{[], _∷_, _++_};
