@@ -32,5 +32,6 @@ pub mod RecordLines
 pub mod RecordsSay
 pub mod ReadBack
 pub mod WrittenHistories
+pub mod TextBack
 pub mod Examples
 pub mod JudgedSet
