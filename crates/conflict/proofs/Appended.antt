@@ -1,20 +1,18 @@
--- What a history of two parts has of each: lines, marks, commits, the committed part, and jobs that end for good.
+-- What a history of two parts has of each: lines, marks, ends of runs, and jobs that end for good.
 -- Assumes nothing.
 use Prim.Native.Nat.{ℕ}
-use mathlib.Core.Path.{_≡_, refl, sym, ap, ap₂, _∙_}
-use mathlib.Core.Bool.{Bool, true, false, not, _&&_, _||_, cond, or-assoc}
-use mathlib.Core.List.{List, [], _∷_, _++_}
+use mathlib.Core.Path.{_≡_, refl, sym, ap, _∙_}
+use mathlib.Core.Bool.{Bool, true, false, not, _&&_, _||_, or-assoc}
+use mathlib.Core.List.{[], _∷_, _++_}
 use borrow.Author.Tests.{eqb-true, not-true}
 use Rattle.laws.specs.Choice.{by-test, not-both}
-use Rattle.laws.specs.Lists.{same, put}
+use Rattle.laws.specs.Lists.{same}
 use Rattle.laws.proofs.Lists.{same-refl}
 use Rattle.laws.proofs.Parts.{and-first, and-second, and-both, nor-first, nor-second, or-either, or-second}
-use Rattle.conflict.specs.declared.action.Action.{Action}
 use Rattle.conflict.specs.declared.action.Mark.{Mark}
 use Rattle.conflict.specs.declared.action.Mark.the-variants.{Commit, GiveUp, Back}
 use Rattle.conflict.specs.declared.action.Event.the-variants.{Does, Ends}
-use Rattle.conflict.specs.Schedule.{Schedule, keep}
-use Rattle.conflict.specs.History.{History, isCommit, isBack, marked, commits, committed, commitOrder, lineOf, endsForGood}
+use Rattle.conflict.specs.History.{History, isBack, marked, lineOf, endsForGood}
 use Rattle.conflict.specs.Runs.{isEnd, ended}
 use Rattle.conflict.proofs.Marks.{ended-alone, ends-rest}
 use Rattle.conflict.proofs.OneEvent.{isLast}
@@ -37,65 +35,6 @@ marked-append f j (Ends m i ∷ h) g = ap (λ b. (same i j && f m) || b) (marked
 pub ended-append : (j : ℕ) (h g : History) → ended j (h ++ g) ≡ (ended j h || ended j g)
 unfolding ended
 ended-append j h g = marked-append isEnd j h g
-
--- one more job where it is listed, before two lists
-put-append : (b : Bool) (i : ℕ) (js ks : List ℕ) → put b i (js ++ ks) ≡ put b i js ++ ks
-unfolding put
-put-append true i js ks = refl
-put-append false i js ks = refl
-
--- the commits of the first part come before those of the second
-pub order-append : (h g : History) → commitOrder (h ++ g) ≡ commitOrder h ++ commitOrder g
-unfolding commitOrder
-order-append [] g = refl
-order-append (Does a ∷ h) g = order-append h g
-order-append (Ends m i ∷ h) g = ap (put (isCommit m) i) (order-append h g) ∙ put-append (isCommit m) i (commitOrder h) (commitOrder g)
-
--- the next mark of a job stands in the first part if it has one there
-pub commits-append : (j : ℕ) (h g : History) → commits j (h ++ g) ≡ cond (ended j h) (commits j h) (commits j g)
-unfolding commits ended marked isEnd
-commits-append j [] g = refl
-commits-append j (Does a ∷ h) g = commits-append j h g
-commits-append j (Ends m i ∷ h) g = by-test (same i j) (λ t. rw t) (λ f. rw f (commits-append j h g))
-
--- a job with no mark has no commit
-pub no-commit : (j : ℕ) (h : History) → ended j h ≡ false → commits j h ≡ false
-unfolding commits ended marked isEnd
-no-commit j [] e = refl
-no-commit j (Does a ∷ h) e = no-commit j h e
-no-commit j (Ends m i ∷ h) e = by-test (same i j) (λ t. not-both refl (rw t at e)) (λ f. rw f (no-commit j h (rw f at e)))
-
--- one more action where it is kept, before two schedules
-keep-append : (b : Bool) (a : Action) (s u : Schedule) → keep b a (s ++ u) ≡ keep b a s ++ u
-unfolding keep
-keep-append true a s u = refl
-keep-append false a s u = refl
-
--- the actions of the first part whose run ends with a commit, there or in the second part
-unfoldable pub kept : History → History → Schedule
-kept [] g = []
-kept (Does a ∷ h) g = keep (cond (ended (a .job) h) (commits (a .job) h) (commits (a .job) g)) a (kept h g)
-kept (Ends m i ∷ h) g = kept h g
-
--- the committed part: what is kept of the first part, then that of the second
-pub committed-append : (h g : History) → committed (h ++ g) ≡ kept h g ++ committed g
-unfolding committed kept
-committed-append [] g = refl
-committed-append (Does a ∷ h) g =
-    ap₂ (λ b s. keep b a s) (commits-append (a .job) h g) (committed-append h g)
-    ∙ keep-append (cond (ended (a .job) h) (commits (a .job) h) (commits (a .job) g)) a (kept h g) (committed g)
-committed-append (Ends m i ∷ h) g = committed-append h g
-
--- where no next mark of the second part is a commit, of the first is kept what it has committed
-pub kept-alone : (h g : History) → ((j : ℕ) → commits j g ≡ false) → kept h g ≡ committed h
-unfolding committed kept
-kept-alone [] g none′ = refl
-kept-alone (Does a ∷ h) g none′ = ap₂ (λ b s. keep b a s) (by-test (ended (a .job) h) (λ t. rw t) (λ f. rw f (none′ (a .job) ∙ sym (no-commit (a .job) h f)))) (kept-alone h g none′)
-kept-alone (Ends m i ∷ h) g none′ = kept-alone h g none′
-
--- there the committed part is that of the first, then that of the second
-pub committed-apart : (h g : History) → ((j : ℕ) → commits j g ≡ false) → committed (h ++ g) ≡ committed h ++ committed g
-committed-apart h g none′ = committed-append h g ∙ ap (λ s. s ++ committed g) (kept-alone h g none′)
 
 -- a c and an a are the marks that are not a k
 last-is : (m : Mark) → isLast m ≡ not (isBack m)

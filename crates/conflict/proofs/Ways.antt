@@ -4,7 +4,6 @@ use Prim.Native.Nat.{ℕ}
 use mathlib.Core.Path.{_≡_, refl}
 use mathlib.Core.Bool.{Bool, true}
 use mathlib.Core.List.{List, [], _∷_, _++_}
-use Rattle.laws.specs.Choice.{not-both}
 use Rattle.laws.proofs.Parts.{and-first, and-second, and-both}
 use Rattle.conflict.specs.Schedule.{path, knot}
 
@@ -35,8 +34,3 @@ pub knot-on : (e : ℕ → ℕ → Bool) (k : ℕ) (ks : List ℕ) → knot e (k
 unfolding knot path
 knot-on e k [] h = h
 knot-on e k (j ∷ js) h = path-on e j js k j (and-second (e k j) (path e j js k) h) (and-first (e k j) (path e j js k) h)
-
--- no knot is empty
-pub knot-some : {P : Type 0} (e : ℕ → ℕ → Bool) → knot e [] ≡ true → P
-unfolding knot
-knot-some e h = not-both h refl
