@@ -1,20 +1,18 @@
--- What a history of two parts has of each: lines, marks, commits, the committed part, and jobs that end for good.
+-- What a history of two parts has of each: lines, marks, ends of runs, and jobs that end for good.
 -- Assumes nothing.
 use Prim.Native.Nat.{ℕ}
-use mathlib.Core.Path.{_≡_, refl, sym, ap, ap₂, _∙_}
-use mathlib.Core.Bool.{Bool, true, false, not, _&&_, _||_, cond, or-assoc}
-use mathlib.Core.List.{List, [], _∷_, _++_}
+use mathlib.Core.Path.{_≡_, refl, sym, ap, _∙_}
+use mathlib.Core.Bool.{Bool, true, false, not, _&&_, _||_, or-assoc}
+use mathlib.Core.List.{[], _∷_, _++_}
 use borrow.Author.Tests.{eqb-true, not-true}
 use Rattle.laws.specs.Choice.{by-test, not-both}
-use Rattle.laws.specs.Lists.{same, put}
+use Rattle.laws.specs.Lists.{same}
 use Rattle.laws.proofs.Lists.{same-refl}
 use Rattle.laws.proofs.Parts.{and-first, and-second, and-both, nor-first, nor-second, or-either, or-second}
-use Rattle.conflict.specs.declared.action.Action.{Action}
 use Rattle.conflict.specs.declared.action.Mark.{Mark}
 use Rattle.conflict.specs.declared.action.Mark.the-variants.{Commit, GiveUp, Back}
 use Rattle.conflict.specs.declared.action.Event.the-variants.{Does, Ends}
-use Rattle.conflict.specs.Schedule.{Schedule, keep}
-use Rattle.conflict.specs.History.{History, isCommit, isBack, marked, commits, committed, commitOrder, lineOf, endsForGood}
+use Rattle.conflict.specs.History.{History, isBack, marked, lineOf, endsForGood}
 use Rattle.conflict.specs.Runs.{isEnd, ended}
 use Rattle.conflict.proofs.Marks.{ended-alone, ends-rest}
 use Rattle.conflict.proofs.OneEvent.{isLast}

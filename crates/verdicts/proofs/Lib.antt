@@ -34,5 +34,6 @@ pub mod WrittenHistories
 pub mod VerdictLine
 pub mod Printed
 pub mod VerdictWords
+pub mod TextBack
 pub mod Examples
 pub mod JudgedSet
