@@ -46,7 +46,7 @@ wrote-ran : {d : Desk} {r : Request} {o : Outcome} {h g : History} → Inv d →
 unfolding rule4 asking
 wrote-ran {h = h} v (nothing w) k = rw (append-nil h) (grows k (w .grown) (λ i j c. w .pairs c i j))
 wrote-ran {r = r} {o = o} v (action a q w c) k = acts (grows k (w .grown) (λ i j c. w .pairs c i j)) (asking r a) (covers-lets (o .desk .row (r .cell) .held (r .job)) a c)
-wrote-ran {d} {r} {h = h} v (mark m s js said open′ last′) k =
+wrote-ran {d} {r} {h = h} v (mark m s js said open′ last′ _) k =
     let j = r .job in
     let rows = row-releases v j in
     subst (Ran (λ i c. rowsAfter d j c .row .held i)) (append-assoc h (Ends m j ∷ []) (wakeRecords (wakesAfter d j)))

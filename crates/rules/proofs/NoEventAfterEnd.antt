@@ -47,7 +47,7 @@ module _ {d : Desk} (v : Inv d) {r : Request} where
   line-open (nothing w) j h = not-both h (line-none j)
   line-open (action a k w c) j h =
       or-either (same (r .job) j) (lineOf j []) (sym (line-does j (asking r a) []) ∙ h) (λ t. rw (← eqb-true (r .job) j t) (running-open (k .runs))) (λ t. not-both t (line-none j))
-  line-open (mark m s js said o l) j h =
+  line-open (mark m s js said o l _) j h =
       or-either (same (r .job) j) (lineOf j (wakeRecords (wakesAfter d (r .job)))) (sym (line-ends j m (r .job) (wakeRecords (wakesAfter d (r .job)))) ∙ h) (λ t. rw (← eqb-true (r .job) j t) o)
       (λ t. let (c, a, e, g) = woken-waited v (r .job) j (sym (line-woken j (wakesAfter d (r .job))) ∙ t) in waiting-open e)
 
@@ -56,7 +56,7 @@ module _ {d : Desk} (v : Inv d) {r : Request} where
   unfolding rule4
   last-closed (nothing w) j h = not-both h (marked-none isLast j)
   last-closed (action a k w c) j h = not-both h (marked-does isLast j (asking r a) [] ∙ marked-none isLast j)
-  last-closed (mark m s js said o l) j h =
+  last-closed (mark m s js said o l _) j h =
       or-either (same (r .job) j && isLast m) (marked isLast j (wakeRecords (wakesAfter d (r .job)))) (sym (marked-ends isLast j m (r .job) (wakeRecords (wakesAfter d (r .job)))) ∙ h)
       (λ t. rw (← eqb-true (r .job) j (and-first (same (r .job) j) (isLast m) t))
       (self-after v (r .job) s ∙ l (and-second (same (r .job) j) (isLast m) t)))
@@ -66,7 +66,7 @@ module _ {d : Desk} (v : Inv d) {r : Request} where
   wrote-ends : {o : Outcome} {g : History} → Wrote d r o g → endsForGood g ≡ true
   wrote-ends (nothing w) = good-none
   wrote-ends (action a k w c) = good-does (asking r a) [] ∙ good-none
-  wrote-ends (mark m s js said o l) =
+  wrote-ends (mark m s js said o l _) =
       let wakes = wakesAfter d (r .job) in
       good-ends m (r .job) (wakeRecords wakes)
       ∙ and-both (isBack m || not (lineOf (r .job) (wakeRecords wakes))) (endsForGood (wakeRecords wakes))

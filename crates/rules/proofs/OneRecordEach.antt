@@ -1,4 +1,4 @@
--- In a step each job has one record at most: its request's own, or that of its wake (01, Lines; 01, rule 4).
+-- In a step each job has one record at most: its request's own, or that of its wake; and none as long as it waits (01, Lines; 01, rule 4).
 -- Assumes nothing.
 use Prim.Native.Nat.{ℕ, _≤_}
 use mathlib.Core.Path.{_≡_, refl, sym, ap, _∙_}
@@ -7,19 +7,21 @@ use mathlib.Core.Bool.{true, false}
 use mathlib.Core.List.{List, [], _∷_}
 use native.Mathlib.Omega.{arith}
 use borrow.Author.Tests.{eqb-true}
-use Rattle.laws.specs.Choice.{by-test}
+use Rattle.laws.specs.Choice.{by-test, not-both}
 use Rattle.laws.specs.Lists.{same}
 use Rattle.laws.proofs.Parts.{nor-first, nor-second}
 use Rattle.conflict.specs.declared.action.Action.{Action}
 use Rattle.conflict.specs.History.{History}
-use Rattle.rules.specs.Desk.{Desk, Request}
-use Rattle.rules.specs.Rules.{Outcome, isWoken}
+use Rattle.terms.specs.declared.letters.Ask.{Ask}
+use Rattle.rules.specs.Desk.{waiting, isLive, Desk, Request}
+use Rattle.rules.specs.Rules.{Outcome, isWoken, rule4}
 use Rattle.rules.specs.Step.{wakeRecords}
 use Rattle.rules.specs.Histories.{recordsFor}
 use Rattle.rules.specs.Invariant.{Inv}
 use Rattle.rules.specs.WakeOrder.{Before, next, further}
+use Rattle.rules.proofs.Statuses.{running-not-waiting}
 use Rattle.rules.proofs.Wakes.{woken-in}
-use Rattle.rules.proofs.RunEnd.{wakesAfter, self-not-woken}
+use Rattle.rules.proofs.RunEnd.{wakesAfter, statusAfter, self-not-woken, self-after, woken-after}
 use Rattle.rules.proofs.Written.{asking, Wrote, nothing, action, mark}
 
 -- a job that is not among the wakes has no record of theirs
@@ -43,7 +45,23 @@ pub wrote-one : {d : Desk} (v : Inv d) {r : Request} {o : Outcome} {g : History}
 unfolding recordsFor asking
 wrote-one v (nothing w) n j = omega arith
 wrote-one v {r} (action a k w c) n j = by-test (same (r .job) j) (λ t. rw t (omega arith)) (λ f. rw f (omega arith))
-wrote-one {d} v {r} (mark m s js said o l) n j =
+wrote-one {d} v {r} (mark m s js said o l _) n j =
     by-test (same (r .job) j)
     (λ t. rw t (omega (arith, none-of j (wakesAfter d (r .job)) (ap (λ i. isWoken i (wakesAfter d (r .job))) (sym (eqb-true (r .job) j t)) ∙ self-not-woken v (r .job)))))
     (λ f. rw f (omega (arith, one-of j (wakesAfter d (r .job)) n)))
+
+-- who waits is live
+waiting-is-live : (c : ℕ) (a : Ask) → isLive (waiting c a) ≡ true
+unfolding isLive
+waiting-is-live c a = refl
+
+-- a job that waits through a step has no record in it
+pub wrote-none : {d : Desk} (v : Inv d) {r : Request} {o : Outcome} {g : History} → Wrote d r o g → (j c : ℕ) (a : Ask) → d .stat j ≡ waiting c a → o .desk .stat j ≡ waiting c a → recordsFor j g ≡ 0
+unfolding recordsFor asking rule4
+wrote-none v (nothing w) j c a e f = refl
+wrote-none {d} v {r} (action b k w _) j c a e f =
+    by-test (same (r .job) j) (λ t. absurd (running-not-waiting (ap (d .stat) (sym (eqb-true (r .job) j t)) ∙ k .runs) e)) (λ n. rw n (omega arith))
+wrote-none {d} v {r} (mark m s js said o l n) j c a e f =
+    by-test (same (r .job) j)
+    (λ t. not-both (ap isLive (sym (self-after v (r .job) s) ∙ ap (statusAfter d (r .job) s) (eqb-true (r .job) j t) ∙ f) ∙ waiting-is-live c a) n)
+    (λ g. rw g (omega (arith, none-of j (wakesAfter d (r .job)) (by-test (isWoken j (wakesAfter d (r .job))) (λ w. absurd (running-not-waiting (woken-after v (r .job) s j w) f)) (λ w. w)))))

@@ -45,7 +45,7 @@ module _ {d : Desk} (v : Inv d) (r : Request) where
   unfolding asking
   wrote-cell (nothing w) x h = in-none h
   wrote-cell (action a k w c) x h = in-split h (λ e. subst (λ y. y .cell < cells) (sym (same-action e)) (k .within)) in-none
-  wrote-cell (mark m s js said o l) x h = in-split h no-mark (λ k. woken-cell x (search-order (rowsAfter d (r .job)) cells .granted (recorded-wake (wakesAfter d (r .job)) k)))
+  wrote-cell (mark m s js said o l _) x h = in-split h no-mark (λ k. woken-cell x (search-order (rowsAfter d (r .job)) cells .granted (recorded-wake (wakesAfter d (r .job)) k)))
 
 -- in every history that the desk writes, an action's cell is below 64
 pub recorded-cells : {d : Desk} {h : History} → Started d h → (x : Action) → In (Does x) h → x .cell < 64

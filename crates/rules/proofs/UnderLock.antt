@@ -73,7 +73,7 @@ module _ {d : Desk} (v : Inv d) {r : Request} where
         },
       ))
       in-none
-  wrote-locked {o} (mark m s js said open′ last′) x h =
+  wrote-locked {o} (mark m s js said open′ last′ _) x h =
       in-split h no-mark (λ k. woken-locked (o .desk) x (λ c. refl) (search-order (rowsAfter d (r .job)) cells .granted (recorded-wake (wakesAfter d (r .job)) k)))
 
 -- what is promised of locks

@@ -101,7 +101,7 @@ module _ {d : Desk} (v : Inv d) (r : Request) (c : ℕ) (w : Waiter) (k : IsWait
   unfolding rule4
   wrote-not-ended (nothing g) i way = ended-is i [] ∙ marked-none isEnd i
   wrote-not-ended (action a g m l) i way = ended-is i _ ∙ marked-does isEnd i (asking r a) [] ∙ marked-none isEnd i
-  wrote-not-ended (mark m s js said o l) i way =
+  wrote-not-ended (mark m s js said o l _) i way =
       ended-is i _
       ∙ marked-ends isEnd i m (r .job) (wakeRecords (wakesAfter d (r .job)))
       ∙ rw (ne-eqb (r .job) i (λ e. ended-away v (r .job) c w k (subst (InWay (rowsAfter d (r .job) c .row) w) (sym e) way))) (wakes-unmarked isEnd i (wakesAfter d (r .job)))

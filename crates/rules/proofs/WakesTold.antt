@@ -32,7 +32,7 @@ use Rattle.rules.proofs.AheadLaws.{ahead-in, ahead-of, ahead-younger, y
 use Rattle.rules.proofs.RunEnd.{wakesAfter, row-releases}
 use Rattle.rules.proofs.Waking.{rule4-wakes, moved-wakes}
 use Rattle.rules.proofs.Written.{step-wrote}
-use Rattle.rules.proofs.OneRecordEach.{wrote-one}
+use Rattle.rules.proofs.OneRecordEach.{wrote-one, wrote-none}
 use Rattle.rules.proofs.Bystanders.{moved-status, moved-place}
 use Rattle.rules.proofs.OthersLocks.{moved-locks, granted-elsewhere}
 use Rattle.rules.proofs.WakeOrder.{Searched, granted-ahead, before-first, before-second, search-order}
@@ -117,4 +117,5 @@ module _ {d : Desk} {h : History} (s : Started d h) (r : Request) where
     bystander-locks = λ i n f c. moved-locks v r i n c (step-moved d r) f;
     woken-locks = λ x m c n. let (t, g) = wake-ran d r x m in left-elsewhere (g .cell) (g .waiter) (g .granted) t x (g .is) c n;
     one-record-each = wrote-one v (step-wrote d r v) (apart v (r .job));
+    none-while-waiting = wrote-none v (step-wrote d r v);
   }

@@ -3,7 +3,7 @@
 use Prim.Native.Nat.{ℕ}
 use mathlib.Core.Path.{_≡_, refl, ap, subst, _∙_}
 use mathlib.Core.Logic.{_≢_}
-use mathlib.Core.Bool.{true}
+use mathlib.Core.Bool.{true, false}
 use mathlib.Core.List.{List, [], _∷_, _++_}
 use Rattle.laws.specs.Choice.{not-both}
 use Rattle.terms.specs.declared.letters.Ask.{Ask}
@@ -20,7 +20,7 @@ use Rattle.conflict.proofs.OneEvent.{back-not-last, isLast}
 use Rattle.conflict.proofs.ModeLaws.{covers-refl, asked-covers, asked-grows, asked-free, is-free, grants-free}
 use Rattle.rules.specs.declared.Answer.{Answer}
 use Rattle.rules.specs.declared.Answer.the-variants.{Go, Back as sent-back}
-use Rattle.rules.specs.Desk.{Status, closed, sentback, isOpen, Desk, Request, Waiter, Row, at, vacated}
+use Rattle.rules.specs.Desk.{Status, closed, sentback, isOpen, Desk, Request, Waiter, Row, at, vacated, isLive}
 use Rattle.rules.specs.Rules.{Outcome, refused, withRow, withStatus, wakesOf, rowsAfter, rule4, grant}
 use Rattle.rules.specs.Step.{recordsBy, step, wentBy, ownRecords, wakeRecords, recordsOf, events}
 use Rattle.rules.specs.Asked.{Asking}
@@ -46,7 +46,7 @@ pub record Grew (before after : ℕ → Row) : Type 0 where
 pub data Wrote (d : Desk) (r : Request) : Outcome → History → Type 0 where
   nothing : {o : Outcome} → Grew (d .row) (o .desk .row) → Wrote d r o []
   action : {o : Outcome} (a : Ask) → Asking d r a → Grew (d .row) (o .desk .row) → covers (o .desk .row (r .cell) .held (r .job)) (needed a) ≡ true → Wrote d r o (Does (asking r a) ∷ [])
-  mark : (m : Mark) (s : Status) (js : List ℕ) (said : Answer) → isOpen (d .stat (r .job)) ≡ true → (isLast m ≡ true → s ≡ closed) → Wrote d r (rule4 d (r .job) s js said) (Ends m (r .job) ∷ wakeRecords (wakesOf (rowsAfter d (r .job)) cells))
+  mark : (m : Mark) (s : Status) (js : List ℕ) (said : Answer) → isOpen (d .stat (r .job)) ≡ true → (isLast m ≡ true → s ≡ closed) → isLive s ≡ false → Wrote d r (rule4 d (r .job) s js said) (Ends m (r .job) ∷ wakeRecords (wakesOf (rowsAfter d (r .job)) cells))
 
 module _ (d : Desk) (v : Inv d) where
   -- a desk with the same rows
@@ -89,11 +89,11 @@ module _ (d : Desk) (r : Request) (v : Inv d) where
 
   -- every move, by what it writes
   moved-wrote : {o : Outcome} → Moved d r o → Wrote d r o (recordsOf r (o .said) (o .wakes))
-  unfolding recordsOf ownRecords wentBy wakeRecords refused rule4 grant withRow withStatus asking
+  unfolding recordsOf ownRecords wentBy wakeRecords refused rule4 grant withRow withStatus asking isLive
   moved-wrote (refuses why _) = nothing (same-rows d v)
   moved-wrote (begins e n m) = rw e (nothing (same-rows d v))
-  moved-wrote (commits e s) = rw e (mark Commit closed (vacated (r .job) (d .jobs)) (Go (r .job)) (running-open s) (λ _. refl))
-  moved-wrote (gives-up e s) = rw e (mark GiveUp closed (vacated (r .job) (d .jobs)) (Go (r .job)) s (λ _. refl))
+  moved-wrote (commits e s) = rw e (mark Commit closed (vacated (r .job) (d .jobs)) (Go (r .job)) (running-open s) (λ _. refl) refl)
+  moved-wrote (gives-up e s) = rw e (mark GiveUp closed (vacated (r .job) (d .jobs)) (Go (r .job)) s (λ _. refl) refl)
   moved-wrote (retries e s) = rw e (nothing (same-rows d v))
   moved-wrote (has-it a k c) = rw (k .letter) (action a k (same-rows d v) c)
   moved-wrote (promotes a k c f l) =
@@ -107,7 +107,7 @@ module _ (d : Desk) (r : Request) (v : Inv d) where
       rw (k .letter) (granted-wrote a (needed a) k (covers-nothing (held (r .job)) (needed a) f) (covers-refl (needed a))
       (agrees-each (d .jobs) held (r .job) (needed a) (row-ready v (r .cell) .seats) g))
   moved-wrote (waits-last a k f e h w) = nothing (same-locks d v (r .cell) (d .row (r .cell) .queue ++ record { job = r .job; ask = a } ∷ []))
-  moved-wrote (goes-back a k e) = mark Back sentback (d .jobs) (sent-back (r .job)) (running-open (k .runs)) (λ l. not-both l back-not-last)
+  moved-wrote (goes-back a k e) = mark Back sentback (d .jobs) (sent-back (r .job)) (running-open (k .runs)) (λ l. not-both l back-not-last) refl
 
   -- every step, by what it writes
   pub step-wrote : Wrote d r (step d r) (events d r)

@@ -32,5 +32,6 @@ pub record Wakes (k : Course) (r : Request) : Type 0 where
   pub bystander-locks : (i : ℕ) → i ≢ named (now k) r → isWoken i (to k r .wakes) ≡ false → (c : ℕ) → to k r .desk .row c .held i ≡ now k .row c .held i
   -- a wake's job holds on every cell but the wake's exactly what it held
   pub woken-locks : (x : Action) → In x (to k r .wakes) → (c : ℕ) → c ≢ x .cell → to k r .desk .row c .held (x .job) ≡ now k .row c .held (x .job)
-  -- in a step each job has one record at most: its request's own, or that of its wake (01, Lines)
+  -- a request has one record at most: in a step each job has one at most, its request's own or that of its wake, and as long as it waits it has none (01, Lines)
   pub one-record-each : (j : ℕ) → recordsFor j (records k r) ≤ 1
+  pub none-while-waiting : (j c : ℕ) (a : Ask) → now k .stat j ≡ waiting c a → to k r .desk .stat j ≡ waiting c a → recordsFor j (records k r) ≡ 0
