@@ -19,16 +19,6 @@ pub decimal-0 : decimal 0 ≡ 48 ∷ []
 unfolding decimal digitsIn
 decimal-0 = refl
 
--- one digit stands alone
-pub decimal-7 : decimal 7 ≡ 55 ∷ []
-unfolding decimal digitsIn
-decimal-7 = refl
-
--- the largest number of a job, digit by digit
-pub decimal-last : decimal 4_294_967_295 ≡ 52 ∷ 50 ∷ 57 ∷ 52 ∷ 57 ∷ 54 ∷ 55 ∷ 50 ∷ 57 ∷ 53 ∷ []
-unfolding decimal digitsIn
-decimal-last = refl
-
 -- a number of twenty-one digits, which no machine word holds
 pub decimal-long : decimal (10 ^ 20) ≡ 49 ∷ replicate 20 48
 unfolding decimal digitsIn
