@@ -24,8 +24,8 @@ use Rattle.formats.proofs.GoodLine.{good-exactly}
 use Rattle.formats.proofs.TextLines.{lines-join}
 use Rattle.verdicts.specs.HistoryText.{readingsOf, eventOf, eventsIn}
 use Rattle.verdicts.specs.AsWorded.{SoundText}
-use Rattle.verdicts.specs.Written.{askBy, markLetter, eventLine, textOf}
-use Rattle.verdicts.proofs.RecordLines.{text-append}
+use Rattle.formats.specs.EventRecords.{askBy, markLetter, eventLine, textOf}
+use Rattle.formats.proofs.RecordLines.{text-append}
 
 -- a letter that asks, of the kind that it asks for
 ask-back : (a : Ask) → askBy (recorded a) ≡ a
