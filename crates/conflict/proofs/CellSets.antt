@@ -4,13 +4,16 @@ use Prim.Native.Nat.{ℕ, zero, suc, _+_, _-_, _*_, _/_, _%_, _^_, _≤_, _<_, m
 use mathlib.Core.Path.{_≡_, refl, sym, ap, ap₂, _∙_}
 use mathlib.Core.Bool.{Bool, true, false, not, _&&_, _||_, and-true, and-false, or-false, or-comm}
 use native.Mathlib.Omega.{arith}
-use native.Mathlib.Nat.{div-eq-of-lt, div-self, div-one, one-mul, one-le-pow, pow-suc}
+use native.Mathlib.Nat.{zero-div, div-eq-of-lt, div-self, div-one, one-mul, one-le-pow, pow-suc}
 use lib.Dec.{eqb, ltb}
 use lib.Bits.{bitAnd, bitOr, and-step, or-step, and-shr, or-shr, and-mask}
 use lib.Pow.{pow-lt, pow-add, shl-shr, shr-shr, shl-exact}
 use borrow.Author.Tests.{eqb-true, eqb-false, eq-eqb, ne-eqb, ltb-true, ltb-false, lt-ltb, le-ltb}
 use Rattle.laws.specs.Choice.{by-test}
 use Rattle.laws.specs.Lists.{same}
+use Rattle.laws.proofs.Parts.{or-second}
+use Rattle.conflict.specs.declared.action.Kind.{Kind}
+use Rattle.conflict.specs.declared.action.Kind.the-variants.{Read, Write, Increment}
 use Rattle.conflict.specs.declared.cells.Touched.{Touched}
 use Rattle.conflict.specs.Schedule.{agree}
 use Rattle.conflict.specs.Cells.{inSet, actsOn, someKind, canConflict}
@@ -119,3 +122,35 @@ same-set (suc n) a b h g e =
 
 pub same-cells : (a b : ℕ) → ((c : ℕ) → inSet a c ≡ inSet b c) → a ≡ b
 same-cells a b e = same-set (a + b) a b (omega arith) (omega arith) e
+
+-- a test that some kind passes holds of some kind
+some-kind : (f : Kind → Bool) (k : Kind) → f k ≡ true → someKind f ≡ true
+unfolding someKind
+some-kind f Read t = rw t
+some-kind f Write t = or-second (f Read) (f Write || f Increment) (rw t)
+some-kind f Increment t = or-second (f Read) (f Write || f Increment) (or-second (f Write) (f Increment) t)
+
+-- jobs with actions of kinds that do not agree on a cell can conflict there
+pub can-conflict : (a b : Touched) (k l : Kind) (c : ℕ) → actsOn a k c ≡ true → actsOn b l c ≡ true → agree k l ≡ false → canConflict a b c ≡ true
+unfolding canConflict
+can-conflict a b k l c p q n =
+    some-kind (λ k′. someKind (λ l′. (actsOn a k′ c && actsOn b l′ c) && not (agree k′ l′))) k
+    (some-kind (λ l′. (actsOn a k c && actsOn b l′ c) && not (agree k l′)) l (rw (p, q, n)))
+
+-- no cell is in the empty set
+pub in-none : (c : ℕ) → inSet 0 c ≡ false
+unfolding inSet
+in-none c = rw (zero-div (2 ^ c))
+
+-- the sets of a job, kind by kind
+pub acts-read : (t : Touched) (c : ℕ) → actsOn t Read c ≡ inSet (t .reads) c
+unfolding actsOn
+acts-read t c = refl
+
+pub acts-write : (t : Touched) (c : ℕ) → actsOn t Write c ≡ inSet (t .writes) c
+unfolding actsOn
+acts-write t c = refl
+
+pub acts-increment : (t : Touched) (c : ℕ) → actsOn t Increment c ≡ inSet (t .increments) c
+unfolding actsOn
+acts-increment t c = refl

@@ -2,8 +2,9 @@
 -- Assumes nothing.
 use mathlib.Core.Path.{_≡_, refl, ap, _∙_}
 use mathlib.Core.Bool.{Bool, true, false, not, _&&_}
-use borrow.Author.Tests.{eq-eqb, ne-eqb}
+use borrow.Author.Tests.{eq-eqb, ne-eqb, eqb-true, not-true}
 use Rattle.laws.specs.Lists.{same}
+use Rattle.laws.proofs.Parts.{and-first, and-second}
 use Rattle.conflict.specs.declared.action.Action.{Action}
 use Rattle.conflict.specs.Schedule.{agree, conflicts}
 
@@ -27,3 +28,19 @@ module _ (a b : Action) where
   pub by-kinds : (r : Bool) → a .cell ≡ b .cell → (a .job ≡ b .job → ⊥) → r ≡ agree (a .kind) (b .kind) → not r ≡ conflicts a b
   unfolding conflicts
   by-kinds r e n h = rw (eq-eqb (a .cell) (b .cell) e, ne-eqb (a .job) (b .job) n, h)
+
+  module _ (t : conflicts a b ≡ true) where
+    -- actions that conflict are on one cell
+    pub conflict-cell : a .cell ≡ b .cell
+    unfolding conflicts
+    conflict-cell =
+        eqb-true (a .cell) (b .cell)
+        (and-first (same (a .cell) (b .cell)) (not (same (a .job) (b .job)))
+        (and-first (same (a .cell) (b .cell) && not (same (a .job) (b .job))) (not (agree (a .kind) (b .kind))) t))
+
+    -- and their kinds do not agree
+    pub conflict-kinds : agree (a .kind) (b .kind) ≡ false
+    unfolding conflicts
+    conflict-kinds =
+        not-true (agree (a .kind) (b .kind))
+        (and-second (same (a .cell) (b .cell) && not (same (a .job) (b .job))) (not (agree (a .kind) (b .kind))) t)

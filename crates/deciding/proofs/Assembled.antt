@@ -27,12 +27,12 @@ pub starts-spaced : (owners counts starts : List ℕ) (n : ℕ) → n ≤ 4096 �
 starts-spaced owners counts starts n h e q = spaced owners starts n h (q ∙ ap (λ c. tab (startAt c) 257) e)
 
 -- the owner of each of the lines
-owned : (codes jobs since owners : List ℕ) (n : ℕ) → n ≤ 4096 → owners ≡ tab (ownersBy codes jobs since n) 4096 → (p : ℕ) → p < n → getD owners p 0 ≡ ownerAt codes jobs since p
+pub owned : (codes jobs since owners : List ℕ) (n : ℕ) → n ≤ 4096 → owners ≡ tab (ownersBy codes jobs since n) 4096 → (p : ℕ) → p < n → getD owners p 0 ≡ ownerAt codes jobs since p
 unfolding ownersBy
 owned codes jobs since owners n h e p b =
     ap (λ l. getD l p 0) e ∙ tab-at (ownersBy codes jobs since n) 4096 0 p (omega arith) ∙ rw (lt-ltb p n b)
 
 -- the table of the parts is the precedence graph of the committed part
-pub edges-are : (codes jobs cells : List ℕ) (done : List Bool) (since owners lines starts : List ℕ) (table : List Bool) (n : ℕ) → n ≤ 4096 → ByteJobs jobs n → done ≡ tab (hasCommit codes jobs n) 256 → since ≡ tab (countedFrom codes jobs n) 256 → owners ≡ tab (ownersBy codes jobs since n) 4096 → Spaced owners starts n → Grouped owners starts n lines → table ≡ tab (λ x. edgeBy codes jobs cells done lines starts (x % 256) (x / 256)) 65536 → edgesIn table ≡ edge (committedPart (historyBy codes jobs cells n))
+pub edges-are : (codes jobs cells : List ℕ) (done : List Bool) (since owners lines starts : List ℕ) (table : List Bool) (n : ℕ) → n ≤ 4096 → ByteJobs jobs n → done ≡ tab (hasCommit codes jobs n) 256 → since ≡ tab (countedFrom codes jobs n) 256 → owners ≡ tab (ownersBy codes jobs since n) 4096 → Spaced owners starts n → Grouped owners starts n lines → table ≡ tab (λ x. edgeBy codes jobs cells done lines starts (x / 256) (x % 256)) 65536 → edgesIn table ≡ edge (committedPart (historyBy codes jobs cells n))
 edges-are codes jobs cells done since owners lines starts table n h b d s o sp g t =
     table-edges codes jobs n (b .bytes) (b .given) cells since owners s (owned codes jobs since owners n h o) done lines starts d (part-is owners starts n lines sp g) table t

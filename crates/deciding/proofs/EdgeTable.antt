@@ -99,7 +99,7 @@ module _ (codes jobs : List ℕ) (n : ℕ) (bytes : (p : ℕ) → p < n → getD
           (λ g. rw (done-is i bi ∙ g) (sym (never (edge (committedPart (historyBy codes jobs cells n)) i j) (λ h. not-both (edge-commit i j h .0) g))))))
 
       -- the table of them is the precedence graph of the committed part
-      pub table-edges : (table : List Bool) → table ≡ tab (λ x. edgeBy codes jobs cells done lines starts (x % 256) (x / 256)) 65536 → edgesIn table ≡ edge (committedPart (historyBy codes jobs cells n))
+      pub table-edges : (table : List Bool) → table ≡ tab (λ x. edgeBy codes jobs cells done lines starts (x / 256) (x % 256)) 65536 → edgesIn table ≡ edge (committedPart (historyBy codes jobs cells n))
       unfolding edgesIn
       table-edges table e =
           fun-ext (λ i. fun-ext (λ j.
@@ -107,12 +107,12 @@ module _ (codes jobs : List ℕ) (n : ℕ) (bytes : (p : ℕ) → p < n → getD
           (λ t.
           let bi : i < 256 = ltb-true i 256 (and-first (ltb i 256) (ltb j 256) t) in
           let bj : j < 256 = ltb-true j 256 (and-second (ltb i 256) (ltb j 256) t) in
-          let low : (j * 256 + i) % 256 ≡ i = omega arith in
-          let high : (j * 256 + i) / 256 ≡ j = omega arith in
-          let there : getD table (j * 256 + i) false ≡ edgeBy codes jobs cells done lines starts i j =
-          ap (λ l. getD l (j * 256 + i) false) e
-          ∙ tab-at (λ x. edgeBy codes jobs cells done lines starts (x % 256) (x / 256)) 65536 false (j * 256 + i) (omega arith)
-          ∙ ap₂ (edgeBy codes jobs cells done lines starts) low high in
+          let low : (i * 256 + j) % 256 ≡ j = omega arith in
+          let high : (i * 256 + j) / 256 ≡ i = omega arith in
+          let there : getD table (i * 256 + j) false ≡ edgeBy codes jobs cells done lines starts i j =
+          ap (λ l. getD l (i * 256 + j) false) e
+          ∙ tab-at (λ x. edgeBy codes jobs cells done lines starts (x / 256) (x % 256)) 65536 false (i * 256 + j) (omega arith)
+          ∙ ap₂ (edgeBy codes jobs cells done lines starts) high low in
           rw t (there ∙ edge-by i j bi bj))
           (λ f. rw f (sym (never (edge (committedPart (historyBy codes jobs cells n)) i j)
           (λ h.

@@ -12,13 +12,17 @@ pub mod Marking
 pub mod Counting
 pub mod Searching
 pub mod Acting
+pub mod Covering
+pub mod Reaching
 pub mod ByParts
 pub mod Seeking
+pub mod Tallying
 pub mod TakingAway
 pub mod Trail
 pub mod Turning
 pub mod Putting
 pub mod Assembled
+pub mod Workings
 pub mod Said
 pub mod JobFlags
 pub mod KeptFaults

@@ -10,12 +10,10 @@ use native.Mathlib.Omega.{arith}
 use lib.Dec.{ltb}
 use lib.ListN.{length, getD}
 use borrow.Author.Tests.{lt-ltb}
-use Rattle.laws.specs.Choice.{by-test, not-both}
+use Rattle.laws.specs.Choice.{by-test}
 use Rattle.laws.specs.Lists.{member, put}
-use Rattle.verdicts.specs.Order.{Edges, first, preceded, ready}
-use Rattle.verdicts.specs.Knot.{predecessor}
+use Rattle.verdicts.specs.Order.{first}
 use Rattle.verdicts.proofs.Firsts.{by-one, first-is, first-none}
-use Rattle.verdicts.proofs.Preceded.{preceded-by, precedes}
 use Rattle.deciding.specs.Lists.{listed}
 use Rattle.deciding.specs.Grouped.{edgesIn}
 use Rattle.deciding.specs.Left.{leftOf, orNobody}
@@ -75,36 +73,6 @@ module _ (left : List Bool) where
   unfolding leftOf
   left-few = listed-few (λ i. getD left i false) 0 256
 
-  module _ (e : Edges) (j : ℕ) where
-    -- nobody found means that there is none
-    nobody-none : orNobody (predecessor e (leftOf left) j) ≡ 256 → preceded e (leftOf left) j ≡ false
-    unfolding predecessor orNobody
-    nobody-none h =
-        by-one (predecessor e (leftOf left) j)
-        (λ q. by-test (preceded e (leftOf left) j)
-        (λ t. let by = preceded-by e (leftOf left) j t in not-both (by .2) (first-none (λ i. e i j) (leftOf left) q (by .0) (by .1)))
-        (λ f. f))
-        (λ i q.
-        let small : i < 256 = left-small i (first-is (λ k. e k j) (leftOf left) i q .0) in
-        let same′ : i ≡ 256 = sym (ap orNobody q) ∙ h in
-        absurd (omega arith))
-
-    -- and somebody found that there is one
-    somebody-some : (orNobody (predecessor e (leftOf left) j) ≡ 256 → ⊥) → preceded e (leftOf left) j ≡ true
-    unfolding predecessor orNobody
-    somebody-some h =
-        by-one (predecessor e (leftOf left) j)
-        (λ q. absurd (h (ap orNobody q)))
-        (λ i q. let r = first-is (λ k. e k j) (leftOf left) i q in precedes e (leftOf left) i j (r .0) (r .1))
-
-    -- a job for which nobody is found is ready
-    pub nobody-ready : (p : ℕ) → p ≡ orNobody (predecessor e (leftOf left) j) → p ≡ 256 → not (preceded e (leftOf left) j) ≡ true
-    nobody-ready p h n = ap not (nobody-none (sym h ∙ n))
-
-    -- one for which somebody is found is not
-    pub somebody-busy : (p : ℕ) → p ≡ orNobody (predecessor e (leftOf left) j) → (p ≡ 256 → ⊥) → not (preceded e (leftOf left) j) ≡ false
-    somebody-busy p h n = ap not (somebody-some (λ q. n (h ∙ q)))
-
   -- who is found is one of those left
   pub found-left : (test : ℕ → Bool) (j : ℕ) → j ≡ orNobody (first test (leftOf left)) → (j ≡ 256 → ⊥) → (first test (leftOf left) ≡ some j) × (j < 256)
   unfolding orNobody
@@ -126,6 +94,6 @@ module _ (left : List Bool) where
       absurd (omega arith))
 
 -- the table's edges between two of the 256 jobs
-pub edge-there : (table : List Bool) (i j : ℕ) → i < 256 → j < 256 → edgesIn table i j ≡ getD table (j * 256 + i) false
+pub edge-there : (table : List Bool) (i j : ℕ) → i < 256 → j < 256 → edgesIn table i j ≡ getD table (i * 256 + j) false
 unfolding edgesIn
 edge-there table i j bi bj = rw (lt-ltb i 256 bi, lt-ltb j 256 bj)

@@ -106,6 +106,11 @@ module _ (e : Edges) where
       going-fewer =
           rw (left-without left j (g .flags) (found-ready .1)) (shorter j (leftOf left) (ready-is e (leftOf left) j (found-ready .0) .0))
 
+      -- it was left
+      pub going-left : getD left j false ≡ true
+      unfolding leftOf
+      going-left = listed-is (λ i. getD left i false) 0 256 j (ready-is e (leftOf left) j (found-ready .0) .0) .2
+
       -- it has a place
       pub going-fits : (j < 256) × (k < 256)
       going-fits = (found-ready .1, omega (arith, going-fewer, g .room))

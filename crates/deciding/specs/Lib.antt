@@ -2,6 +2,8 @@ pub mod Lists
 pub mod Counted
 pub mod Meeting
 pub mod Grouped
+pub mod Reaching
 pub mod Left
+pub mod Preceding
 pub mod Rounds
 pub mod Kept

@@ -12,6 +12,8 @@ use crate::order::take_away;
 use crate::runs::committed_jobs;
 use crate::runs::counted_from;
 use crate::runs::owners;
+use crate::sets::cells_of;
+use crate::sets::last_lines;
 use terms::limits::JUDGED_LINES;
 use verdicts::verdict::Verdict;
 ghost use mathlib.Core.Path.{_≡_};
@@ -38,6 +40,7 @@ fn edges_of<'a>(
     n: usize,
 ) -> [bool; 65536]
     requires { ⌜ (n ≤ 4096) × ByteJobs (now jobs) n × (now done ≡ tab (hasCommit (now codes) (now jobs) n) 256) ⌝ }
+    requires { ⌜ ((p : ℕ) → p < n → getD (now codes) p 0 < 3 → getD (now cells) p 0 < 64) ⌝ }
     ensures { λ r. ⌜ edgesIn r ≡ edge (committedPart (historyBy (now (codes .entry)) (now (jobs .entry)) (now (cells .entry)) n)) ⌝ }
 {
     let since = counted_from(codes, jobs, n);
@@ -45,7 +48,22 @@ fn edges_of<'a>(
     let count = tallies(&owner, n);
     let start = starts(&count);
     let lines = grouped(&owner, &start, n);
-    edge_table(codes, jobs, cells, done, &lines, &start)
+    let lasts = last_lines(codes, jobs, cells, &owner, n);
+    let reads = cells_of(codes, cells, &owner, n, 0);
+    let writes = cells_of(codes, cells, &owner, n, 1);
+    let increments = cells_of(codes, cells, &owner, n, 2);
+    edge_table(
+        codes,
+        jobs,
+        cells,
+        done,
+        &lines,
+        &start,
+        &lasts,
+        &reads,
+        &writes,
+        &increments,
+    )
 }
 
 // The knot that the walk back from a job ends in, put into the first places of the buffer.
@@ -77,6 +95,7 @@ pub fn decide<'a>(
 ) -> Verdict
     requires { ⌜ (n ≤ 4096) × (255 ≤ length (now order)) ⌝ }
     requires { ⌜ ((p : ℕ) → p < n → getD (now jobs) p 0 ≡ 0 → ⊥) ⌝ }
+    requires { ⌜ ((p : ℕ) → p < n → getD (now codes) p 0 < 3 → getD (now cells) p 0 < 64) ⌝ }
     ensures { λ r. ⌜ r ≡ sayFinding (now (order .entry)) (findingOf (historyBy (now (codes .entry)) (now (jobs .entry)) (now (cells .entry)) n)) .said ⌝ }
     ensures { λ r. ⌜ now (order .exit) ≡ sayFinding (now (order .entry)) (findingOf (historyBy (now (codes .entry)) (now (jobs .entry)) (now (cells .entry)) n)) .order ⌝ }
 {

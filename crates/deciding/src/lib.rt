@@ -6,3 +6,4 @@ pub mod kept;
 mod knots;
 mod order;
 mod runs;
+mod sets;

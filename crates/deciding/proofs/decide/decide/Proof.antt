@@ -10,7 +10,7 @@ use Rattle.deciding.proofs.decide.decide.Tie as tie
 
 after : (c : tie.After-take-away) → Took (historyBy (c .before .before .before .before .before .before .before .before .args .codes .now) (c .before .before .before .before .before .before .before .before .args .jobs .now) (c .before .before .before .before .before .before .before .before .args .cells .now) (c .before .before .before .before .before .before .before .before .args .n)) (c .before .before .before .before .edges-of .result) (c .take-away .last .1 .0) (c .take-away .last .1 .1 .0) (c .take-away .result)
 after c =
-    took _ _ _ _ (record { bytes = c .before .before .before .before .before .before .committed-jobs .ensures .1; given = c .before .before .before .before .before .before .before .before .pre .1 }) _ (c .before .before .before .before .before .before .committed-jobs .ensures .0) _ _ _ _
+    took _ _ _ _ (record { bytes = c .before .before .before .before .before .before .committed-jobs .ensures .1; given = c .before .before .before .before .before .before .before .before .pre .1 .0 }) _ (c .before .before .before .before .before .before .committed-jobs .ensures .0) _ _ _ _
     (c .before .before .before .before .edges-of .ensures) (c .take-away .ensures .0) (c .take-away .ensures .1 .0) (c .take-away .ensures .1 .1)
 
 committed-jobs-requires : tie.Need-committed-jobs-requires

@@ -8,10 +8,10 @@ use Rattle.deciding.proofs.edges.edge_table.Statement.{statement}
 use Rattle.deciding.proofs.edges.edge_table.Tie as tie
 
 abbrev Inv-loop : tie.InvT-loop
-Inv-loop codes jobs cells done lines starts table₀ x₀ table x = (x ≤ 65536) × Told (λ y. edgeBy codes jobs cells done lines starts (y % 256) (y / 256)) 65536 x table
+Inv-loop codes jobs cells done lines starts lasts reads writes increments table₀ x₀ table x = (x ≤ 65536) × Told (λ y. edgeBy codes jobs cells done lines starts (y / 256) (y % 256)) 65536 x table
 
 abbrev μ-loop : tie.MeasureT-loop
-μ-loop codes jobs cells done lines starts table₀ x₀ table x = 65536 - x
+μ-loop codes jobs cells done lines starts lasts reads writes increments table₀ x₀ table x = 65536 - x
 
 loop-holds : tie.Need-loop-holds Inv-loop μ-loop
 loop-holds c = (omega arith, told-none _ 65536)

@@ -1,32 +1,40 @@
--- `deciding::edges::meets` meets its contract. The outer loop's invariant: the lines left decide as all do. The inner loop's: so do the lines of the other job that are left.
+-- `deciding::edges::meets` meets its contract. The outer loop's invariant: the lines left decide as all do. The inner loop's: no last line of a kind passed is met.
 -- The measures are how many of each are left. Assumes nothing.
-use Prim.Native.Nat.{_+_, _-_, _≤_, _<_}
+use Prim.Native.Nat.{ℕ, _-_, _≤_, _<_}
 use mathlib.Core.Path.{_≡_, refl, _∙_}
 use mathlib.Core.Bool.{false}
-use mathlib.Core.Logic.{⊎-elim}
 use native.Mathlib.Omega.{arith}
 use borrow.Author.Needs.{needs}
-use lib.ListN.{length, take, drop}
+use borrow.Author.Count.{below-none, below-more}
+use lib.ListN.{length, drop}
 use Rattle.laws.specs.Choice.{was-true, was-false}
-use Rattle.deciding.specs.Meeting.{clashing, meetsLater, meetings}
-use Rattle.deciding.proofs.Searching.{later-whole, later-past, later-none, later-found, later-end, meets-past, meets-found, meets-end}
+use Rattle.deciding.specs.Meeting.{clashing, meetings}
+use Rattle.deciding.specs.Reaching.{lastMet}
+use Rattle.deciding.proofs.Searching.{member-at, meets-past, meets-found, meets-end}
+use Rattle.deciding.proofs.Reaching.{apart-none, reach-found, reach-none, masked-none, in-mask}
 use Rattle.deciding.proofs.edges.meets.Statement.{statement}
 use Rattle.deciding.proofs.edges.meets.Tie as tie
 
 abbrev Inv-loop : tie.InvT-loop
-Inv-loop codes jobs cells xs ys found₀ i x k₀ found k = (k ≤ length ys) × (found ≡ false) × (meetsLater (clashing codes jobs cells) x ys ≡ meetsLater (clashing codes jobs cells) x (take k ys))
+Inv-loop codes jobs cells lasts mask xs ys j found₀ i x k₀ found k = (k ≤ 3) × (found ≡ false) × ((y : ℕ) → y < k → lastMet codes jobs cells lasts j x y ≡ false)
 
 abbrev μ-loop : tie.MeasureT-loop
-μ-loop codes jobs cells xs ys found₀ i x k₀ found k = k
+μ-loop codes jobs cells lasts mask xs ys j found₀ i x k₀ found k = 3 - k
 
 abbrev Inv-outer : tie.InvT-outer
-Inv-outer codes jobs cells xs ys found₀ i₀ found i = (found ≡ false) × (meetings (clashing codes jobs cells) xs ys ≡ meetings (clashing codes jobs cells) (drop i xs) ys)
+Inv-outer codes jobs cells lasts mask xs ys j found₀ i₀ found i = (i ≤ length xs) × (found ≡ false) × (meetings (clashing codes jobs cells) xs ys ≡ meetings (clashing codes jobs cells) (drop i xs) ys)
 
 abbrev μ-outer : tie.MeasureT-outer
-μ-outer codes jobs cells xs ys found₀ i₀ found i = length xs - i
+μ-outer codes jobs cells lasts mask xs ys j found₀ i₀ found i = length xs - i
+
+apart-requires : tie.Need-apart-requires Inv-loop μ-loop Inv-outer μ-outer
+apart-requires c κs = (c .before .before .pre .0 .1, c .before .before .pre .0 .2)
+
+returns : tie.Need-returns Inv-loop μ-loop Inv-outer μ-outer
+returns c = apart-none _ _ _ (c .before .apart .ensures (c .if1 .taken))
 
 outer-holds : tie.Need-outer-holds Inv-loop μ-loop Inv-outer μ-outer
-outer-holds c = (refl, refl)
+outer-holds c = (omega arith, refl, refl)
 
 mul-x : tie.Need-mul-x Inv-loop μ-loop Inv-outer μ-outer
 mul-x c = omega arith
@@ -37,55 +45,63 @@ shared-slice-read-x c = omega arith
 cast-x : tie.Need-cast-x Inv-loop μ-loop Inv-outer μ-outer
 cast-x c = omega (arith, c .shared-slice-known3 .given (c .before .before .outer .i))
 
-loop-holds : tie.Need-loop-holds Inv-loop μ-loop Inv-outer μ-outer
-loop-holds c = (omega arith, c .before .before .outer .inv .0, later-whole _ _ _)
-
-sub-k : tie.Need-sub-k Inv-loop μ-loop Inv-outer μ-outer
-sub-k c = omega arith
-
-mul-y : tie.Need-mul-y Inv-loop μ-loop Inv-outer μ-outer
-mul-y c = omega arith
-
-shared-slice-read-y : tie.Need-shared-slice-read-y Inv-loop μ-loop Inv-outer μ-outer
-shared-slice-read-y c = omega arith
-
-cast-y : tie.Need-cast-y Inv-loop μ-loop Inv-outer μ-outer
-cast-y c = omega (arith, c .shared-slice-known4 .given (c .before .before .loop .k - 1))
-
-clash-requires : tie.Need-clash-requires Inv-loop μ-loop Inv-outer μ-outer
-clash-requires c κs = (c .before .before .before .before .before .before .before .before .before .pre .0 .known _, c .before .before .before .before .before .before .before .before .before .pre .1 .known _)
-
-loop-less : tie.Need-loop-less Inv-loop μ-loop Inv-outer μ-outer
-loop-less c = omega arith
-
-loop-again : tie.Need-loop-again Inv-loop μ-loop Inv-outer μ-outer
-loop-again c = (omega arith, c .before .before .before .before .before .loop .inv .1, later-past _ _ _ _ (omega arith) (omega arith) (was-false _ (c .before .clash .ensures) (c .if2 .left)) (c .before .before .before .before .before .loop .inv .2))
-
 add-i : tie.Need-add-i Inv-loop μ-loop Inv-outer μ-outer
 add-i c = omega arith
+
+element-copy-out-wide : tie.Need-element-copy-out-wide Inv-loop μ-loop Inv-outer μ-outer
+element-copy-out-wide c = c .before .before .before .before .before .before .before .pre .0 .1 .known _
+
+wide-requires : tie.Need-wide-requires Inv-loop μ-loop Inv-outer μ-outer
+wide-requires c κs = search needs
+
+has-cell-requires : tie.Need-has-cell-requires Inv-loop μ-loop Inv-outer μ-outer
+has-cell-requires c κs = search needs
 
 outer-less : tie.Need-outer-less Inv-loop μ-loop Inv-outer μ-outer
 outer-less c = omega arith
 
 outer-again : tie.Need-outer-again Inv-loop μ-loop Inv-outer μ-outer
 outer-again c = (
-  c .before .loop .inv .1,
-  meets-past _ _ _ (c .before .before .before .before .outer .i) (omega arith)
-      (⊎-elim
-      (λ w. later-end _ _ _ (c .before .loop .k) (omega arith) (c .before .loop .inv .2))
-      (λ w. later-none _ _ _ _ (c .before .before .before .before .before .before .before .pre .1 .ordered) (omega arith) (omega arith) (w .2 .taken) (c .before .loop .inv .2))
-      (c .loop-test .came))
-      (c .before .before .before .before .outer .inv .1),
+  omega arith,
+  c .before .before .before .before .before .before .outer .inv .1,
+  meets-past _ _ _ (c .before .before .before .before .before .before .outer .i) (omega arith)
+      (masked-none _ _ _ _ _ _ (c .before .before .before .before .before .before .before .before .before .before .before .pre .1 .0) _ _ _ _ _ (c .before .before .before .before .before .before .before .before .before .before .before .pre .1 .1) (member-at _ _ (omega arith)) (c .before .before .wide .ensures) (c .before .has-cell .ensures) (c .if2 .taken))
+      (c .before .before .before .before .before .before .outer .inv .2),
 )
 
-returns : tie.Need-returns Inv-loop μ-loop Inv-outer μ-outer
-returns c = c .before .outer .inv .0 ∙ meets-end _ _ _ (c .before .outer .i) (omega arith) (c .before .outer .inv .1)
+loop-holds : tie.Need-loop-holds Inv-loop μ-loop Inv-outer μ-outer
+loop-holds c = (omega arith, c .before .before .before .before .before .before .outer .inv .1, below-none _)
+
+outer-less-2 : tie.Need-outer-less-2 Inv-loop μ-loop Inv-outer μ-outer
+outer-less-2 c = omega arith
+
+outer-again-2 : tie.Need-outer-again-2 Inv-loop μ-loop Inv-outer μ-outer
+outer-again-2 c = (
+  omega arith,
+  c .before .loop .inv .1,
+  meets-past _ _ _ (c .before .before .before .before .before .before .before .before .outer .i) (omega arith) (reach-none _ _ _ _ _ _ (c .before .before .before .before .before .before .before .before .before .before .before .before .before .pre .1 .0) _ (λ y h. c .before .loop .inv .2 y (omega arith))) (c .before .before .before .before .before .before .before .before .outer .inv .2),
+)
+
+meets-last-requires : tie.Need-meets-last-requires Inv-loop μ-loop Inv-outer μ-outer
+meets-last-requires c κs = (c .before .before .before .before .before .before .before .before .before .before .before .before .before .pre .0 .1 .known _, c .before .before .before .before .before .before .before .before .before .before .before .before .before .pre .0 .0, omega arith, in-mask _ _ _ _ (c .before .before .before .before .wide .ensures) (c .before .before .before .has-cell .ensures) (c .before .before .if2 .left))
+
+add-k : tie.Need-add-k Inv-loop μ-loop Inv-outer μ-outer
+add-k c = omega arith
+
+loop-less : tie.Need-loop-less Inv-loop μ-loop Inv-outer μ-outer
+loop-less c = omega arith
+
+loop-again : tie.Need-loop-again Inv-loop μ-loop Inv-outer μ-outer
+loop-again c = (omega arith, c .before .before .before .loop .inv .1, below-more _ _ (c .before .before .before .loop .inv .2) (was-false _ (c .before .meets-last .ensures) (c .if3 .left)))
 
 returns-2 : tie.Need-returns-2 Inv-loop μ-loop Inv-outer μ-outer
-returns-2 c =
-    meets-found _ _ _ _ (omega arith)
-    (later-found _ _ _ _ (omega arith) (omega arith) (c .before .before .if1 .left) (was-true _ (c .before .clash .ensures) (c .if2 .taken)) (c .before .before .before .before .before .loop .inv .2))
-    (c .before .before .before .before .before .before .before .before .outer .inv .1)
+returns-2 c = c .before .outer .inv .1 ∙ meets-end _ _ _ (c .before .outer .i) (omega arith) (c .before .outer .inv .2)
+
+returns-3 : tie.Need-returns-3 Inv-loop μ-loop Inv-outer μ-outer
+returns-3 c =
+    meets-found _ _ _ (c .before .before .before .before .before .before .before .before .before .before .outer .i) (omega arith)
+    (reach-found _ _ _ _ _ _ (c .before .before .before .before .before .before .before .before .before .before .before .before .before .before .before .pre .1 .0) _ _ (omega arith) (in-mask _ _ _ _ (c .before .before .before .before .before .before .wide .ensures) (c .before .before .before .before .before .has-cell .ensures) (c .before .before .before .before .if2 .left)) (was-true _ (c .before .meets-last .ensures) (c .if3 .taken)))
+    (c .before .before .before .before .before .before .before .before .before .before .outer .inv .2)
 
 pub meets-spec : {M : Type 1} → statement M
 meets-spec =
@@ -95,20 +111,24 @@ meets-spec =
     μ-loop
     Inv-outer
     μ-outer
+    apart-requires
+    returns
     outer-holds
     mul-x
     shared-slice-read-x
     cast-x
-    loop-holds
-    sub-k
-    mul-y
-    shared-slice-read-y
-    cast-y
-    clash-requires
-    loop-less
-    loop-again
     add-i
+    element-copy-out-wide
+    wide-requires
+    has-cell-requires
     outer-less
     outer-again
-    returns
-    returns-2)
+    loop-holds
+    outer-less-2
+    outer-again-2
+    meets-last-requires
+    add-k
+    loop-less
+    loop-again
+    returns-2
+    returns-3)

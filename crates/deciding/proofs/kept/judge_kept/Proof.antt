@@ -3,7 +3,7 @@
 use mathlib.Core.Path.{sym, _∙_}
 use native.Mathlib.Omega.{arith}
 use borrow.Author.Needs.{needs}
-use Rattle.deciding.proofs.Faultless.{lines-few, lines-named}
+use Rattle.deciding.proofs.Faultless.{lines-few, lines-named, lines-celled}
 use Rattle.deciding.proofs.KeptLaws.{kept-short, kept-faulty, kept-said}
 use Rattle.deciding.proofs.kept.judge_kept.Statement.{statement}
 use Rattle.deciding.proofs.kept.judge_kept.Tie as tie
@@ -20,7 +20,7 @@ enum-told c = search needs
 decide-requires : tie.Need-decide-requires
 decide-requires c κs =
     let g = sym (c .before .enum-told .given .1) ∙ c .before .before .before .first-fault .ensures in
-    ((lines-few _ _ _ _ g, omega arith), lines-named _ _ _ _ g)
+    ((lines-few _ _ _ _ g, omega arith), (lines-named _ _ _ _ g, lines-celled _ _ _ _ g))
 
 enum-known-line : tie.Need-enum-known-line
 enum-known-line c = search needs

@@ -13,13 +13,10 @@ use Rattle.deciding.proofs.order.predecessor.Statement.{statement}
 use Rattle.deciding.proofs.order.predecessor.Tie as tie
 
 abbrev Inv-loop : tie.InvT-loop
-Inv-loop table left j row i₀ i = (i ≤ 256) × (predecessor (edgesIn table) (leftOf left) j ≡ first (λ k. edgesIn table k j) (leftFrom left i))
+Inv-loop table left j i₀ i = (i ≤ 256) × (predecessor (edgesIn table) (leftOf left) j ≡ first (λ k. edgesIn table k j) (leftFrom left i))
 
 abbrev μ-loop : tie.MeasureT-loop
-μ-loop table left j row i₀ i = 256 - i
-
-mul-row : tie.Need-mul-row Inv-loop μ-loop
-mul-row c = omega arith
+μ-loop table left j i₀ i = 256 - i
 
 loop-holds : tie.Need-loop-holds Inv-loop μ-loop
 unfolding predecessor
@@ -27,6 +24,9 @@ loop-holds c = (omega arith, seek-start _ _)
 
 element-copy-out-if1 : tie.Need-element-copy-out-if1 Inv-loop μ-loop
 element-copy-out-if1 c = omega arith
+
+mul-if2 : tie.Need-mul-if2 Inv-loop μ-loop
+mul-if2 c = omega arith
 
 add-if2 : tie.Need-add-if2 Inv-loop μ-loop
 add-if2 c = omega arith
@@ -61,9 +61,9 @@ predecessor-spec =
     (tie.spec
     Inv-loop
     μ-loop
-    mul-row
     loop-holds
     element-copy-out-if1
+    mul-if2
     add-if2
     element-copy-out-if2
     returns

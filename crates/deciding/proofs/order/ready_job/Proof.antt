@@ -9,15 +9,16 @@ use borrow.Author.Tests.{eqb-true, eqb-false}
 use Rattle.verdicts.specs.Order.{first, preceded, ready}
 use Rattle.deciding.specs.Grouped.{edgesIn}
 use Rattle.deciding.specs.Left.{leftOf}
-use Rattle.deciding.proofs.Seeking.{leftFrom, nobody-ready, somebody-busy, seek-start, seek-gone, seek-past, seek-found, seek-none}
+use Rattle.deciding.proofs.Seeking.{leftFrom, seek-start, seek-gone, seek-past, seek-found, seek-none}
+use Rattle.deciding.proofs.Tallying.{none-counted, some-counted}
 use Rattle.deciding.proofs.order.ready_job.Statement.{statement}
 use Rattle.deciding.proofs.order.ready_job.Tie as tie
 
 abbrev Inv-loop : tie.InvT-loop
-Inv-loop table left j₀ j = (j ≤ 256) × (ready (edgesIn table) (leftOf left) ≡ first (λ k. not (preceded (edgesIn table) (leftOf left) k)) (leftFrom left j))
+Inv-loop table left counts j₀ j = (j ≤ 256) × (ready (edgesIn table) (leftOf left) ≡ first (λ k. not (preceded (edgesIn table) (leftOf left) k)) (leftFrom left j))
 
 abbrev μ-loop : tie.MeasureT-loop
-μ-loop table left j₀ j = 256 - j
+μ-loop table left counts j₀ j = 256 - j
 
 loop-holds : tie.Need-loop-holds Inv-loop μ-loop
 unfolding ready
@@ -26,11 +27,14 @@ loop-holds c = (omega arith, seek-start _ _)
 element-copy-out-if1 : tie.Need-element-copy-out-if1 Inv-loop μ-loop
 element-copy-out-if1 c = omega arith
 
-predecessor-requires : tie.Need-predecessor-requires Inv-loop μ-loop
-predecessor-requires c κs = omega arith
+mul-if2 : tie.Need-mul-if2 Inv-loop μ-loop
+mul-if2 c = omega arith
+
+element-copy-out-if2 : tie.Need-element-copy-out-if2 Inv-loop μ-loop
+element-copy-out-if2 c = omega arith
 
 returns : tie.Need-returns Inv-loop μ-loop
-returns c = seek-found _ _ _ _ (omega arith) (c .before .before .if1 .taken) (nobody-ready _ _ _ _ (c .before .predecessor .ensures) (eqb-true _ _ (c .if2 .taken))) (c .before .before .before .before .before .loop .inv .1)
+returns c = seek-found _ _ _ _ (omega arith) (c .before .before .if1 .taken) (none-counted _ _ _ (c .before .before .before .before .before .before .pre) _ (omega arith) (eqb-true _ _ (c .if2 .taken))) (c .before .before .before .before .before .loop .inv .1)
 
 add-j : tie.Need-add-j Inv-loop μ-loop
 add-j c = omega arith
@@ -42,7 +46,7 @@ loop-again : tie.Need-loop-again Inv-loop μ-loop
 loop-again c = (
   omega arith,
   ⊎-elim
-      (λ w. seek-past _ _ (c .before .before .before .loop .j) _ (omega arith) (somebody-busy _ _ _ _ (w .1 .ensures) (eqb-false _ _ (w .2 .left))) (c .before .before .before .loop .inv .1))
+      (λ w. seek-past _ _ (c .before .before .before .loop .j) _ (omega arith) (some-counted _ _ _ (c .before .before .before .before .pre) _ (omega arith) (eqb-false _ _ (w .2 .left))) (c .before .before .before .loop .inv .1))
       (λ w. seek-gone _ _ (c .before .before .before .loop .j) _ (omega arith) (w .left) (c .before .before .before .loop .inv .1))
       (c .if1 .came),
 )
@@ -58,7 +62,8 @@ ready-job-spec =
     μ-loop
     loop-holds
     element-copy-out-if1
-    predecessor-requires
+    mul-if2
+    element-copy-out-if2
     returns
     add-j
     loop-less
