@@ -38,7 +38,7 @@ reads-job l job cell jobs cells no-job no-cell =
     (λ h. rw h (reads-cell l 0 cell cells no-cell ∙ ap (λ j. Good l j cell) (sym (no-job h))))
 
 -- reading a written record gives back what was written
-pub reads-record : (which : Letter → Bool) (l : Letter) (job cell : ℕ) → which l ≡ true → job ≤ lastNumber → cell ≤ lastCell → (hasJob l ≡ false → job ≡ 0) → (hasCell l ≡ false → cell ≡ 0) → readLine which (lineRecord l job cell) ≡ Good l job cell
+pub reads-record : (which : Letter → Bool) (l : Letter) (job cell : ℕ) → which l ≡ true → job ≤ 4_294_967_295 → cell ≤ 99 → (hasJob l ≡ false → job ≡ 0) → (hasCell l ≡ false → cell ≡ 0) → readLine which (lineRecord l job cell) ≡ Good l job cell
 unfolding readLine lineRecord letterPart
 reads-record which l job cell w jobs cells no-job no-cell =
     rw (letter-of-byte l, w, append-assoc (field (hasJob l) job) (field (hasCell l) cell) (newline ∷ []))

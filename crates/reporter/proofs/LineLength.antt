@@ -107,12 +107,12 @@ unfolding judgementOf
 buffer-at-most text buffer h = rw (le-ltb (length buffer) judgedJobs h) (lines-at-most buffer text (firstFaulty 1 [] (readingsOf text)) refl)
 
 -- so is that of the verdict program's buffer
-pub judged-at-most : (text : List ℕ) → length (judgedLine text) ≤ lineLimit
+pub judged-at-most : (text : List ℕ) → length (judgedLine text) ≤ 1_028
 unfolding judgedLine
 judged-at-most text = buffer-at-most text (replicate judgedJobs 0) (omega (arith, length-replicate {A = ℕ} judgedJobs 0))
 
 -- the verdict's line on any text has at most 1,028 bytes
-pub verdict-at-most : (text : List ℕ) → length (verdictOf text) ≤ lineLimit
+pub verdict-at-most : (text : List ℕ) → length (verdictOf text) ≤ 1_028
 unfolding verdictOf
 verdict-at-most text =
     by-test (ltb judgedBytes (length text)) (λ t. rw t (no-at-most 0 TooLong (omega arith))) (λ f. rw f (judged-at-most text))
@@ -123,11 +123,11 @@ unfolding fits
 verdict-fits b text h = le-leb (0 + length (verdictOf text)) (length b) (omega (arith, verdict-at-most text))
 
 -- the place after it is told
-pub verdict-told : (b text : List ℕ) → lineLimit ≤ length b → told b 0 (verdictOf text) ≡ Next (length (verdictOf text))
+pub verdict-told : (b text : List ℕ) → 1_028 ≤ length b → told b 0 (verdictOf text) ≡ Next (length (verdictOf text))
 verdict-told b text h = told-next b 0 (verdictOf text) (verdict-fits b text h) ∙ ap Next (zero-add (length (verdictOf text)))
 
 -- and it stands at the buffer's first places
-pub verdict-left : (b text : List ℕ) → lineLimit ≤ length b → take (length (verdictOf text)) (left b 0 (verdictOf text)) ≡ verdictOf text
+pub verdict-left : (b text : List ℕ) → 1_028 ≤ length b → take (length (verdictOf text)) (left b 0 (verdictOf text)) ≡ verdictOf text
 verdict-left b text h =
     ap (λ k. take k (left b 0 (verdictOf text))) (sym (zero-add (length (verdictOf text))))
     ∙ left-text b 0 (verdictOf text) (verdict-fits b text h)

@@ -66,7 +66,7 @@ module _ (text : List ℕ) where
   pub history-serial : Equivalent (committedPart readIn) (serial (commitOrder readIn) (committedPart readIn)) × (distinct (commitOrder readIn) ≡ true) × ((j : ℕ) → member j (commitOrder readIn) ≡ marked isCommit j readIn)
   history-serial = (subst (λ h. Equivalent (committedPart h) (serial (commitOrder h) (committedPart h))) (sym history-says) (serial-history started .serial-by-commits), history-commits-once .0, history-commits-once .1)
 
-  -- so the first faulty line of it, if there is one, is line 4,097 or is for a job outside 1 to 255
+  -- since every line is read back, the first faulty one, if there is one, is line 4,097 or is for a job outside 1 to 255
   pub history-fault : (n : ℕ) (why : Refusal) → FirstFault (readingsOf (historyOf text)) n why → (why ≡ TooManyLines) ⊎ (why ≡ JobOutside)
   history-fault n why f = only-limits (readingsOf (historyOf text)) history-read-back n why f
 

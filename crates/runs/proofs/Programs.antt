@@ -10,7 +10,7 @@ use Rattle.runs.specs.declared.View.{View}
 use Rattle.runs.specs.declared.View.the-variants.{Answers, History}
 use Rattle.runs.specs.Run.{written}
 use Rattle.runs.specs.Programs.{runOn, answersOf, historyOf, programOf}
-use Rattle.runs.specs.Work.{startedClerk, viewed, lineRoom, allRead}
+use Rattle.runs.specs.Work.{startedClerk, viewed, allRead}
 use Rattle.runs.specs.Callers.{callsOver, sentOver}
 use Rattle.runs.proofs.AnyCourse.{course-stands, seen-splitter}
 use Rattle.runs.proofs.WholeProgram.{caller-course, whole-program}
@@ -24,21 +24,21 @@ program-is Answers text = refl
 program-is History text = refl
 
 -- THE PROGRAMS: however the input comes in chunks and whatever buffer has room for a line's records, all that is written out is what the paper says of the text
-pub program-writes : (view : View) (out : List ℕ) (chunks : List (List ℕ)) → lineRoom ≤ length out → sentOver view out chunks ≡ programOf view (joined chunks)
+pub program-writes : (view : View) (out : List ℕ) (chunks : List (List ℕ)) → 792 ≤ length out → sentOver view out chunks ≡ programOf view (joined chunks)
 program-writes view out chunks h = whole-program view out chunks h ∙ ap (written (viewed view)) (text-run (joined chunks)) ∙ program-is view (joined chunks)
 
 -- the answering program
-pub answers-written : (out : List ℕ) (chunks : List (List ℕ)) → lineRoom ≤ length out → sentOver Answers out chunks ≡ answersOf (joined chunks)
+pub answers-written : (out : List ℕ) (chunks : List (List ℕ)) → 792 ≤ length out → sentOver Answers out chunks ≡ answersOf (joined chunks)
 unfolding programOf
 answers-written out chunks h = program-writes Answers out chunks h
 
 -- the history program
-pub history-written : (out : List ℕ) (chunks : List (List ℕ)) → lineRoom ≤ length out → sentOver History out chunks ≡ historyOf (joined chunks)
+pub history-written : (out : List ℕ) (chunks : List (List ℕ)) → 792 ≤ length out → sentOver History out chunks ≡ historyOf (joined chunks)
 unfolding programOf
 history-written out chunks h = program-writes History out chunks h
 
 -- A PROGRAM MAY STOP READING: once the clerk has read every line, what has been written is what the paper says of the text with whatever would follow
-pub program-stops : (view : View) (out : List ℕ) (chunks : List (List ℕ)) → lineRoom ≤ length out →
+pub program-stops : (view : View) (out : List ℕ) (chunks : List (List ℕ)) → 792 ≤ length out →
     allRead (callsOver view (record { clerk = startedClerk; sent = []; out = out }) chunks .clerk .splitter) ≡ true → (more : List ℕ) → sentOver view out chunks ≡ programOf view (joined chunks ++ more)
 program-stops view out chunks h e more =
     let k = caller-course view out chunks h in
