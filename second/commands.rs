@@ -12,7 +12,8 @@ pub const KEPT: usize = 64;
 pub const READ_AT_ONCE: usize = 1 << 17;
 pub const WRITE_AT_ONCE: usize = 1 << 16;
 
-/// docs/DECISIONS.md, "A read that fails": it ends the input, and the records so far stand.
+/// docs/DECISIONS.md, "A read or a write that fails": a failed read ends the input, and the records so
+/// far stand.
 pub fn read_some(input: &mut impl Read, buffer: &mut [u8]) -> usize {
     loop {
         match input.read(buffer) {
@@ -115,8 +116,8 @@ pub fn history(input: impl Read, output: &mut impl Write) -> io::Result<()> {
     })
 }
 
-/// 01, The judge's rules, last paragraph: the verdict program. docs/DECISIONS.md, "A read that
-/// fails": there is no verdict on a history that could not be read whole.
+/// 01, The judge's rules, last paragraph: the verdict program. docs/DECISIONS.md, "A read or
+/// a write that fails": there is no verdict on a history that could not be read whole.
 pub fn verdict(input: impl Read, output: &mut impl Write) -> io::Result<()> {
     let mut text = Vec::new();
     if input.take(HISTORY_BYTES as u64 + 1).read_to_end(&mut text).is_ok() {
