@@ -1,6 +1,9 @@
 pub mod Unique
 pub mod Cases
 pub mod Copies
+pub mod Starts
+pub mod Found
+pub mod Telling
 pub mod Seats
 pub mod ByNumber
 pub mod SeatsChanged
@@ -10,6 +13,7 @@ pub mod HolderTests
 pub mod StatusCodes
 pub mod Spots
 pub mod Front
+pub mod EveryGrant
 pub mod Queues
 pub mod WaitingCount
 pub mod Wakened
@@ -23,6 +27,7 @@ pub mod Changes
 pub mod Beginning
 pub mod Asking
 pub mod StepTied
+pub mod Retrying
 pub mod FreshStands
 pub mod StartedStands
 pub mod ExactRefusals

@@ -1,7 +1,6 @@
 // Twenty-four hands with a job each, and a mix of steps drawn from a fixed sequence, run on the desk: what a step by numbers costs, with no text between.
 // Writes how many steps went, waited, went back and were refused, and how many jobs woke.
 use board::state::Desk;
-use board::state::Opening;
 use desk::step::step;
 use libc::STDOUT_FILENO;
 use rules::Answer;
@@ -178,10 +177,5 @@ fn run(d: Desk) -> Tally {
 }
 
 fn main() {
-    let f = Desk::start(1);
-    let opening = f.opening;
-    match opening {
-        Opening::Opened => put_tally(run(f.desk)),
-        Opening::Refused(_) => {}
-    }
+    put_tally(run(Desk::first()));
 }

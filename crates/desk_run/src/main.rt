@@ -1,8 +1,8 @@
 // Runs the desk on steps by numbers: the first line of the input is the first number, every other one a step, `kind job cell`.
 // Writes a line for each step: the answer's word and number, then `wake`, job, cell and the kind's byte for each wake, with tabs between.
 use board::state::Desk;
-use board::state::Opening;
 use board::state::Said;
+use board::state::Start;
 use conflict::action::Action;
 use conflict::action::Kind;
 use desk::step::step;
@@ -13,6 +13,7 @@ use terms::letters::INCREMENT;
 use terms::letters::READ;
 use terms::letters::WRITE;
 use terms::limits::LAST_NUMBER;
+use terms::refusals::Refusal;
 use terms::refusals::number_of;
 use terms::words::NEWLINE;
 use terms::words::TAB;
@@ -184,15 +185,21 @@ fn run(d: Desk) {
     }
 }
 
+// A start that is refused, as an answer.
+fn put_refusal(why: Refusal) {
+    put_answer(Answer::No(why));
+    put_byte(NEWLINE);
+}
+
+// The desk started at a first number, and all its steps.
+fn open(first: u32) {
+    match Desk::start(first) {
+        Start::Ready(desk) => run(desk),
+        Start::Refused(why) => put_refusal(why),
+    }
+}
+
 fn main() {
     let first = next_number();
-    let f = Desk::start(first.value);
-    let opening = f.opening;
-    match opening {
-        Opening::Opened => run(f.desk),
-        Opening::Refused(why) => {
-            put_answer(Answer::No(why));
-            put_byte(NEWLINE);
-        }
-    }
+    open(first.value);
 }

@@ -1,6 +1,6 @@
 pub mod Decides
 pub mod Every
-pub mod Found
+pub mod Fitting
 pub mod Front
 pub mod Granting
 pub mod Open

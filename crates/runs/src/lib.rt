@@ -35,8 +35,7 @@ impl Clerk {
     pub fn started() -> Clerk
         ensures { λ r. ⌜ r ≡ startedClerk ⌝ }
     {
-        let fresh = Desk::start(1);
-        let desk = fresh.desk;
+        let desk = Desk::first();
         let splitter = Splitter::started();
         Clerk { desk, splitter }
     }

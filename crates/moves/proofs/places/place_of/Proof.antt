@@ -6,7 +6,7 @@ use native.Mathlib.Omega.{arith}
 use lib.ListN.{drop}
 use borrow.Author.Needs.{needs}
 use Rattle.laws.specs.Lists.{pos}
-use Rattle.moves.proofs.Found.{found-here, found-later, found-nowhere}
+use Rattle.board.proofs.Found.{found-here, found-later, found-nowhere}
 use Rattle.moves.proofs.places.place_of.Statement.{statement}
 use Rattle.moves.proofs.places.place_of.Tie as tie
 
