@@ -21,15 +21,18 @@ use Rattle.rules.specs.Step.{stepBegin}
 use Rattle.rules.specs.Invariant.{Inv}
 use Rattle.rules.proofs.Tests.{at-same, at-other, at-each}
 use Rattle.board.specs.declared.state.Desk.{Desk}
+use Rattle.board.specs.declared.moves.Move.the-variants.{Begin}
 use Rattle.board.specs.Codes.{runningCode}
 use Rattle.board.specs.Places.{modeAt}
-use Rattle.board.specs.Steps.{quiet, begun, beginning}
+use Rattle.board.specs.Moves.{beginMove}
+use Rattle.board.specs.Steps.{begun, carried, answerTo, performed}
 use Rattle.board.specs.Stands.{byNumber, statusFor, statusAt, statusBy, modeBy, Plain, Stands, Tied}
 use Rattle.board.proofs.Seats.{pos-below, pos-holds, free-place, seated-member}
 use Rattle.board.proofs.ByNumber.{nobody-has}
 use Rattle.board.proofs.SeatsChanged.{seated-set, taken-number}
 use Rattle.board.proofs.StatusCodes.{set-status}
-use Rattle.board.proofs.Reading.{paperOf, plain-stands, quiet-tied, refusing-tied}
+use Rattle.board.proofs.Telling.{quiet-tied}
+use Rattle.board.proofs.Reading.{paperOf, plain-stands, refuse-tied, pick-tied}
 
 module _ {d : Desk} {q : ℕ → List Waiter} (plain : Plain d) (v : Inv (paperOf d q)) where
   -- the next number is not 0
@@ -48,7 +51,7 @@ module _ {d : Desk} {q : ℕ → List Waiter} (plain : Plain d) (v : Inv (paperO
     below = subst (λ n. pos (d .number) 0 < n) (plain .numbers) (pos-below (d .number) 0 room)
 
     -- the new job is the only one of which anything changes
-    begun-stands : Stands (begun d (pos (d .number) 0)) (begin (paperOf d q) .desk)
+    begun-stands : Stands (begun d (pos (d .number) 0) (d .next)) (begin (paperOf d q) .desk)
     unfolding begun begin statusBy modeBy
     begun-stands = record {
       next = add-one (d .next);
@@ -92,14 +95,14 @@ module _ {d : Desk} {q : ℕ → List Waiter} (plain : Plain d) (v : Inv (paperO
         was r e = sym (getD-set-other (d .number) p r (d .next) 0 (other r e)) ∙ e
 
     -- so where a place is free, begin is tied
-    begun-tied : Tied (record { desk = begun d (pos (d .number) 0); said = quiet (Go (d .next)) }) (begin (paperOf d q))
-    unfolding begin
-    begun-tied = quiet-tied (Go (d .next)) begun-stands
+    begun-tied : (j c : ℕ) → Tied (performed d j c (Begin (pos (d .number) 0) (d .next))) (begin (paperOf d q))
+    unfolding performed carried answerTo begin
+    begun-tied j c = quiet-tied (Go (d .next)) begun-stands
 
   -- begin: 7, then 6, else the next number at the first free place
-  pub beginning-tied : Tied (beginning d) (stepBegin (paperOf d q))
-  unfolding beginning stepBegin
-  beginning-tied =
-      by-test (ltb lastNumber (d .next)) (λ t. rw t (refusing-tied _ (plain-stands plain q)))
-      (λ f. rw (f, ap (ltb (pos (d .number) 0)) (sym (plain .numbers)) ∙ free-place (d .number))
-      (by-test (member 0 (d .number)) (λ room. rw room (begun-tied room)) (λ n. rw n (refusing-tied _ (plain-stands plain q)))))
+  pub begin-tied : (j c : ℕ) → Tied (performed d j c (beginMove (d .next) (d .number))) (stepBegin (paperOf d q))
+  unfolding beginMove stepBegin
+  begin-tied j c =
+      pick-tied d j c (ltb lastNumber (d .next)) (ltb lastNumber (d .next)) _ _ refl (λ _. refuse-tied d j c _ (plain-stands plain q))
+      (λ _. pick-tied d j c (ltb (pos (d .number) 0) places) (member 0 (d .number)) _ _ (ap (ltb (pos (d .number) 0)) (sym (plain .numbers)) ∙ free-place (d .number))
+      (λ room. begun-tied room j c) (λ _. refuse-tied d j c _ (plain-stands plain q)))

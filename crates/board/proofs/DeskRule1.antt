@@ -6,7 +6,9 @@ use mathlib.Core.Bool.{true}
 use native.Mathlib.Omega.{arith}
 use lib.Dec.{eqb}
 use borrow.Author.Tests.{lt-ltb}
+use mathlib.Core.List.{[]}
 use Rattle.laws.specs.Choice.{by-test}
+use Rattle.laws.specs.Lists.{pos}
 use Rattle.terms.specs.declared.letters.Ask.{Ask}
 use Rattle.terms.specs.Limits.{cells}
 use Rattle.conflict.specs.declared.modes.Mode.the-variants.{Free}
@@ -16,10 +18,12 @@ use Rattle.rules.specs.declared.Answer.the-variants.{Go}
 use Rattle.rules.specs.Desk.{Status, closed, running, waiting, sentback}
 use Rattle.rules.specs.Asked.{Asking}
 use Rattle.board.specs.declared.state.Desk.{Desk}
-use Rattle.board.specs.declared.state.Outcome.{Outcome}
+use Rattle.board.specs.declared.moves.Move.{Move}
+use Rattle.board.specs.declared.moves.Move.the-variants.{Keep}
 use Rattle.board.specs.Codes.{freeCode, waitingCode, sentBackCode}
 use Rattle.board.specs.Places.{modeAt}
-use Rattle.board.specs.Steps.{quiet, placeOf, statusOf, decided, carried, asking, ifRunning, stepFor, stepOf}
+use Rattle.board.specs.Moves.{statusOf, foundAt, standingOf, ifRuns, decided, askMove, moveFor}
+use Rattle.board.specs.Steps.{carried, answerTo, saying, performed, moveOf, stepOf}
 use Rattle.board.specs.Stands.{statusFor, statusAt, statusBy, modeBy}
 use Rattle.board.specs.Running.{view, Started}
 use Rattle.board.proofs.ByNumber.{seat-has, has-seat}
@@ -31,30 +35,35 @@ runs-only : {P : Type 0} (s : Status) → s ≡ closed → s ≡ running → P
 runs-only s p q = let z : _≡_ {A = ℕ} 0 1 = cc in absurd (omega arith)
 
 -- a job whose code says that it runs goes on
-running-goes : (d : Desk) (code c : ℕ) (a : Ask) (o : Outcome) → statusFor code c a ≡ running → ifRunning d code o ≡ o
-unfolding statusFor ifRunning
-running-goes d code c a o e =
+running-goes : (code c : ℕ) (a : Ask) (goes : Move) → statusFor code c a ≡ running → ifRuns (standingOf code) goes ≡ goes
+unfolding statusFor ifRuns standingOf
+running-goes code c a goes e =
     by-test (eqb code freeCode) (λ t. let q : closed ≡ running = rw t at e in runs-only running (sym q) refl)
     (λ f. by-test (eqb code waitingCode) (λ t. let q : waiting c a ≡ running = rw (f, t) at e in let z : _≡_ {A = ℕ} 0 1 = cc in absurd (omega arith))
     (λ g. by-test (eqb code sentBackCode) (λ t. let q : sentback ≡ running = rw (f, g, t) at e in let z : _≡_ {A = ℕ} 0 1 = cc in absurd (omega arith)) (λ k. rw (f, g, k))))
 
 module _ {d : Desk} {h : History} (s : Started d h) (kind job c : ℕ) (a : Ask) (k : Asking (view d) (record { kind = kind; job = job; cell = c }) a) where
   -- a running job has a place, where its modes stand
-  place-mode : modeBy d c job ≡ modeAt (d .held) c (placeOf d job)
+  place-mode : modeBy d c job ≡ modeAt (d .held) c (pos (d .number) job)
   unfolding statusBy modeBy
   place-mode =
       has-seat closed (d .number) (statusAt (d .status) (d .cell) (d .ask)) job (λ e. runs-only (statusBy d job) e (k .runs)) (seat-has Free (d .number) (modeAt (d .held) c))
 
   -- a running job's request for a cell below 64 is decided by rules 1 to 3
-  pub desk-asking-step : stepOf d kind job c ≡ carried d (placeOf d job) c job a (decided d (placeOf d job) c job a)
-  unfolding stepOf stepFor
-  desk-asking-step =
+  pub desk-asking-move : moveOf d kind job c ≡ decided (d .number) (d .status) (d .cell) (d .held) (pos (d .number) job) c job a
+  unfolding moveOf moveFor askMove foundAt
+  desk-asking-move =
       let (D, g, t) = stands-for-paper s in
-      ap (stepFor d job c) (k .letter)
-      ∙ running-goes d (statusOf (d .number) (d .status) job) _ _ (asking d job c a) (sym (status-code (t .plain) job) ∙ k .runs)
-      ∙ (unfold asking in rw (lt-ltb c cells (k .within)))
+      ap (moveFor (d .next) (d .number) (d .status) (d .cell) (d .held) job c) (k .letter)
+      ∙ running-goes (statusOf (d .number) (d .status) job) _ _ _ (sym (status-code (t .plain) job) ∙ k .runs)
+      ∙ rw (lt-ltb c cells (k .within))
+
+  -- where it holds a covering mode, nothing is to be done
+  keeps : covers (modeBy d c job) (needed a) ≡ true → decided (d .number) (d .status) (d .cell) (d .held) (pos (d .number) job) c job a ≡ Keep
+  unfolding decided
+  keeps e = rw (sym (ap (λ m. covers m (needed a)) place-mode) ∙ e)
 
   -- a job that holds a covering mode: go. Nothing changes (01, rule 1)
-  pub desk-rule-1 : covers (modeBy d c job) (needed a) ≡ true → stepOf d kind job c ≡ record { desk = d; said = quiet (Go job) }
-  unfolding carried decided
-  desk-rule-1 e = desk-asking-step ∙ rw (sym (ap (λ m. covers m (needed a)) place-mode) ∙ e)
+  pub desk-rule-1 : covers (modeBy d c job) (needed a) ≡ true → stepOf d kind job c ≡ record { desk = d; said = saying d (Go job) [] }
+  unfolding stepOf performed carried answerTo
+  desk-rule-1 e = ap (performed d job c) (desk-asking-move ∙ keeps e)

@@ -1,4 +1,4 @@
--- The front of a cell's queue is the youngest place that waits for it: where nobody waits there is none, and a place younger than all others that wait is it.
+-- The front of a cell's queue is the youngest place that waits for it: where nobody waits there is none, a place younger than all others that wait is it, and whoever is found waits.
 -- Assumes nothing.
 use Prim.Native.Nat.{ℕ, zero, suc, _<_, _≤_}
 use mathlib.Core.Path.{_≡_, refl, sym, subst}
@@ -9,7 +9,7 @@ use native.Mathlib.Omega.{arith}
 use lib.Dec.{ltb}
 use lib.ListN.{length, getD, List·getD-eq-default}
 use borrow.Author.Tests.{ltb-true, lt-ltb}
-use Rattle.laws.specs.Choice.{by-test}
+use Rattle.laws.specs.Choice.{pick, by-test}
 use Rattle.laws.proofs.Parts.{and-first, and-second}
 use Rattle.terms.specs.Limits.{places}
 use Rattle.board.specs.Places.{waitsAt, youngest}
@@ -61,3 +61,16 @@ module _ (number status cell : List ℕ) (c : ℕ) where
     is-youngest s z (suc n) h =
         by-last p n h (λ e. subst (λ m. youngest number status cell c (suc m) ≡ p) e (reached s z))
         (λ l. kept n (λ e. omega arith) (is-youngest s z n l))
+
+-- a choice between two of which each passes a test passes it
+picked : (P : ℕ → Bool) (a b : Bool) (x y : ℕ) → (a ≡ true → P x ≡ true) → (y < places → P y ≡ true) → pick (a && b) x y < places → P (pick (a && b) x y) ≡ true
+picked P true true x y f g h = f refl
+picked P true false x y f g h = g h
+picked P false b x y f g h = g h
+
+-- who is found waits for the cell
+pub front-waits : (number status cell : List ℕ) (c n : ℕ) → youngest number status cell c n < places → waitsAt status cell c (youngest number status cell c n) ≡ true
+unfolding youngest
+front-waits number status cell c zero h = absurd (omega arith)
+front-waits number status cell c (suc n) h =
+    picked (waitsAt status cell c) (waitsAt status cell c n) (ltb (getD number (youngest number status cell c n) 0) (getD number n 0)) n (youngest number status cell c n) (λ e. e) (front-waits number status cell c n) h

@@ -11,7 +11,8 @@ use Rattle.laws.specs.Choice.{by-test, pick-then, pick-else}
 use Rattle.laws.specs.Lists.{pos}
 use Rattle.board.specs.declared.state.Desk.{Desk}
 use Rattle.board.specs.Codes.{freeCode, waitingCode, sentBackCode}
-use Rattle.board.specs.Steps.{statusOf, retried, retriedJob, refusing, retrying}
+use Rattle.board.specs.Moves.{statusOf, foundAt, retryMove}
+use Rattle.board.specs.Steps.{retried, retriedJob, carried}
 
 -- what a job other than 0 is doing, read at its place
 status-at : (d : Desk) (job p : ℕ) → (job ≡ 0 → ⊥) → p ≡ pos (d .number) job → statusOf (d .number) (d .status) job ≡ getD (d .status) p 0
@@ -40,10 +41,10 @@ unopened-stays d job p z e n l =
     other-stays d job p z e (λ q. let h : getD (d .status) p 0 ≡ 0 = List·getD-eq-default (d .status) 0 k in omega arith)
 
 -- so it is the desk that a retry step leaves (01, rule 5)
-pub retried-step : (d : Desk) (job : ℕ) → retriedJob d job ≡ retrying d job (statusOf (d .number) (d .status) job) .desk
-unfolding retriedJob retrying refusing
-retried-step d job =
+pub retried-step : (d : Desk) (job c : ℕ) → retriedJob d job ≡ carried d job c (retryMove (foundAt (d .number) (d .status) job)) .desk
+unfolding retriedJob carried retryMove foundAt
+retried-step d job c =
     let s = statusOf (d .number) (d .status) job in
     by-test (eqb s freeCode) (λ t. rw (t, ne-eqb s sentBackCode (λ q. let z : s ≡ 0 = eqb-true s 0 t in omega arith)))
     (λ f. by-test (eqb s waitingCode) (λ t. rw (f, t, ne-eqb s sentBackCode (λ q. let z : s ≡ 2 = eqb-true s 2 t in omega arith)))
-    (λ g. by-test (eqb s sentBackCode) (λ t. rw (f, g, t)) (λ h. rw (f, g, h))))
+    (λ g. by-test (eqb s sentBackCode) (λ t. rw (f, g, t) (rw t)) (λ h. rw (f, g, h))))

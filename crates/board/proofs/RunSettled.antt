@@ -5,7 +5,7 @@ use mathlib.Core.Path.{_≡_, refl, sym, subst, _∙_, fun-ext}
 use mathlib.Core.Logic.{_≢_}
 use mathlib.Core.List.{List, [], _∷_}
 use native.Mathlib.Omega.{arith}
-use lib.ListN.{length, getD, set, replicate, length-set, length-replicate}
+use lib.ListN.{length, getD, set, length-set}
 use lib.Seq.{getD-set-same, getD-set-other}
 use Rattle.terms.specs.declared.letters.Ask.{Ask}
 use Rattle.terms.specs.Limits.{places, cells}
@@ -20,7 +20,7 @@ use Rattle.board.specs.declared.state.Desk.{Desk}
 use Rattle.board.specs.Codes.{waitingCode, askOf}
 use Rattle.board.specs.Places.{modeAt, waiters}
 use Rattle.board.specs.Settling.{Settling, droppedBy}
-use Rattle.board.specs.Steps.{noAction, settled}
+use Rattle.board.specs.Steps.{settled}
 use Rattle.board.specs.Stands.{statusFor, statusAt, statusBy, modeBy, Plain}
 use Rattle.board.proofs.Cases.{by-below}
 use Rattle.board.proofs.Seats.{Seat, seat-below, seat-taken}
@@ -31,7 +31,6 @@ use Rattle.board.proofs.WaitingCount.{waiters-fewer}
 use Rattle.board.proofs.Granting.{modesOf, Sound}
 use Rattle.board.proofs.SettleAll.{Stage, stage-all}
 use Rattle.board.proofs.Reading.{paperOf}
-use Rattle.board.proofs.Copies.{copies-at}
 
 -- where nobody waits, settling changes no lock
 none-settled : (ks : List ℕ) (j : ℕ) (held : ℕ → Mode) (q : List Waiter) → ((w : Waiter) → In w q → ⊥) → settle ks held (without j q) .row .held ≡ held
@@ -50,18 +49,16 @@ module _ {d : Desk} {q : ℕ → List Waiter} (plain : Plain d) (v : Inv (paperO
 
   -- before the first cell is settled
   abbrev start : Settling
-  start = record { held = droppedBy (d .held) p cells; told = record { status = set (d .status) p code; wakes = replicate places noAction; count = 0 } }
+  start = record { held = droppedBy (d .held) p cells; status = set (d .status) p code; woken = [] }
 
   -- the arrays are as they should be
   start-sound : code ≢ waitingCode → Sound (d .number) start
   start-sound n = record {
     modes = dropped-length (d .held) p cells ∙ plain .modes;
     statuses = length-set (d .status) p code ∙ plain .statuses;
-    wakes = length-replicate places noAction;
     free-status = λ r l e. getD-set-other (d .status) p r code 0 (seat-taken seat r e) ∙ plain .free-status r l e;
     free-held = λ r l e c. dropped-all (d .held) p c r below l (plain .modes) ∙ at-other (modeAt (d .held) c) p Free r (seat-taken seat r e) ∙ plain .free-held r l e c;
     room = omega (arith, fewer);
-    rest = λ r _. copies-at places noAction r;
   }
     where
       fewer : waiters (set (d .status) p code) places < places

@@ -32,7 +32,7 @@ pub record Stage (d : Desk) (j : ℕ) (st : Status) (cell ask : List ℕ) (k : �
   pub done : (c : ℕ) → c < k → modesOf (d .jobs) s c ≡ rowsAfter d j c .row .held
   pub left : (c : ℕ) → k ≤ c → modesOf (d .jobs) s c ≡ at (d .row c .held) j Free
   pub statuses : statusesOf (d .jobs) cell ask s ≡ runAgain (at (d .stat) j st) (wakesOf (rowsAfter d j) k)
-  pub told : wakesSoFar s ≡ wakesOf (rowsAfter d j) k
+  pub told : wakesSoFar (d .jobs) cell ask s ≡ wakesOf (rowsAfter d j) k
 
 module _ {d : Desk} (v : Inv d) (j : ℕ) (st : Status) (ends : (c : ℕ) (a : Ask) → st ≢ waiting c a) (cell ask : List ℕ) where
   -- who waits for a cell that is not reached is not among the wakes

@@ -1,38 +1,47 @@
--- A step of the arrays is the step of the paper's desk that they stand for: refusals in the same order, and then the rules.
+-- A step of the arrays is the step of the paper's desk that they stand for: the move is decided in the same order, refusals and then the rules, and each is carried out alike.
 -- Assumes nothing.
 use Prim.Native.Nat.{ℕ, _≤_}
 use mathlib.Core.Path.{_≡_, refl, sym, _∙_}
 use mathlib.Core.Logic.{_≢_}
-use mathlib.Core.Bool.{true, false}
+use mathlib.Core.Bool.{false}
 use mathlib.Core.List.{List}
 use native.Mathlib.Omega.{arith}
-use lib.Dec.{eqb}
+use lib.Dec.{eqb, ltb}
 use lib.ListN.{length, getD, List·getD-eq-default}
-use borrow.Author.Tests.{eqb-false, ne-eqb}
-use Rattle.laws.specs.Choice.{by-test}
+use borrow.Author.Tests.{eqb-true, eqb-false, eq-eqb, ne-eqb}
+use Rattle.laws.specs.Choice.{pick, by-test}
 use Rattle.laws.specs.Lists.{pos}
 use Rattle.terms.specs.declared.letters.Ask.{Ask}
-use Rattle.terms.specs.declared.letters.Letter.the-variants.{Begin, Commit, GiveUp, Retry, Back, Asks}
+use Rattle.terms.specs.declared.letters.Letter.the-variants.{Begin as begins, Commit, GiveUp, Retry as retries, Back, Asks}
 use Rattle.terms.specs.declared.letters.Lettered.{Lettered}
 use Rattle.terms.specs.declared.letters.Lettered.the-variants.{Known, Unknown}
+use Rattle.terms.specs.declared.refusals.Refusal.{Refusal}
+use Rattle.terms.specs.declared.refusals.Refusal.the-variants.{UnknownKind, CellAbove, NotOpen, Waiting, SentBack, Running}
 use Rattle.terms.specs.Letters.{letterOf}
+use Rattle.terms.specs.Limits.{cells}
 use Rattle.rules.specs.declared.Answer.the-variants.{Go}
 use Rattle.rules.specs.Desk as paper
-use Rattle.rules.specs.Desk.{closed, Waiter}
-use Rattle.rules.specs.Rules.{close, retry}
+use Rattle.rules.specs.Desk.{Status, closed, running, waiting, sentback, Waiter}
+use Rattle.rules.specs.Rules.{Outcome, refused, retry}
 use Rattle.rules.specs.Step.{stepCommit, stepGiveUp, stepRetry, stepAsk, stepBy, step}
 use Rattle.rules.specs.Invariant.{Inv}
 use Rattle.board.specs.declared.state.Desk.{Desk}
+use Rattle.board.specs.declared.moves.Ending.the-variants.{Closed}
+use Rattle.board.specs.declared.moves.Found.{Found}
+use Rattle.board.specs.declared.moves.Move.{Move}
+use Rattle.board.specs.declared.moves.Move.the-variants.{Refuse, End, Retry}
 use Rattle.board.specs.Codes.{freeCode, waitingCode, sentBackCode, askOf}
-use Rattle.board.specs.Steps.{quiet, statusOf, placeOf, ending, asking, retried, ifRunning, givingUp, retrying, stepFor, stepOf}
+use Rattle.board.specs.Moves.{statusOf, foundAt, standingOf, ifRuns, commitMove, giveUpMove, retryMove, decided, askMove, moveFor}
+use Rattle.board.specs.Steps.{retriedJob, carried, answerTo, performed, moveOf, stepOf}
 use Rattle.board.specs.Stands.{isSeated, statusFor, statusAt, statusBy, Plain, Stands, Tied}
 use Rattle.board.proofs.Seats.{Seat, seat-of, seated-member, pos-end}
 use Rattle.board.proofs.ByNumber.{seat-has, nobody-has}
-use Rattle.board.proofs.Reading.{paperOf, plain-stands, by-reading, quiet-tied, refusing-tied}
+use Rattle.board.proofs.Telling.{quiet-tied}
+use Rattle.board.proofs.Reading.{paperOf, plain-stands, by-reading, refuse-tied}
 use Rattle.board.proofs.Changes.{retried-stands}
 use Rattle.board.proofs.Ending.{close-tied}
-use Rattle.board.proofs.Beginning.{beginning-tied}
-use Rattle.board.proofs.Asking.{asking-tied}
+use Rattle.board.proofs.Beginning.{begin-tied}
+use Rattle.board.proofs.Asking.{ask-tied}
 
 module _ {d : Desk} (plain : Plain d) (j : ℕ) where
   -- the code of a job that has no place is the free one
@@ -58,64 +67,69 @@ module _ {d : Desk} (plain : Plain d) (j : ℕ) where
       there : Seat (d .number) j (pos (d .number) j) → statusBy d j ≡ statusFor (statusOf (d .number) (d .status) j) (getD (d .cell) (pos (d .number) j) 0) (askOf (getD (d .ask) (pos (d .number) j) 0))
       there s = seat-has closed (d .number) (statusAt (d .status) (d .cell) (d .ask)) s ∙ unfold statusAt statusOf in (rw (ne-eqb j 0 (s .real)))
 
-module _ {d : Desk} {q : ℕ → List Waiter} (plain : Plain d) (v : Inv (paperOf d q)) (j : ℕ) where
+module _ {d : Desk} {q : ℕ → List Waiter} (plain : Plain d) (v : Inv (paperOf d q)) (j c : ℕ) where
   -- the arrays stand for the desk as it is: so every refusal is tied
-  same-desk : Stands d (paperOf d q)
-  same-desk = plain-stands plain q
+  refuse : (why : Refusal) → Tied (performed d j c (Refuse why)) (refused (paperOf d q) why)
+  refuse why = refuse-tied d j c why (plain-stands plain q)
 
-  -- a job that has a place is closed
-  closing : Seat (d .number) j (pos (d .number) j) → Tied (ending d (placeOf d j) freeCode true (Go j)) (close (paperOf d q) j)
-  closing s = close-tied plain v s
+  -- a sent back job runs again
+  again : statusOf (d .number) (d .status) j ≡ sentBackCode → Seat (d .number) j (pos (d .number) j) → Tied (performed d j c Retry) (retry (paperOf d q) j)
+  unfolding performed carried answerTo retriedJob retry
+  again e s = rw (eq-eqb _ _ e) (quiet-tied (Go j) (retried-stands q plain s))
 
-  module _ (code c : ℕ) (a : Ask) (seat : code ≢ freeCode → Seat (d .number) j (pos (d .number) j)) where
+  module _ (code b : ℕ) (a : Ask) (is : statusOf (d .number) (d .status) j ≡ code) (seat : code ≢ freeCode → Seat (d .number) j (pos (d .number) j)) where
+    -- where the job is found
+    abbrev found : Found
+    found = record { place = pos (d .number) j; code = code }
+
+    -- what only a running job may do: 3, 4, 5, else it goes on
+    runs-by : (goes : Move) (X : Status → Outcome) → X closed ≡ refused (paperOf d q) NotOpen → X (waiting b a) ≡ refused (paperOf d q) Waiting → X sentback ≡ refused (paperOf d q) SentBack →
+        (Seat (d .number) j (pos (d .number) j) → Tied (performed d j c goes) (X running)) → Tied (performed d j c (ifRuns (standingOf code) goes)) (X (statusFor code b a))
+    unfolding ifRuns standingOf statusFor
+    runs-by goes X f g h k =
+        by-test (eqb code freeCode) (λ t. rw (t, f) (refuse NotOpen))
+        (λ n. rw n (by-test (eqb code waitingCode) (λ t. rw (t, g) (refuse Waiting))
+        (λ m. rw m (by-test (eqb code sentBackCode) (λ t. rw (t, h) (refuse SentBack)) (λ l. rw l (k (seat (eqb-false code freeCode n))))))))
+
     -- commit: 3, 4, 5, else the run ends
-    commit-by : Tied (ifRunning d code (ending d (placeOf d j) freeCode true (Go j))) (stepCommit (paperOf d q) j (statusFor code c a))
-    unfolding ifRunning stepCommit statusFor
-    commit-by =
-        by-test (eqb code freeCode) (λ t. rw t (refusing-tied _ same-desk))
-        (λ n. rw n (by-test (eqb code waitingCode) (λ t. rw t (refusing-tied _ same-desk))
-        (λ m. rw m (by-test (eqb code sentBackCode) (λ t. rw t (refusing-tied _ same-desk)) (λ k. rw k (closing (seat (eqb-false code freeCode n))))))))
+    commit-by : Tied (performed d j c (commitMove found)) (stepCommit (paperOf d q) j (statusFor code b a))
+    unfolding commitMove stepCommit
+    commit-by = runs-by (End (pos (d .number) j) Closed) (stepCommit (paperOf d q) j) refl refl refl (λ s. close-tied plain v s c)
 
     -- give-up: 3, else the run ends
-    give-up-by : Tied (givingUp d j code) (stepGiveUp (paperOf d q) j (statusFor code c a))
-    unfolding givingUp stepGiveUp statusFor
+    give-up-by : Tied (performed d j c (giveUpMove found)) (stepGiveUp (paperOf d q) j (statusFor code b a))
+    unfolding giveUpMove stepGiveUp statusFor
     give-up-by =
-        by-test (eqb code freeCode) (λ t. rw t (refusing-tied _ same-desk))
-        (λ n. let e = closing (seat (eqb-false code freeCode n)) in rw n (by-test (eqb code waitingCode) (λ t. rw t e) (λ m. rw m (by-test (eqb code sentBackCode) (λ t. rw t e) (λ k. rw k e)))))
+        by-test (eqb code freeCode) (λ t. rw t (refuse NotOpen))
+        (λ n. let e = close-tied plain v (seat (eqb-false code freeCode n)) c in rw n (by-test (eqb code waitingCode) (λ t. rw t e) (λ m. rw m (by-test (eqb code sentBackCode) (λ t. rw t e) (λ k. rw k e)))))
 
     -- retry: 3, 4, 8, else the job runs again
-    retry-by : Tied (retrying d j code) (stepRetry (paperOf d q) j (statusFor code c a))
-    unfolding retrying stepRetry statusFor
+    retry-by : Tied (performed d j c (retryMove found)) (stepRetry (paperOf d q) j (statusFor code b a))
+    unfolding retryMove stepRetry statusFor
     retry-by =
-        by-test (eqb code freeCode) (λ t. rw t (refusing-tied _ same-desk))
-        (λ n. rw n (by-test (eqb code waitingCode) (λ t. rw t (refusing-tied _ same-desk))
-        (λ m. rw m (by-test (eqb code sentBackCode) (λ t. rw t (again (seat (eqb-false code freeCode n)))) (λ k. rw k (refusing-tied _ same-desk))))))
-      where
-        again : Seat (d .number) j (pos (d .number) j) → Tied (record { desk = retried d (placeOf d j); said = quiet (Go j) }) (retry (paperOf d q) j)
-        again s = unfold retry in quiet-tied (Go j) (retried-stands q plain s)
+        by-test (eqb code freeCode) (λ t. rw t (refuse NotOpen))
+        (λ n. rw n (by-test (eqb code waitingCode) (λ t. rw t (refuse Waiting))
+        (λ m. rw m (by-test (eqb code sentBackCode) (λ t. rw t (again (is ∙ eqb-true code sentBackCode t) (seat (eqb-false code freeCode n)))) (λ k. rw k (refuse Running))))))
 
     -- read, write and increment: 3, 4, 5, 2, else by the rules
-    ask-by : (cell : ℕ) (b : Ask) → Tied (ifRunning d code (asking d j cell b)) (stepAsk (paperOf d q) j cell b (statusFor code c a))
-    unfolding ifRunning stepAsk statusFor
-    ask-by cell b =
-        by-test (eqb code freeCode) (λ t. rw t (refusing-tied _ same-desk))
-        (λ n. rw n (by-test (eqb code waitingCode) (λ t. rw t (refusing-tied _ same-desk))
-        (λ m. rw m (by-test (eqb code sentBackCode) (λ t. rw t (refusing-tied _ same-desk)) (λ k. rw k (asking-tied plain v j cell b (seat (eqb-false code freeCode n))))))))
+    ask-by : (x : Ask) → Tied (performed d j c (ifRuns (standingOf code) (pick (ltb c cells) (decided (d .number) (d .status) (d .cell) (d .held) (pos (d .number) j) c j x) (Refuse CellAbove)))) (stepAsk (paperOf d q) j c x (statusFor code b a))
+    unfolding stepAsk
+    ask-by x = runs-by _ (stepAsk (paperOf d q) j c x) refl refl refl (λ s. ask-tied plain v s c x)
 
   -- a request by its letter
-  letter-tied : (kind c : ℕ) (l : Lettered) → Tied (stepFor d j c l) (stepBy (paperOf d q) (record { kind = kind; job = j; cell = c }) l)
-  unfolding stepFor stepBy
-  letter-tied kind c Unknown = refusing-tied _ same-desk
-  letter-tied kind c (Known Back) = refusing-tied _ same-desk
-  letter-tied kind c (Known Begin) = beginning-tied plain v
-  letter-tied kind c (Known Commit) = rw (status-code plain j) (commit-by _ _ _ (code-seat plain j))
-  letter-tied kind c (Known GiveUp) = rw (status-code plain j) (give-up-by _ _ _ (code-seat plain j))
-  letter-tied kind c (Known Retry) = rw (status-code plain j) (retry-by _ _ _ (code-seat plain j))
-  letter-tied kind c (Known (Asks a)) = rw (status-code plain j) (ask-by _ _ _ (code-seat plain j) c a)
+  letter-tied : (kind : ℕ) (l : Lettered) → Tied (performed d j c (moveFor (d .next) (d .number) (d .status) (d .cell) (d .held) j c l)) (stepBy (paperOf d q) (record { kind = kind; job = j; cell = c }) l)
+  unfolding moveFor askMove foundAt stepBy
+  letter-tied kind Unknown = refuse UnknownKind
+  letter-tied kind (Known Back) = refuse UnknownKind
+  letter-tied kind (Known begins) = begin-tied plain v j c
+  letter-tied kind (Known Commit) = rw (status-code plain j) (commit-by _ _ _ refl (code-seat plain j))
+  letter-tied kind (Known GiveUp) = rw (status-code plain j) (give-up-by _ _ _ refl (code-seat plain j))
+  letter-tied kind (Known retries) = rw (status-code plain j) (retry-by _ _ _ refl (code-seat plain j))
+  letter-tied kind (Known (Asks a)) = rw (status-code plain j) (ask-by _ _ _ refl (code-seat plain j) a)
 
 -- a step of arrays that stand for a paper's desk, with what holds of every started one, is that desk's step
 pub tie : {d : Desk} {D : paper.Desk} → Stands d D → Inv D → (kind job c : ℕ) → Tied (stepOf d kind job c) (step D (record { kind = kind; job = job; cell = c }))
-unfolding stepOf step
+unfolding stepOf moveOf step
 tie {d} s v kind job c =
-    by-reading (λ D. Inv D → Tied (stepFor d job c (letterOf kind)) (stepBy D (record { kind = kind; job = job; cell = c }) (letterOf kind))) s
-    (λ q v. letter-tied (s .plain) v job kind c (letterOf kind)) v
+    by-reading (λ D. Inv D → Tied (performed d job c (moveFor (d .next) (d .number) (d .status) (d .cell) (d .held) job c (letterOf kind))) (stepBy D (record { kind = kind; job = job; cell = c }) (letterOf kind))) s
+    (λ q v. letter-tied (s .plain) v job c kind (letterOf kind)) v

@@ -19,8 +19,6 @@ use Rattle.board.proofs.codes.ask_code.Reads as ask-code
 use Rattle.board.proofs.codes.ask_code.Kinds as ask-codeK
 use Rattle.board.proofs.codes.ask_of.Reads as ask-of
 use Rattle.board.proofs.codes.ask_of.Kinds as ask-ofK
-use Rattle.board.proofs.state.with_no_wakes.Reads as with-no-wakes
-use Rattle.board.proofs.state.with_no_wakes.Kinds as with-no-wakesK
 use Rattle.board.proofs.state.Desk.start as start
 use Rattle.board.proofs.state.Desk.first.Reads as first
 use Rattle.board.proofs.state.Desk.first.Kinds as firstK
@@ -32,9 +30,6 @@ ask-code-unique κs a x y e f p q = p ∙ sym q
 
 pub ask-of-unique : Unique ask-ofK.ps ask-ofK.r ask-of.Post
 ask-of-unique κs a x y e f p q = p ∙ sym q
-
-pub with-no-wakes-unique : Unique with-no-wakesK.ps with-no-wakesK.r with-no-wakes.Post
-with-no-wakes-unique κs a x y e f p q = p ∙ sym q
 
 -- `start` is walked by hand and has no `Reads`: its one clause says that the result is `startOf` of the number, and so there is no second one
 pub start-unique : {M : Type 1} (𝓤 : URA M) (H : Heap 𝓤) (κs : Lfts 0) (A : Atoms 𝓤) (mem : Memory → SProp 𝓤) (run : Routine → Fun 𝓤) (n : ℕ) (both : Both ℕ ℕ)

@@ -21,7 +21,7 @@ one-or-none true = omega arith
 one-or-none false = omega arith
 
 -- no more wait than there are
-waiters-most : (status : List ℕ) (n : ℕ) → waiters status n ≤ n
+pub waiters-most : (status : List ℕ) (n : ℕ) → waiters status n ≤ n
 unfolding waiters
 waiters-most status zero = omega arith
 waiters-most status (suc n) = omega (arith, waiters-most status n, one-or-none (eqb (getD status n 0) waitingCode))

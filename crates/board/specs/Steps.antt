@@ -1,24 +1,18 @@
--- One step of the desk over its arrays, in the order of the rules; what the contracts cite.
-use Prim.Native.Nat.{ℕ, zero, suc, _+_, _*_}
-use mathlib.Core.Bool.{Bool, true, false, not, _&&_, _||_}
-use mathlib.Core.List.{List, [], _∷_}
-use lib.Dec.{eqb, ltb}
-use lib.ListN.{getD, set, replicate}
+-- One step of the desk over its arrays: the move that is decided, carried out; what the contracts cite (01, The desk's rules).
+use Prim.Native.Nat.{ℕ, _+_, _-_, _*_}
+use mathlib.Core.List.{List, [], _++_, map}
+use lib.Dec.{eqb}
+use lib.ListN.{length, getD, set, replicate, drop}
 use Rattle.laws.specs.Choice.{pick}
 use Rattle.laws.specs.Lists.{pos}
 use Rattle.terms.specs.declared.letters.Ask.{Ask}
-use Rattle.terms.specs.declared.letters.Letter.{Letter}
-use Rattle.terms.specs.declared.letters.Letter.the-variants.{Begin, Commit, GiveUp, Retry, Back as no-request, Asks}
-use Rattle.terms.specs.declared.letters.Lettered.{Lettered}
-use Rattle.terms.specs.declared.letters.Lettered.the-variants.{Known, Unknown}
-use Rattle.terms.specs.declared.refusals.Refusal.{Refusal}
-use Rattle.terms.specs.declared.refusals.Refusal.the-variants.{UnknownKind, CellAbove, NotOpen, Waiting, SentBack, AllOpen, NoNumberLeft, Running, StartedAtZero}
+use Rattle.terms.specs.declared.refusals.Refusal.the-variants.{StartedAtZero}
 use Rattle.terms.specs.Letters.{letterOf}
-use Rattle.terms.specs.Limits.{places, cells, lastNumber}
+use Rattle.terms.specs.Limits.{places, cells}
 use Rattle.conflict.specs.declared.modes.Mode.{Mode}
 use Rattle.conflict.specs.declared.action.Action.{Action}
 use Rattle.conflict.specs.declared.action.Kind.the-variants.{Read}
-use Rattle.conflict.specs.Modes.{needed, covers, asked, isFree, codeOf}
+use Rattle.conflict.specs.Modes.{recorded, codeOf}
 use Rattle.rules.specs.declared.Answer.{Answer}
 use Rattle.rules.specs.declared.Answer.the-variants.{Go, Wait, Back, No}
 use Rattle.board.specs.declared.state.Desk.{Desk}
@@ -26,182 +20,148 @@ use Rattle.board.specs.declared.state.Said.{Said}
 use Rattle.board.specs.declared.state.Outcome.{Outcome}
 use Rattle.board.specs.declared.state.Start.{Start}
 use Rattle.board.specs.declared.state.Start.the-variants.{Ready, Refused}
-use Rattle.board.specs.declared.state.Decision.{Decision}
-use Rattle.board.specs.declared.state.Decision.the-variants.{Keep, Take, Stay, Away}
-use Rattle.board.specs.Codes.{freeCode, runningCode, waitingCode, sentBackCode, askCode}
-use Rattle.board.specs.Places.{spot, modeAt, agreesAt, aloneAt, olderAt, nobodyWaits, oldestOf}
+use Rattle.board.specs.declared.moves.Ending.{Ending}
+use Rattle.board.specs.declared.moves.Ending.the-variants.{Closed, SentBack}
+use Rattle.board.specs.declared.moves.Move.{Move}
+use Rattle.board.specs.declared.moves.Move.the-variants.{Refuse, Begin, Keep, Take, Stay, End, Retry}
+use Rattle.board.specs.Codes.{freeCode, runningCode, waitingCode, sentBackCode, askCode, askOf}
+use Rattle.board.specs.Places.{spot}
 use Rattle.board.specs.Settling.{Settling, droppedBy, settleAll}
+use Rattle.board.specs.Moves.{statusOf, moveFor}
 
--- what stands in a place of the list of wakes that no wake fills
-unfoldable pub noAction : Action
-noAction = record { kind = Read; job = 0; cell = 0 }
-
--- an answer with no wakes
-unfoldable pub quiet : Answer → Said
-quiet a = record { answer = a; wakes = replicate places noAction; count = 0 }
+-- the desk of these fields
+abbrev pub deskOf : ℕ → List ℕ → List ℕ → List ℕ → List ℕ → List ℕ → Desk
+deskOf next number status cell ask held = record { next = next; number = number; status = status; cell = cell; ask = ask; held = held }
 
 -- the desk with every place free, every cell idle, and the number given next
 unfoldable pub emptyDesk : ℕ → Desk
-emptyDesk n =
-    record {
-      next = n;
-      number = replicate places 0;
-      status = replicate places freeCode;
-      cell = replicate places 0;
-      ask = replicate places 0;
-      held = replicate (cells * places) 0;
-    }
+emptyDesk n = deskOf n (replicate places 0) (replicate places freeCode) (replicate places 0) (replicate places 0) (replicate (cells * places) 0)
 
 -- started at a first number: 10 for 0, and no desk (01, refusal 10)
 unfoldable pub startOf : ℕ → Start
 startOf n = pick (eqb n 0) (Refused StartedAtZero) (Ready (emptyDesk n))
 
--- a refusal leaves the desk as it was
-unfoldable pub refusing : Desk → Refusal → Outcome
-refusing d why = record { desk = d; said = quiet (No why) }
+-- the desk with another next number, and other numbers at the places
+abbrev pub withNumbers : Desk → ℕ → List ℕ → Desk
+withNumbers d next number = deskOf next number (d .status) (d .cell) (d .ask) (d .held)
 
--- the place of a job that is open, by its number
-abbrev pub placeOf : Desk → ℕ → ℕ
-placeOf d job = pos (d .number) job
+-- the desk whose places are doing something else
+abbrev pub withStatus : Desk → List ℕ → Desk
+withStatus d status = deskOf (d .next) (d .number) status (d .cell) (d .ask) (d .held)
 
--- what the job is doing: free for 0 and for a number that no place has
-unfoldable pub statusOf : List ℕ → List ℕ → ℕ → ℕ
-statusOf number status job = pick (eqb job 0) freeCode (getD status (pos number job) freeCode)
+-- the desk whose places wait for something else
+abbrev pub withWaits : Desk → List ℕ → List ℕ → Desk
+withWaits d cell ask = deskOf (d .next) (d .number) (d .status) cell ask (d .held)
 
--- the settling that follows when place p has dropped its locks and has a new status
-unfoldable pub settled : Desk → ℕ → ℕ → Settling
-settled d p code =
-    settleAll (d .number) (d .cell) (d .ask) cells
-    (record {
-      held = droppedBy (d .held) p cells;
-      told = record { status = set (d .status) p code; wakes = replicate places noAction; count = 0 };
-    })
+-- the desk with other modes held
+abbrev pub withHeld : Desk → List ℕ → Desk
+withHeld d held = deskOf (d .next) (d .number) (d .status) (d .cell) (d .ask) held
 
--- rule 4: the run of place p ends with this status, and its number is freed or kept (01, rule 4)
-unfoldable pub ending : Desk → ℕ → ℕ → Bool → Answer → Outcome
-ending d p code freed answer =
-    let s = settled d p code in
-    record {
-      desk =
-          record {
-            next = d .next;
-            number = pick freed (set (d .number) p 0) (d .number);
-            status = s .told .status;
-            cell = d .cell;
-            ask = d .ask;
-            held = s .held;
-          };
-      said = record { answer = answer; wakes = s .told .wakes; count = s .told .count };
-    }
+-- begin: a number runs at a place, and the one after it is next (01, Jobs and their numbers)
+unfoldable pub begun : Desk → ℕ → ℕ → Desk
+begun d p n = withStatus (withNumbers d (n + 1) (set (d .number) p n)) (set (d .status) p runningCode)
 
--- rules 1 to 3: what becomes of a request for a cell
-unfoldable pub decided : Desk → ℕ → ℕ → ℕ → Ask → Decision
-decided d p c job a =
-    let mine = modeAt (d .held) c p in
-    pick (covers mine (needed a)) Keep
-    (pick (isFree mine)
-    (pick (nobodyWaits (d .status) (d .cell) c && agreesAt (d .held) c p (needed a)) (Take (needed a))
-    (pick (olderAt (d .held) (d .number) c p job && oldestOf (d .number) (d .status) (d .cell) c job) Stay Away))
-    (pick (aloneAt (d .held) c p) (Take (asked mine (needed a))) (pick (olderAt (d .held) (d .number) c p job) Stay Away)))
-
--- place p has the mode on the cell
+-- place p has the mode on the cell (01, rules 2 and 3)
 unfoldable pub holding : Desk → ℕ → ℕ → Mode → Desk
-holding d p c m =
-    record {
-      next = d .next;
-      number = d .number;
-      status = d .status;
-      cell = d .cell;
-      ask = d .ask;
-      held = set (d .held) (spot c p) (codeOf m);
-    }
+holding d p c m = withHeld d (set (d .held) (spot c p) (codeOf m))
 
--- place p waits for the cell
+-- place p waits for the cell, with what was asked (01, rules 2 and 3)
 unfoldable pub waitingFor : Desk → ℕ → ℕ → Ask → Desk
-waitingFor d p c a =
-    record {
-      next = d .next;
-      number = d .number;
-      status = set (d .status) p waitingCode;
-      cell = set (d .cell) p c;
-      ask = set (d .ask) p (askCode a);
-      held = d .held;
-    }
-
--- the decision carried out
-unfoldable pub carried : Desk → ℕ → ℕ → ℕ → Ask → Decision → Outcome
-carried d p c job a Keep = record { desk = d; said = quiet (Go job) }
-carried d p c job a (Take m) = record { desk = holding d p c m; said = quiet (Go job) }
-carried d p c job a Stay = record { desk = waitingFor d p c a; said = quiet (Wait job) }
-carried d p c job a Away = ending d p sentBackCode false (Back job)
-
--- read, write and increment of a running job
-unfoldable pub asking : Desk → ℕ → ℕ → Ask → Outcome
-asking d job c a =
-    pick (ltb c cells) (carried d (placeOf d job) c job a (decided d (placeOf d job) c job a)) (refusing d CellAbove)
+waitingFor d p c a = withStatus (withWaits d (set (d .cell) p c) (set (d .ask) p (askCode a))) (set (d .status) p waitingCode)
 
 -- the job at place p runs again
 unfoldable pub retried : Desk → ℕ → Desk
-retried d p =
-    record {
-      next = d .next;
-      number = d .number;
-      status = set (d .status) p runningCode;
-      cell = d .cell;
-      ask = d .ask;
-      held = d .held;
-    }
+retried d p = withStatus d (set (d .status) p runningCode)
 
 -- rule 5: a sent back job runs again, holding nothing as before; of any other number nothing comes (01, rule 5)
 unfoldable pub retriedJob : Desk → ℕ → Desk
-retriedJob d job = pick (eqb (statusOf (d .number) (d .status) job) sentBackCode) (retried d (placeOf d job)) d
+retriedJob d job = pick (eqb (statusOf (d .number) (d .status) job) sentBackCode) (retried d (pos (d .number) job)) d
 
--- begin at the first free place
-unfoldable pub begun : Desk → ℕ → Desk
-begun d p =
+-- what a place is once its run has ended: free, or sent back (01, Jobs and their numbers)
+unfoldable pub codeAfter : Ending → ℕ
+codeAfter Closed = freeCode
+codeAfter SentBack = sentBackCode
+
+-- the numbers once a run has ended: a job that is closed frees its place, one that is sent back keeps it (01, Jobs and their numbers)
+unfoldable pub numbersAfter : Ending → List ℕ → ℕ → List ℕ
+numbersAfter Closed number p = set number p 0
+numbersAfter SentBack number p = number
+
+-- the answer that tells how a run has ended (01, The desk's rules)
+unfoldable pub answerAfter : Ending → ℕ → Answer
+answerAfter Closed job = Go job
+answerAfter SentBack job = Back job
+
+-- the cells settled once place p has dropped its locks and is what it is from now on (01, rule 4)
+unfoldable pub settled : Desk → ℕ → ℕ → Settling
+settled d p code =
+    settleAll (d .number) (d .cell) (d .ask) cells
+    (record { held = droppedBy (d .held) p cells; status = set (d .status) p code; woken = [] })
+
+-- the desk that a step leaves, and the places that it wakes
+pub record Left : Type 0 where
+  pub desk : Desk
+  pub woken : List ℕ
+
+-- nobody is woken
+abbrev pub quietly : Desk → Left
+quietly d = record { desk = d; woken = [] }
+
+-- rule 4: the run of place p ends (01, rule 4)
+unfoldable pub ended : Desk → ℕ → Ending → Left
+ended d p e =
+    let s = settled d p (codeAfter e) in
     record {
-      next = d .next + 1;
-      number = set (d .number) p (d .next);
-      status = set (d .status) p runningCode;
-      cell = d .cell;
-      ask = d .ask;
-      held = d .held;
+      desk = withHeld (withStatus (withNumbers d (d .next) (numbersAfter e (d .number) p)) (s .status)) (s .held);
+      woken = s .woken;
     }
 
--- 7, then 6, else the next number at the first free place (01, Refusals by number)
-unfoldable pub beginning : Desk → Outcome
-beginning d =
-    pick (ltb lastNumber (d .next)) (refusing d NoNumberLeft)
-    (pick (ltb (placeOf d 0) places) (record { desk = begun d (placeOf d 0); said = quiet (Go (d .next)) }) (refusing d AllOpen))
+-- a move carried out; a refusal leaves the desk as it was
+unfoldable pub carried : Desk → ℕ → ℕ → Move → Left
+carried d job c (Refuse why) = quietly d
+carried d job c (Begin p n) = quietly (begun d p n)
+carried d job c Keep = quietly d
+carried d job c (Take p m) = quietly (holding d p c m)
+carried d job c (Stay p a) = quietly (waitingFor d p c a)
+carried d job c (End p e) = ended d p e
+carried d job c Retry = quietly (retriedJob d job)
 
--- the tests 3, 4 and 5 of commit, read, write and increment, by the job's status; a running job goes on
-unfoldable pub ifRunning : Desk → ℕ → Outcome → Outcome
-ifRunning d code goes =
-    pick (eqb code freeCode) (refusing d NotOpen)
-    (pick (eqb code waitingCode) (refusing d Waiting) (pick (eqb code sentBackCode) (refusing d SentBack) goes))
+-- the answer to a job whose move this is: begin tells the new number (01, The desk's rules)
+unfoldable pub answerTo : Move → ℕ → Answer
+answerTo (Refuse why) job = No why
+answerTo (Begin p n) job = Go n
+answerTo Keep job = Go job
+answerTo (Take p m) job = Go job
+answerTo (Stay p a) job = Wait job
+answerTo (End p e) job = answerAfter e job
+answerTo Retry job = Go job
 
--- give-up: 3, else the run ends and the place is free
-unfoldable pub givingUp : Desk → ℕ → ℕ → Outcome
-givingUp d job code = pick (eqb code freeCode) (refusing d NotOpen) (ending d (placeOf d job) freeCode true (Go job))
+-- what stands in a place of the list of wakes that no wake fills
+unfoldable pub noAction : Action
+noAction = record { kind = Read; job = 0; cell = 0 }
 
--- retry: 3, 4, 8, else it runs again
-unfoldable pub retrying : Desk → ℕ → ℕ → Outcome
-retrying d job code =
-    pick (eqb code freeCode) (refusing d NotOpen)
-    (pick (eqb code waitingCode) (refusing d Waiting)
-    (pick (eqb code sentBackCode) (record { desk = retried d (placeOf d job); said = quiet (Go job) }) (refusing d Running)))
+-- the action of a place that was woken: it keeps its number, and what it waited for (01, rule 4)
+unfoldable pub wakeAt : List ℕ → List ℕ → List ℕ → ℕ → Action
+wakeAt number cell ask p = record { kind = recorded (askOf (getD ask p 0)); job = getD number p 0; cell = getD cell p 0 }
 
--- a request by its letter
-unfoldable pub stepFor : Desk → ℕ → ℕ → Lettered → Outcome
-stepFor d job c Unknown = refusing d UnknownKind
-stepFor d job c (Known no-request) = refusing d UnknownKind
-stepFor d job c (Known Begin) = beginning d
-stepFor d job c (Known Commit) =
-    ifRunning d (statusOf (d .number) (d .status) job) (ending d (placeOf d job) freeCode true (Go job))
-stepFor d job c (Known GiveUp) = givingUp d job (statusOf (d .number) (d .status) job)
-stepFor d job c (Known Retry) = retrying d job (statusOf (d .number) (d .status) job)
-stepFor d job c (Known (Asks a)) = ifRunning d (statusOf (d .number) (d .status) job) (asking d job c a)
+-- the list of 32 that tells these wakes
+unfoldable pub listed : List Action → List Action
+listed ws = ws ++ replicate (places - length ws) noAction
+
+-- an answer, with the wakes of these places
+unfoldable pub saying : Desk → Answer → List ℕ → Said
+saying d a woken = record { answer = a; wakes = listed (map (wakeAt (d .number) (d .cell) (d .ask)) woken); count = length woken }
+
+-- a move carried out, with its answer
+unfoldable pub performed : Desk → ℕ → ℕ → Move → Outcome
+performed d job c m =
+    let l = carried d job c m in
+    record { desk = l .desk; said = saying (l .desk) (answerTo m job) (l .woken) }
+
+-- what a request by numbers is to do
+unfoldable pub moveOf : Desk → ℕ → ℕ → ℕ → Move
+moveOf d kind job c = moveFor (d .next) (d .number) (d .status) (d .cell) (d .held) job c (letterOf kind)
 
 -- one step by numbers
 unfoldable pub stepOf : Desk → ℕ → ℕ → ℕ → Outcome
-stepOf d kind job c = stepFor d job c (letterOf kind)
+stepOf d kind job c = performed d job c (moveOf d kind job c)

@@ -2,29 +2,38 @@
 use crate::codes::RUNNING;
 use crate::codes::SENT_BACK;
 use conflict::action::Action;
-use conflict::action::Kind;
-use conflict::modes::Mode;
 use rules::Answer;
+use terms::limits::CELLS;
+use terms::limits::PLACES;
 use terms::refusals::Refusal;
 ghost use mathlib.Core.Path.{_≡_};
 ghost use Rattle.board.specs.declared.state.Start.the-variants.{Ready};
-ghost use Rattle.board.specs.Steps.{quiet, emptyDesk, startOf, retriedJob};
+ghost use Rattle.board.specs.Steps.{emptyDesk, startOf, retriedJob};
 
-// The desk: the next number; for each of 32 places the job's number, 0 where the place is free, what it is doing, and what it waits for;
+// So many modes: of every place on every cell.
+pub const SPOTS: usize = CELLS as usize * PLACES;
+
+// The desk: the next number; for each of the places the job's number, 0 where the place is free, what it is doing, and what it waits for;
 // and for each cell and place the mode that is held.
 pub struct Desk {
     pub next: u64,
-    pub number: [u32; 32],
-    pub status: [u8; 32],
-    pub cell: [u8; 32],
-    pub ask: [u8; 32],
-    pub held: [u8; 2048],
+    pub number: [u32; PLACES],
+    pub status: [u8; PLACES],
+    pub cell: [u8; PLACES],
+    pub ask: [u8; PLACES],
+    pub held: [u8; SPOTS],
 }
 
 // What a step says: the answer, and the wakes in their order.
 pub struct Said {
     pub answer: Answer,
-    pub wakes: [Action; 32],
+    pub wakes: [Action; PLACES],
+    pub count: usize,
+}
+
+// What a step says where the wakes are told as places: the answer, and how many woke.
+pub struct Told {
+    pub answer: Answer,
     pub count: usize,
 }
 
@@ -34,41 +43,10 @@ pub struct Outcome {
     pub said: Said,
 }
 
-// Who runs and who waits once some have been woken, and the wakes in their order.
-pub struct Woken {
-    pub status: [u8; 32],
-    pub wakes: [Action; 32],
-    pub count: usize,
-}
-
 // A desk that was started, or why there is none.
 pub enum Start {
     Ready(Desk),
     Refused(Refusal),
-}
-
-// What rules 1 to 3 make of a request: it goes as it is, it takes a mode, the job stays and waits, or it goes back.
-pub enum Decision {
-    Keep,
-    Take(Mode),
-    Stay,
-    Away,
-}
-
-// An answer with no wakes.
-pub fn with_no_wakes(answer: Answer) -> Said
-    ensures { λ r. ⌜ r ≡ quiet answer ⌝ }
-{
-    let a = Action {
-        kind: Kind::Read,
-        job: 0,
-        cell: 0,
-    };
-    Said {
-        answer,
-        wakes: [a; 32],
-        count: 0,
-    }
 }
 
 impl Desk {
@@ -78,11 +56,11 @@ impl Desk {
     {
         Desk {
             next: first as u64,
-            number: [0; 32],
-            status: [0; 32],
-            cell: [0; 32],
-            ask: [0; 32],
-            held: [0; 2048],
+            number: [0; PLACES],
+            status: [0; PLACES],
+            cell: [0; PLACES],
+            ask: [0; PLACES],
+            held: [0; SPOTS],
         }
     }
 
@@ -111,7 +89,7 @@ impl Desk {
             return self;
         }
         let mut p: usize = 0;
-        while p < 32 {
+        while p < PLACES {
             if self.number[p] == job {
                 if self.status[p] == SENT_BACK {
                     self.status[p] = RUNNING;

@@ -1,51 +1,144 @@
--- Laws of settling cell after cell: a cell that nobody waits for may be passed over.
+-- Rule 4 as the code comes along it: a grant, one cell more, and a cell that nobody waits for passed over; with the places woken laid over a list.
 -- Assumes nothing.
 use Prim.Native.Nat.{ℕ, _+_, _≤_, _<_}
-use mathlib.Core.Path.{_≡_, refl, sym, ap, _∙_}
+use mathlib.Core.Path.{_≡_, refl, sym, ap, subst, _∙_}
 use mathlib.Core.Bool.{Bool, true, false}
-use mathlib.Core.List.{List}
+use mathlib.Core.List.{List, [], _∷_}
 use native.Mathlib.Numerals.{add-one}
 use native.Mathlib.Omega.{arith}
-use lib.ListN.{getD}
+use lib.ListN.{length, getD, set, take, length-append}
 use Rattle.laws.specs.Choice.{by-test, not-both}
-use Rattle.board.specs.declared.state.Woken.{Woken}
-use Rattle.board.specs.Places.{waitsAt}
-use Rattle.board.specs.Settling.{Settling, wanted, settleCell, settleAll}
-use Rattle.moves.proofs.Front.{front-nobody}
-use Rattle.desk.proofs.Grants.{stands-empty, settle-stop}
-use Rattle.desk.proofs.Room.{room, NoNewWaiter, waits-status, all-room, all-waiting}
+use Rattle.terms.specs.Limits.{places, cells}
+use Rattle.conflict.specs.declared.modes.Mode.{Mode}
+use Rattle.conflict.specs.Modes.{codeOf}
+use Rattle.board.specs.Codes.{runningCode, askOf}
+use Rattle.board.specs.Places.{spot, waitsAt, waiters}
+use Rattle.board.specs.Settling.{Settling, granted, grantFront, settleCell, settleAll}
+use Rattle.board.proofs.Front.{no-youngest}
+use Rattle.board.proofs.EveryGrant.{waits-code}
+use Rattle.moves.specs.declared.grants.Grant.{Grant}
+use Rattle.moves.specs.declared.grants.Grant.the-variants.{Nobody, To}
+use Rattle.moves.specs.Grants.{wanted, frontGrant}
 use Rattle.moves.proofs.Wanted.{unwanted}
+use Rattle.desk.specs.InPlace.{laid, Reached}
+use Rattle.desk.proofs.Laid.{laid-take, laid-length, laid-more, laid-again}
+use Rattle.desk.proofs.Grants.{Picked, front, fronts, mayGrant, grant-grants, stands-empty, none-granted, who-granted, granted-place, settle-more, settle-stop}
+use Rattle.desk.proofs.Room.{room, NoNewWaiter, cell-room, cell-grows, all-room, all-waiting, wake-fits}
 
--- a state by its two parts
-pub both-parts : {h : List ℕ} {t : Woken} {x : Settling} → h ≡ x .held → t ≡ x .told → _≡_ {A = Settling} (record { held = h; told = t }) x
-both-parts p q = λ i. record { held = p i; told = q i }
+-- the state that arrays hold, with the first so many of a list as the places woken
+abbrev pub holds : List ℕ → List ℕ → List ℕ → ℕ → Settling
+holds held status woken count = record { held = held; status = status; woken = take count woken }
+
+module _ {s : Settling} {l held status woken : List ℕ} {count : ℕ} (r : Reached s l held status woken count) where
+  -- what is reached is what the arrays hold
+  pub reached-holds : holds held status woken count ≡ s
+  reached-holds = λ i. record { held = r .modes i; status = r .doing i; woken = told i }
+    where
+      told : take count woken ≡ s .woken
+      told = ap (λ n. take n woken) (r .many) ∙ ap (take (length (s .woken))) (r .places) ∙ laid-take (s .woken) l
+
+  -- the list keeps its length
+  pub reached-length : length (s .woken) ≤ length l → length woken ≡ length l
+  reached-length h = ap length (r .places) ∙ laid-length (s .woken) l h
+
+-- the same, by another name for the state
+pub reached-as : {s t : Settling} {l held status woken : List ℕ} {count : ℕ} → Reached s l held status woken count → s ≡ t → Reached t l held status woken count
+reached-as {l = l} {held} {status} {woken} {count} r e = subst (λ x. Reached x l held status woken count) e r
+
+module _ (number cell ask : List ℕ) (c : ℕ) (s₀ : Settling) (inside : c < cells) where
+  -- so many grants have been made
+  abbrev at-turn : ℕ → Settling
+  at-turn n = settleCell number cell ask c n s₀
+
+  module _ (n : ℕ) {l held status woken : List ℕ} {count : ℕ} (r : Reached (at-turn n) l held status woken count) {g : Grant} (found : g ≡ frontGrant number status cell ask held c) where
+    -- what is found is found of the state reached
+    found-there : g ≡ frontGrant number (at-turn n .status) cell ask (at-turn n .held) c
+    found-there = found ∙ ap (λ x. frontGrant number x cell ask held c) (r .doing) ∙ ap (λ x. frontGrant number (at-turn n .status) cell ask x c) (r .modes)
+
+    -- nobody is granted: further turns change nothing
+    pub cell-stops : g ≡ Nobody → n ≤ places → Reached (settleCell number cell ask c places s₀) l held status woken count
+    cell-stops h b = reached-as r (settle-stop number cell ask c s₀ n places (none-granted number cell ask c (at-turn n) inside found-there h) b)
+
+    module _ {p : ℕ} {m : Mode} (granting : g ≡ To p m) where
+      -- who is granted has a place
+      pub turn-place : p < places
+      turn-place = granted-place number cell ask c (at-turn n) inside found-there granting
+
+      -- there is room in the list
+      pub turn-room : room s₀ ≤ places → count < places
+      turn-room h =
+          let q = who-granted number cell ask c (at-turn n) inside found-there granting in
+          let f : front number cell ask c (at-turn n) < places = rw (q .place) at turn-place in
+          rw (r .many) (wake-fits number cell ask s₀ c n h f)
+
+      -- the front is granted where the arrays stand
+      pub turn-granted : {code : ℕ} → code ≡ codeOf m → count < length l → Reached (at-turn (n + 1)) l (set held (spot c p) code) (set status p runningCode) (set woken count p) (count + 1)
+      turn-granted {code} e b = reached-as by-grant (sym (grant-grants number cell ask c x (w .is-so)) ∙ settle-more number cell ask c s₀ n)
+        where
+          x : Settling
+          x = at-turn n
+
+          w : Picked (mayGrant number cell ask c x) (front number cell ask c x) (fronts number cell ask c x) p m
+          w = who-granted number cell ask c x inside found-there granting
+
+          by-grant : Reached (granted c (front number cell ask c x) (askOf (getD ask (front number cell ask c x) 0)) x) l (set held (spot c p) code) (set status p runningCode) (set woken count p) (count + 1)
+          by-grant = unfold granted in record {
+            modes = rw (e, w .mode, w .place, r .modes);
+            doing = rw (w .place, r .doing);
+            places = rw (r .places, r .many, w .place) (laid-more (x .woken) l (front number cell ask c x) (rw (← r .many) b));
+            many = rw (r .many) (omega (arith, length-append (x .woken) (front number cell ask c x ∷ [])));
+          }
 
 -- who waits for a cell where nobody new waits, waited for it before
-still-waits : (t u : Woken) (cell : List ℕ) (c q : ℕ) → NoNewWaiter t u → waitsAt (t .status) cell c q ≡ true → waitsAt (u .status) cell c q ≡ true
+still-waits : (t s : Settling) (cell : List ℕ) (c q : ℕ) → NoNewWaiter t s → waitsAt (t .status) cell c q ≡ true → waitsAt (s .status) cell c q ≡ true
 unfolding waitsAt
-still-waits t u cell c q n h =
-    let e = waits-status (t .status) cell c q h in rw (n q e) (rw e at h)
+still-waits t s cell c q n h = let e = waits-code (t .status) cell c q h in rw (n q e) (rw e at h)
 
-module _ (number cell ask : List ℕ) (s : Settling) where
+module _ (number cell ask : List ℕ) (s : Settling) (c : ℕ) {l held status woken : List ℕ} {count : ℕ} (r : Reached (settleAll number cell ask c s) l held status woken count) where
+  -- there is room for the wakes of one cell more
+  pub cells-room : room s ≤ places → count + waiters status places ≤ places
+  cells-room h = rw (r .many, r .doing) (omega (arith, all-room number cell ask s c))
+
+  -- and the list has its length
+  pub cells-length : room s ≤ places → length l ≡ places → length woken ≡ places
+  cells-length h e = let f = all-room number cell ask s c in reached-length r (omega arith) ∙ e
+
   -- one cell more
-  pub cells-settled : (c : ℕ) {x y : Settling} → x ≡ settleAll number cell ask c s → y ≡ settleCell number cell ask c 32 x → y ≡ settleAll number cell ask (c + 1) s
+  pub cells-settled : {held′ status′ woken′ : List ℕ} {count′ : ℕ} → Reached (settleCell number cell ask c places (holds held status woken count)) woken held′ status′ woken′ count′ →
+      Reached (settleAll number cell ask (c + 1) s) l held′ status′ woken′ count′
   unfolding settleAll
-  cells-settled c e g = rw (add-one, ← e) g
+  cells-settled {held′} {status′} {woken′} {count′} t = rw add-one
+      (subst (λ x. Reached x l held′ status′ woken′ count′) (ap (settleCell number cell ask c places) (reached-holds r))
+      (record {
+        modes = t .modes;
+        doing = t .doing;
+        places = t .places ∙ ap (laid (u .woken)) (r .places) ∙ laid-again (settleAll number cell ask c s .woken) l (u .woken) grown;
+        many = t .many;
+      }))
+    where
+      u : Settling
+      u = settleCell number cell ask c places (holds held status woken count)
+
+      grown : length (settleAll number cell ask c s .woken) ≤ length (u .woken)
+      grown = subst (λ x. length (x .woken) ≤ length (u .woken)) (reached-holds r) (cell-grows number cell ask (holds held status woken count) c places)
 
   -- one cell more that nobody waits for
-  pub cells-passed : (c : ℕ) {x : Settling} {marks : List Bool} → x ≡ settleAll number cell ask c s → marks ≡ wanted (s .told .status) cell 32 → c < 64 → getD marks c false ≡ false → x ≡ settleAll number cell ask (c + 1) s
-  unfolding settleCell
-  cells-passed c {x} {marks} e m l h =
-      let u : getD (wanted (s .told .status) cell 32) c false ≡ false = rw (← m) h in
-      let n : NoNewWaiter (x .told) (s .told) = rw e (all-waiting number cell ask c s) in
-      let f = front-nobody number (x .told .status) cell c 32
-      (λ q b. by-test (waitsAt (x .told .status) cell c q) (λ t. not-both (still-waits (x .told) (s .told) cell c q n t) (unwanted (s .told .status) cell c 32 l u q b)) (λ t. t)) in
-      cells-settled c e (settle-stop number cell ask c x 0 32 refl (stands-empty number cell ask c x (sym f) (omega arith)) (omega arith))
+  pub cells-passed : {marks : List Bool} → marks ≡ wanted (s .status) cell places → c < cells → getD marks c false ≡ false → Reached (settleAll number cell ask (c + 1) s) l held status woken count
+  unfolding settleAll settleCell
+  cells-passed {marks} m b h = rw add-one (reached-as r (settle-stop number cell ask c x 0 places (stands-empty number cell ask c x nobody) (omega arith)))
+    where
+      x : Settling
+      x = settleAll number cell ask c s
 
-  -- all the cells
-  pub cells-end : (c m : ℕ) {x : Settling} → x ≡ settleAll number cell ask c s → c ≡ m → x ≡ settleAll number cell ask m s
-  cells-end c m e h = e ∙ ap (λ k. settleAll number cell ask k s) h
+      unmarked : getD (wanted (s .status) cell places) c false ≡ false
+      unmarked = rw (← m) h
 
-  -- the room for wakes is what it was
-  pub cells-room : (c : ℕ) {x : Settling} → x ≡ settleAll number cell ask c s → room (s .told) ≤ 32 → room (x .told) ≤ 32
-  cells-room c {x} e h = let r : room (x .told) ≡ room (s .told) = ap (λ y. room (y .told)) e ∙ all-room number cell ask c s in omega arith
+      nobody : front number cell ask c x ≡ places
+      nobody =
+          no-youngest number (x .status) cell c places
+          (λ q k. by-test (waitsAt (x .status) cell c q) (λ t. not-both (still-waits x s cell c q (all-waiting number cell ask s c) t) (unwanted (s .status) cell c places b unmarked q k)) (λ t. t))
+
+-- the same of arrays by other names
+pub reached-by : {s : Settling} {l held status woken held′ status′ woken′ : List ℕ} {count count′ : ℕ} → Reached s l held status woken count →
+    held′ ≡ held → status′ ≡ status → woken′ ≡ woken → count′ ≡ count → Reached s l held′ status′ woken′ count′
+reached-by r a b c d = record { modes = a ∙ r .modes; doing = b ∙ r .doing; places = c ∙ r .places; many = d ∙ r .many }

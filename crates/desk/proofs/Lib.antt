@@ -1,7 +1,7 @@
-pub mod Cells
+pub mod Laid
 pub mod Grants
-pub mod Performed
-pub mod Planned
 pub mod Room
+pub mod Cells
+pub mod Performed
+pub mod Telling
 pub mod StepUnique
-pub mod Waiters

@@ -1,101 +1,104 @@
--- A move carried out, way by way: what the code makes of the desk, with what it says, is what the definition makes of the move.
+-- A move carried out in place, way by way: what the code leaves in the fields, with what it tells, is what the definition makes of the move.
 -- Assumes nothing.
-use Prim.Native.Nat.{ℕ, _<_}
-use mathlib.Core.Path.{_≡_, refl, ap, _∙_}
-use mathlib.Core.Bool.{Bool, true, false}
+use Prim.Native.Nat.{ℕ, _<_, _+_}
+use mathlib.Core.Path.{_≡_, refl, sym, ap, _∙_}
 use mathlib.Core.List.{List, []}
-use lib.ListN.{length, getD, set}
-use lib.Seq.{set-getD}
-use Rattle.laws.specs.Choice.{pick}
+use lib.Dec.{eqb}
+use lib.ListN.{length, set}
+use Rattle.laws.specs.Choice.{pick, by-test}
+use Rattle.laws.specs.Lists.{pos}
 use Rattle.terms.specs.declared.letters.Ask.{Ask}
 use Rattle.terms.specs.declared.refusals.Refusal.{Refusal}
 use Rattle.terms.specs.Letters.{letterOf}
+use Rattle.terms.specs.Limits.{places, cells}
 use Rattle.conflict.specs.declared.modes.Mode.{Mode}
 use Rattle.conflict.specs.Modes.{codeOf}
 use Rattle.rules.specs.declared.Answer.{Answer}
 use Rattle.board.specs.declared.state.Desk.{Desk}
-use Rattle.board.specs.declared.state.Outcome.{Outcome}
-use Rattle.board.specs.declared.state.Said.{Said}
-use Rattle.board.specs.declared.state.Woken.{Woken}
+use Rattle.board.specs.declared.moves.Ending.{Ending}
+use Rattle.board.specs.declared.moves.Move.{Move}
+use Rattle.board.specs.declared.moves.Move.the-variants.{Refuse, Begin, Keep, Take, Stay, End, Retry}
+use Rattle.board.specs.Codes.{runningCode, waitingCode, sentBackCode, askCode}
 use Rattle.board.specs.Places.{spot}
-use Rattle.board.specs.Steps.{quiet, settled, ending, holding, waitingFor, retriedJob, stepOf}
-use Rattle.moves.specs.declared.plan.Move.{Move}
-use Rattle.moves.specs.declared.plan.Move.the-variants.{Refuse, Begin, Keep, Take, Stay, End, Retry}
-use Rattle.moves.specs.Plan.{over, moveFor, Fits}
-use Rattle.desk.specs.Answers.{codeAfter, answerTo, saidWith}
-use Rattle.desk.proofs.Planned.{opened, performed, plan-over, planned-step, plan-fits}
+use Rattle.board.specs.Moves.{statusOf, moveFor}
+use Rattle.board.specs.Steps.{deskOf, withStatus, withHeld, begun, holding, waitingFor, retried, retriedJob, codeAfter, numbersAfter, settled, ended, carried, answerTo, saying, performed, moveOf, stepOf}
+use Rattle.moves.specs.Fits.{Fits}
+use Rattle.moves.proofs.Fitting.{plan-fits}
+use Rattle.desk.specs.InPlace.{laid, Reached, wokenBy, StepsTo}
 
--- the desk that is left, and what is said
-abbrev pub left : Desk → Said → Outcome
-left d s = record { desk = d; said = s }
+-- a retry changes nothing but what the places are doing
+retried-status : (d : Desk) (job : ℕ) → withStatus d (retriedJob d job .status) ≡ retriedJob d job
+unfolding retriedJob retried
+retried-status d job = by-test (eqb (statusOf (d .number) (d .status) job) sentBackCode) (λ t. rw t) (λ f. rw f)
 
-module _ (d : Desk) (kind job c : ℕ) {m : Move} (planned : m ≡ moveFor (over (d .next) (d .number) (d .status) (d .cell) [] (d .held)) job c (letterOf kind)) where
-  -- the plan carried out is the step
-  pub step-of : performed d job c m ≡ stepOf d kind job c
-  unfolding stepOf
-  step-of = ap (performed d job c) (planned ∙ plan-over d job c (letterOf kind)) ∙ planned-step d job c (letterOf kind)
+module _ (d : Desk) (l : List ℕ) (kind job c : ℕ) {m : Move} (planned : m ≡ moveFor (d .next) (d .number) (d .status) (d .cell) (d .held) job c (letterOf kind)) where
+  -- the plan speaks of places and cells that there are
+  pub fits : length (d .status) ≡ places → Fits c m
+  fits e = rw planned (plan-fits (d .next) (d .number) (d .status) (d .cell) (d .held) job c (letterOf kind) e)
 
-  -- the plan fits
-  fits : length (d .status) ≡ 32 → Fits c m
-  fits e = rw (planned ∙ plan-over d job c (letterOf kind)) (plan-fits d job c (letterOf kind) e)
-
-  module _ (long : length (d .status) ≡ 32) where
+  module _ (long : length (d .status) ≡ places) where
     -- there is the place of a new job
-    pub begin-place : {p n : ℕ} → m ≡ Begin p n → p < 32
+    pub begin-place : {p n : ℕ} → m ≡ Begin p n → p < places
     begin-place e = rw e at (fits long)
 
     -- there are the place and the cell of a mode
-    pub take-spot : {p : ℕ} {mode : Mode} → m ≡ Take p mode → (p < 32) × (c < 64)
+    pub take-spot : {p : ℕ} {mode : Mode} → m ≡ Take p mode → (p < places) × (c < cells)
     take-spot e = rw e at (fits long)
 
-    -- there is the cell that is waited for
-    pub stay-cell : {p : ℕ} {a : Ask} → m ≡ Stay p a → c < 64
-    stay-cell e = rw e at (fits long)
+    -- there are the place that waits and the cell that it waits for
+    pub stay-spot : {p : ℕ} {a : Ask} → m ≡ Stay p a → (p < places) × (c < cells)
+    stay-spot e = rw e at (fits long)
 
     -- there is the place of a run that ends
-    pub end-place : {p : ℕ} {closed : Bool} → m ≡ End p closed → p < 32
+    pub end-place : {p : ℕ} {e : Ending} → m ≡ End p e → p < places
     end-place e = rw e at (fits long)
 
--- a number put in its own place, or 0
-number-put : (number : List ℕ) (p : ℕ) (closed : Bool) → set number p (pick closed 0 (getD number p 0)) ≡ pick closed (set number p 0) number
-number-put number p true = refl
-number-put number p false = set-getD number p 0
+  module _ {a : Answer} (answers : a ≡ answerTo m job) where
+    -- the plan carried out is the step
+    steps : {e : Desk} {w : List ℕ} {n : ℕ} → e ≡ carried d job c m .desk → w ≡ laid (carried d job c m .woken) l → n ≡ length (carried d job c m .woken) →
+        StepsTo d l kind job c e w (record { answer = a; count = n })
+    unfolding stepOf performed saying moveOf wokenBy
+    steps e f g = record {
+      desk = e ∙ ap (λ x. carried d job c x .desk) planned;
+      answer = answers ∙ ap (λ x. answerTo x job) planned;
+      count = g ∙ ap (λ x. length (carried d job c x .woken)) planned;
+      places = f ∙ ap (λ x. laid (carried d job c x .woken) l) planned;
+    }
 
-module _ (d : Desk) (job c : ℕ) {m : Move} {a : Answer} (answers : a ≡ answerTo m job) where
-  module _ {x : Desk} {s : Said} (says : s ≡ quiet a) where
     -- a refusal leaves the desk as it was
-    pub refused : {why : Refusal} → m ≡ Refuse why → x ≡ d → left x s ≡ performed d job c m
-    unfolding performed
-    refused e g = rw (says, answers, e, g)
+    pub refused : {why : Refusal} → m ≡ Refuse why → StepsTo d l kind job c d l (record { answer = a; count = 0 })
+    unfolding carried laid
+    refused e = steps (rw e) (rw e) (rw e)
 
     -- a new number at its place
-    pub begun-at : {p n : ℕ} → m ≡ Begin p n → x ≡ opened d p n → left x s ≡ performed d job c m
-    unfolding performed
-    begun-at e g = rw (says, answers, e, g)
+    pub begun-at : {p n : ℕ} → m ≡ Begin p n → StepsTo d l kind job c (deskOf (n + 1) (set (d .number) p n) (set (d .status) p runningCode) (d .cell) (d .ask) (d .held)) l (record { answer = a; count = 0 })
+    unfolding carried begun laid
+    begun-at e = steps (rw e) (rw e) (rw e)
 
     -- a covering mode is held: nothing changes
-    pub kept : m ≡ Keep → x ≡ d → left x s ≡ performed d job c m
-    unfolding performed
-    kept e g = rw (says, answers, e, g)
+    pub kept : m ≡ Keep → StepsTo d l kind job c d l (record { answer = a; count = 0 })
+    unfolding carried laid
+    kept e = steps (rw e) (rw e) (rw e)
 
     -- the place has the mode
-    pub taken : {p code : ℕ} {mode : Mode} → m ≡ Take p mode → code ≡ codeOf mode → x ≡ over (d .next) (d .number) (d .status) (d .cell) (d .ask) (set (d .held) (spot c p) code) → left x s ≡ performed d job c m
-    unfolding performed holding
-    taken e h g = rw (says, answers, e, g, h)
+    pub taken : {p code : ℕ} {mode : Mode} → m ≡ Take p mode → code ≡ codeOf mode → StepsTo d l kind job c (withHeld d (set (d .held) (spot c p) code)) l (record { answer = a; count = 0 })
+    unfolding carried holding laid
+    taken e h = steps (rw (e, h)) (rw e) (rw e)
 
     -- the place waits
-    pub stayed : {p : ℕ} {asked : Ask} {y : Desk} → m ≡ Stay p asked → y ≡ waitingFor d p c asked → x ≡ y → left x s ≡ performed d job c m
-    unfolding performed
-    stayed e h g = rw (says, answers, e, g, h)
+    pub stayed : {p code : ℕ} {asks : Ask} → m ≡ Stay p asks → code ≡ askCode asks →
+        StepsTo d l kind job c (deskOf (d .next) (d .number) (set (d .status) p waitingCode) (set (d .cell) p c) (set (d .ask) p code) (d .held)) l (record { answer = a; count = 0 })
+    unfolding carried waitingFor laid
+    stayed e h = steps (rw (e, h)) (rw e) (rw e)
+
+    -- rule 4: what it reaches makes up the desk and the wakes
+    pub ended-at : {p n : ℕ} {e : Ending} {number held status woken : List ℕ} → m ≡ End p e →
+        Reached (settled (deskOf 0 (d .number) (d .status) (d .cell) (d .ask) (d .held)) p (codeAfter e)) l held status woken n → number ≡ numbersAfter e (d .number) p →
+        StepsTo d l kind job c (deskOf (d .next) number status (d .cell) (d .ask) held) woken (record { answer = a; count = n })
+    unfolding carried ended settled
+    ended-at e r f = steps (rw (e, f, r .modes, r .doing)) (rw e (r .places)) (rw e (r .many))
 
     -- the job runs again
-    pub tried : {p : ℕ} {y : Desk} → m ≡ Retry p → y ≡ retriedJob d job → x ≡ y → left x s ≡ performed d job c m
-    unfolding performed
-    tried e h g = rw (says, answers, e, g, h)
-
-  -- rule 4: the parts make up the outcome
-  pub ended : {p n : ℕ} {closed : Bool} {held : List ℕ} {w : Woken} {s : Said} → m ≡ End p closed
-      → (w ≡ settled (over 0 (d .number) (d .status) (d .cell) (d .ask) (d .held)) p (codeAfter closed) .told) × (held ≡ settled (over 0 (d .number) (d .status) (d .cell) (d .ask) (d .held)) p (codeAfter closed) .held)
-      → n ≡ pick closed 0 (getD (d .number) p 0) → s ≡ saidWith a w → left (over (d .next) (set (d .number) p n) (w .status) (d .cell) (d .ask) held) s ≡ performed d job c m
-  unfolding performed settled ending saidWith
-  ended {p} {n} {closed} e t f says = rw (says, answers, e, f, number-put (d .number) p closed, t .0, t .1)
+    pub tried : {status : List ℕ} → m ≡ Retry → status ≡ retriedJob d job .status → StepsTo d l kind job c (withStatus d status) l (record { answer = a; count = 0 })
+    unfolding carried laid
+    tried e h = steps (rw e (ap (withStatus d) h ∙ retried-status d job)) (rw e) (rw e)

@@ -1,93 +1,80 @@
--- Each grant turns one waiter into one wake: so the wakes' count and the waiters together stay the same, and nobody starts to wait.
+-- Each grant turns one waiter into one wake: so the wakes and the waiters together stay as many, nobody starts to wait, and no wake is lost.
 -- Assumes nothing.
-use Prim.Native.Nat.{ℕ, zero, suc, _+_, _≤_, _<_}
+use Prim.Native.Nat.{ℕ, suc, _+_, _≤_, _<_}
 use mathlib.Core.Path.{_≡_, refl, sym, ap, _∙_}
 use mathlib.Core.Bool.{true}
-use mathlib.Core.List.{List}
+use mathlib.Core.List.{List, [], _∷_}
 use native.Mathlib.Omega.{arith}
 use lib.Dec.{eqb, ltb}
-use lib.ListN.{getD, set}
+use lib.ListN.{length, getD, set, length-append, List·getD-eq-default}
 use lib.Seq.{getD-set-other}
-use borrow.Author.Tests.{eqb-true, eqb-false, ltb-true}
+use borrow.Author.Tests.{eqb-true, eqb-false, ltb-true, ltb-false}
 use Rattle.laws.specs.Choice.{by-test}
-use Rattle.laws.proofs.Parts.{and-first}
-use Rattle.board.specs.declared.state.Woken.{Woken}
+use Rattle.terms.specs.Limits.{places}
 use Rattle.board.specs.Codes.{runningCode, waitingCode}
 use Rattle.board.specs.Places.{waitsAt, waiters}
-use Rattle.board.specs.Settling.{Settling, woken, granted, grantFront, settleCell, settleAll}
-use Rattle.desk.proofs.Waiters.{waiters-less}
-use Rattle.moves.proofs.Front.{front-waits}
-use Rattle.desk.proofs.Grants.{front, mayGrant, grant-stands, grant-grants}
+use Rattle.board.specs.Settling.{Settling, granted, settleCell, settleAll}
+use Rattle.board.proofs.WaitingCount.{waiters-woken}
+use Rattle.board.proofs.Front.{front-waits}
+use Rattle.board.proofs.EveryGrant.{waits-code, Kept, cell-keeps, all-keep}
+use Rattle.desk.proofs.Grants.{front}
 
--- a place that waits for a cell has the status of one that waits
-pub waits-status : (status cell : List ℕ) (c q : ℕ) → waitsAt status cell c q ≡ true → getD status q 0 ≡ waitingCode
-unfolding waitsAt
-waits-status status cell c q h = eqb-true (getD status q 0) waitingCode (and-first (eqb (getD status q 0) waitingCode) (eqb (getD cell q 0) c) h)
+-- a place that waits is one of the list
+waiting-inside : (status : List ℕ) (p : ℕ) → getD status p 0 ≡ waitingCode → p < length status
+waiting-inside status p h =
+    by-test (ltb p (length status)) (ltb-true p (length status))
+    (λ f. absurd (omega (arith, List·getD-eq-default status 0 {n = p} (ltb-false p (length status) f))))
+
+-- a place that waited and runs again is one waiter less
+waiters-less : (status : List ℕ) (p : ℕ) → p < places → getD status p 0 ≡ waitingCode → suc (waiters (set status p runningCode) places) ≡ waiters status places
+waiters-less status p l e = waiters-woken status p runningCode (waiting-inside status p e) e (λ q. omega arith) places l
 
 -- the wakes so far and those who wait
-abbrev pub room : Woken → ℕ
-room t = t .count + waiters (t .status) 32
+abbrev pub room : Settling → ℕ
+room s = length (s .woken) + waiters (s .status) places
 
 -- nobody waits in the first who did not in the second
-abbrev pub NoNewWaiter : Woken → Woken → Type 0
-NoNewWaiter t u = (q : ℕ) → getD (t .status) q 0 ≡ waitingCode → getD (u .status) q 0 ≡ waitingCode
+abbrev pub NoNewWaiter : Settling → Settling → Type 0
+NoNewWaiter t s = (q : ℕ) → getD (t .status) q 0 ≡ waitingCode → getD (s .status) q 0 ≡ waitingCode
 
--- who was made to run waited before, if at all
-running-waits : (l : List ℕ) (p q : ℕ) → getD l p 0 ≡ waitingCode → getD (set l p runningCode) q 0 ≡ waitingCode → getD l q 0 ≡ waitingCode
-running-waits l p q e h =
-    by-test (eqb q p) (λ t. ap (λ k. getD l k 0) (eqb-true q p t) ∙ e) (λ f. sym (getD-set-other l p q runningCode 0 (eqb-false q p f)) ∙ h)
+module _ (cell : List ℕ) (s : Settling) (c : ℕ) where
+  -- a grant keeps the room
+  room-kept : Kept cell (λ t. room t ≡ room s) c
+  unfolding granted
+  room-kept q a t l w h = omega (arith, waiters-less (t .status) q l (waits-code (t .status) cell c q w), length-append (t .woken) (q ∷ []))
 
-module _ (number cell ask : List ℕ) (c : ℕ) where
-  -- the front that may be granted waits
-  granted-waits : (s : Settling) → mayGrant number cell ask c s ≡ true → (front number cell ask c s < 32) × (getD (s .told .status) (front number cell ask c s) 0 ≡ waitingCode)
-  granted-waits s h =
-      let l = ltb-true (front number cell ask c s) 32 (and-first (ltb (front number cell ask c s) 32) _ h) in
-      (l, waits-status (s .told .status) cell c (front number cell ask c s) (front-waits number (s .told .status) cell c 32 l))
+  -- a grant makes nobody wait
+  waiting-kept : Kept cell (λ t. NoNewWaiter t s) c
+  unfolding granted
+  waiting-kept q a t l w h r e =
+      by-test (eqb r q) (λ i. h r (ap (λ k. getD (t .status) k 0) (eqb-true r q i) ∙ waits-code (t .status) cell c q w))
+      (λ f. h r (sym (getD-set-other (t .status) q r runningCode 0 (eqb-false r q f)) ∙ e))
 
-  -- one grant
-  pub grant-room : (s : Settling) → room (grantFront number cell ask c s .told) ≡ room (s .told)
-  unfolding granted woken
-  grant-room s =
-      by-test (mayGrant number cell ask c s)
-      (λ h. let w = granted-waits s h in rw (grant-grants number cell ask c s h) (omega (arith, waiters-less (s .told .status) 32 (front number cell ask c s) (w .0) (w .1))))
-      (λ h. rw (grant-stands number cell ask c s h))
+  -- a grant loses no wake
+  grows-kept : Kept cell (λ t. length (s .woken) ≤ length (t .woken)) c
+  unfolding granted
+  grows-kept q a t l w h = omega (arith, length-append (t .woken) (q ∷ []))
 
-  -- one grant
-  pub grant-waiting : (s : Settling) → NoNewWaiter (grantFront number cell ask c s .told) (s .told)
-  unfolding granted woken
-  grant-waiting s q =
-      by-test (mayGrant number cell ask c s)
-      (λ h. rw (grant-grants number cell ask c s h) (running-waits (s .told .status) (front number cell ask c s) q (granted-waits s h .1)))
-      (λ h. rw (grant-stands number cell ask c s h) (λ e. e))
+module _ (number cell ask : List ℕ) (s : Settling) where
+  -- so many grants keep the room
+  pub cell-room : (c n : ℕ) → room (settleCell number cell ask c n s) ≡ room s
+  cell-room c n = cell-keeps number cell ask (λ t. room t ≡ room s) c (room-kept cell s c) n s refl
 
-  -- so many grants
-  pub cell-room : (n : ℕ) (s : Settling) → room (settleCell number cell ask c n s .told) ≡ room (s .told)
-  unfolding settleCell
-  cell-room zero s = refl
-  cell-room (suc n) s = grant-room (settleCell number cell ask c n s) ∙ cell-room n s
+  -- and lose no wake
+  pub cell-grows : (c n : ℕ) → length (s .woken) ≤ length (settleCell number cell ask c n s .woken)
+  cell-grows c n = cell-keeps number cell ask (λ t. length (s .woken) ≤ length (t .woken)) c (grows-kept cell s c) n s (omega arith)
 
-  -- so many grants
-  pub cell-waiting : (n : ℕ) (s : Settling) → NoNewWaiter (settleCell number cell ask c n s .told) (s .told)
-  unfolding settleCell
-  cell-waiting zero s q e = e
-  cell-waiting (suc n) s q e = cell-waiting n s q (grant-waiting (settleCell number cell ask c n s) q e)
+  -- cell after cell
+  pub all-room : (n : ℕ) → room (settleAll number cell ask n s) ≡ room s
+  all-room n = all-keep number cell ask (λ t. room t ≡ room s) (room-kept cell s) n s refl
+
+  -- cell after cell
+  pub all-waiting : (n : ℕ) → NoNewWaiter (settleAll number cell ask n s) s
+  all-waiting n = all-keep number cell ask (λ t. NoNewWaiter t s) (waiting-kept cell s) n s (λ q e. e)
 
   -- while somebody is in front, there is room for one more wake
-  pub wake-fits : (s : Settling) (n : ℕ) {x : Settling} {p : ℕ} → x ≡ settleCell number cell ask c n s → room (s .told) ≤ 32 → p ≡ front number cell ask c x → p < 32 → x .told .count < 32
-  wake-fits s n {x} {p} e h q l =
-      let r : room (x .told) ≡ room (s .told) = ap (λ y. room (y .told)) e ∙ cell-room n s in
-      let w : getD (x .told .status) p 0 ≡ waitingCode = rw q (waits-status (x .told .status) cell c (front number cell ask c x) (front-waits number (x .told .status) cell c 32 (rw q at l))) in
-      omega (arith, waiters-less (x .told .status) 32 p l w)
-
-module _ (number cell ask : List ℕ) where
-  -- cell after cell
-  pub all-room : (n : ℕ) (s : Settling) → room (settleAll number cell ask n s .told) ≡ room (s .told)
-  unfolding settleAll
-  all-room zero s = refl
-  all-room (suc n) s = cell-room number cell ask n 32 (settleAll number cell ask n s) ∙ all-room n s
-
-  -- cell after cell
-  pub all-waiting : (n : ℕ) (s : Settling) → NoNewWaiter (settleAll number cell ask n s .told) (s .told)
-  unfolding settleAll
-  all-waiting zero s q e = e
-  all-waiting (suc n) s q e = all-waiting n s q (cell-waiting number cell ask n 32 (settleAll number cell ask n s) q e)
+  pub wake-fits : (c n : ℕ) → room s ≤ places → front number cell ask c (settleCell number cell ask c n s) < places → length (settleCell number cell ask c n s .woken) < places
+  wake-fits c n h l =
+      let x = settleCell number cell ask c n s in
+      let w = waits-code (x .status) cell c (front number cell ask c x) (front-waits number (x .status) cell c places l) in
+      omega (arith, waiters-less (x .status) (front number cell ask c x) l w, cell-room c n)

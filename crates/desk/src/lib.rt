@@ -1,3 +1,4 @@
-// The desk that runs: a step over the arrays, in the order of the paper's rules.
+// The desk that runs: a step over the arrays where they stand, and the same by value.
 mod settling;
 pub mod step;
+pub mod wakes;

@@ -2,140 +2,116 @@
 use board::codes::FREE;
 use board::codes::RUNNING;
 use board::codes::SENT_BACK;
-use board::state::Woken;
-use conflict::action::Action;
-use conflict::action::Kind;
+use board::moves::Ending;
+use board::state::SPOTS;
 use conflict::modes::code_of;
-use conflict::modes::recorded_kind;
 use moves::grants::Grant;
 use moves::grants::front_grant;
 use moves::grants::wanted_cells;
+use terms::limits::PLACES;
 ghost use Prim.Native.Nat.{_+_, _≤_, _<_};
 ghost use mathlib.Core.Path.{_≡_};
+ghost use mathlib.Core.List.{[]};
+ghost use lib.ListN.{length, take};
 ghost use Rattle.board.specs.Places.{waiters};
-ghost use Rattle.board.specs.Steps.{settled};
-ghost use Rattle.moves.specs.Plan.{over};
-ghost use Rattle.desk.specs.Answers.{codeAfter};
-ghost use Rattle.board.specs.Settling.{droppedBy, woken, settleCell, settleAll};
+ghost use Rattle.board.specs.Settling.{droppedBy, settleCell, settleAll};
+ghost use Rattle.board.specs.Steps.{deskOf, codeAfter, settled};
+ghost use Rattle.desk.specs.InPlace.{Reached};
 
 // A place drops all its locks.
-fn drop_locks(held: &mut [u8; 2048], p: usize)
+fn drop_locks(held: &mut [u8; SPOTS], p: usize)
     requires { ⌜ p < 32 ⌝ }
     ensures { λ r. ⌜ now (held .exit) ≡ droppedBy (now (held .entry)) p 64 ⌝ }
 {
     let mut c: usize = 0;
     while c < 64 {
-        held[c * 32 + p] = 0;
+        held[c * PLACES + p] = 0;
         c += 1;
     }
 }
 
-// One more wake: the place runs again, and its action stands after the wakes so far.
-fn with_wake(mut t: Woken, p: usize, a: Action) -> Woken
-    requires { ⌜ (p < 32) × (t .count < 32) ⌝ }
-    ensures { λ r. ⌜ r ≡ woken t p a ⌝ }
-{
-    let n = t.count;
-    t.status[p] = RUNNING;
-    t.wakes[n] = a;
-    t.count = n + 1;
-    t
-}
-
-// Waiters of one cell are granted from the front while each agrees with the other holders.
+// Waiters of one cell are granted from the front while each agrees with the other holders; so many were woken before.
 fn settle_cell<'a>(
-    held: &mut [u8; 2048],
-    number: &'a [u32; 32],
-    cell: &'a [u8; 32],
-    ask: &'a [u8; 32],
-    t: Woken,
+    held: &mut [u8; SPOTS],
+    status: &mut [u8; PLACES],
+    woken: &mut [u8; PLACES],
+    number: &'a [u32; PLACES],
+    cell: &'a [u8; PLACES],
+    ask: &'a [u8; PLACES],
+    count: usize,
     c: usize,
-) -> Woken
-    requires { ⌜ (c < 64) × (t .count + waiters (t .status) 32 ≤ 32) ⌝ }
-    ensures { λ r. ⌜ (r ≡ settleCell (now (number .entry)) (now (cell .entry)) (now (ask .entry)) c 32 (record { held = now (held .entry); told = t }) .told) × (now (held .exit) ≡ settleCell (now (number .entry)) (now (cell .entry)) (now (ask .entry)) c 32 (record { held = now (held .entry); told = t }) .held) ⌝ }
+) -> usize
+    requires { ⌜ (c < 64) × (count + waiters (now status) 32 ≤ 32) × (length (now woken) ≡ 32) ⌝ }
+    ensures { λ r. ⌜ Reached (settleCell (now (number .entry)) (now (cell .entry)) (now (ask .entry)) c 32 (record { held = now (held .entry); status = now (status .entry); woken = take count (now (woken .entry)) })) (now (woken .entry)) (now (held .exit)) (now (status .exit)) (now (woken .exit)) r ⌝ }
 {
-    let mut s = t;
+    let mut k = count;
     let mut n: usize = 0;
-    while n < 32 {
-        let status = s.status;
-        match front_grant(*number, &status, cell, ask, held, c) {
+    while n < PLACES {
+        match front_grant(number, status, cell, ask, held, c) {
             Grant::Nobody => {
-                return s;
+                return k;
             }
-            Grant::To(p, a, m) => {
-                held[c * 32 + p] = code_of(m);
-                let wake = Action {
-                    kind: recorded_kind(a),
-                    job: number[p],
-                    cell: c as u32,
-                };
-                s = with_wake(s, p, wake);
+            Grant::To(p, m) => {
+                held[c * PLACES + p] = code_of(m);
+                status[p] = RUNNING;
+                woken[k] = p as u8;
+                k += 1;
             }
         }
         n += 1;
     }
-    s
+    k
 }
 
 // The same for every cell from 0 to 63; a cell that nobody waits for is passed over.
 fn settle_all<'a>(
-    held: &mut [u8; 2048],
-    number: &'a [u32; 32],
-    cell: &'a [u8; 32],
-    ask: &'a [u8; 32],
-    t: Woken,
-) -> Woken
-    requires { ⌜ t .count + waiters (t .status) 32 ≤ 32 ⌝ }
-    ensures { λ r. ⌜ (r ≡ settleAll (now (number .entry)) (now (cell .entry)) (now (ask .entry)) 64 (record { held = now (held .entry); told = t }) .told) × (now (held .exit) ≡ settleAll (now (number .entry)) (now (cell .entry)) (now (ask .entry)) 64 (record { held = now (held .entry); told = t }) .held) ⌝ }
+    held: &mut [u8; SPOTS],
+    status: &mut [u8; PLACES],
+    woken: &mut [u8; PLACES],
+    number: &'a [u32; PLACES],
+    cell: &'a [u8; PLACES],
+    ask: &'a [u8; PLACES],
+) -> usize
+    requires { ⌜ length (now woken) ≡ 32 ⌝ }
+    ensures { λ r. ⌜ Reached (settleAll (now (number .entry)) (now (cell .entry)) (now (ask .entry)) 64 (record { held = now (held .entry); status = now (status .entry); woken = [] })) (now (woken .entry)) (now (held .exit)) (now (status .exit)) (now (woken .exit)) r ⌝ }
 {
-    let status = t.status;
-    let cells = wanted_cells(&status, cell);
-    let mut s = t;
+    let cells = wanted_cells(status, cell);
+    let mut k: usize = 0;
     let mut c: usize = 0;
     while c < 64 {
         if cells[c] {
-            s = settle_cell(held, number, cell, ask, s, c);
+            k = settle_cell(held, status, woken, number, cell, ask, k, c);
         }
         c += 1;
     }
-    s
+    k
 }
 
 // What a place is once its run has ended: free, or sent back.
-fn code_after(closed: bool) -> u8
-    ensures { λ r. ⌜ r ≡ codeAfter closed ⌝ }
+fn code_after(e: Ending) -> u8
+    ensures { λ r. ⌜ r ≡ codeAfter e ⌝ }
 {
-    if closed {
-        return FREE;
+    match e {
+        Ending::Closed => FREE,
+        Ending::SentBack => SENT_BACK,
     }
-    SENT_BACK
 }
 
-// The run of a place ends, closed or sent back: its locks are dropped and the cells settled, the modes where they stand.
-pub fn end_run(
-    number: [u32; 32],
-    status: [u8; 32],
-    cell: [u8; 32],
-    ask: [u8; 32],
-    held: &mut [u8; 2048],
+// The run of a place ends: its locks are dropped and the cells settled, where the arrays stand; tells how many were woken.
+pub fn end_run<'a>(
+    held: &mut [u8; SPOTS],
+    status: &mut [u8; PLACES],
+    woken: &mut [u8; PLACES],
+    number: &'a [u32; PLACES],
+    cell: &'a [u8; PLACES],
+    ask: &'a [u8; PLACES],
     p: usize,
-    closed: bool,
-) -> Woken
-    requires { ⌜ p < 32 ⌝ }
-    ensures { λ r. ⌜ (r ≡ settled (over 0 number status cell ask (now (held .entry))) p (codeAfter closed) .told) × (now (held .exit) ≡ settled (over 0 number status cell ask (now (held .entry))) p (codeAfter closed) .held) ⌝ }
+    e: Ending,
+) -> usize
+    requires { ⌜ (p < 32) × (length (now woken) ≡ 32) ⌝ }
+    ensures { λ r. ⌜ Reached (settled (deskOf 0 (now (number .entry)) (now (status .entry)) (now (cell .entry)) (now (ask .entry)) (now (held .entry))) p (codeAfter e)) (now (woken .entry)) (now (held .exit)) (now (status .exit)) (now (woken .exit)) r ⌝ }
 {
-    let a = Action {
-        kind: Kind::Read,
-        job: 0,
-        cell: 0,
-    };
-    let mut after = status;
-    after[p] = code_after(closed);
-    let t = Woken {
-        status: after,
-        wakes: [a; 32],
-        count: 0,
-    };
+    status[p] = code_after(e);
     drop_locks(held, p);
-    settle_all(held, &number, &cell, &ask, t)
+    settle_all(held, status, woken, number, cell, ask)
 }

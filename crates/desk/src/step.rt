@@ -1,22 +1,35 @@
 // One step of the desk: what the plan says is carried out on the desk where it stands (01, The desk's rules).
 use crate::settling::end_run;
+use crate::wakes::tell;
 use board::codes::RUNNING;
 use board::codes::WAITING;
 use board::codes::ask_code;
+use board::moves::Ending;
+use board::moves::Move;
 use board::state::Desk;
 use board::state::Outcome;
+use board::state::SPOTS;
 use board::state::Said;
-use board::state::Woken;
-use board::state::with_no_wakes;
+use board::state::Told;
 use conflict::modes::code_of;
-use moves::plan::Move;
 use moves::plan::plan;
 use rules::Answer;
-use terms::letters::Ask;
+use terms::limits::PLACES;
+ghost use Prim.Native.Nat.{_<_};
 ghost use mathlib.Core.Path.{_≡_};
-ghost use Rattle.laws.specs.Choice.{pick};
-ghost use Rattle.board.specs.Steps.{stepOf, waitingFor};
-ghost use Rattle.desk.specs.Answers.{answerTo, saidWith};
+ghost use lib.ListN.{length};
+ghost use Rattle.board.specs.Steps.{deskOf, retriedJob, numbersAfter, answerAfter, answerTo, stepOf};
+ghost use Rattle.desk.specs.InPlace.{StepsTo};
+
+// The answer that tells how a run has ended.
+fn answer_after(e: Ending, job: u32) -> Answer
+    ensures { λ r. ⌜ r ≡ answerAfter e job ⌝ }
+{
+    match e {
+        Ending::Closed => Answer::Go(job),
+        Ending::SentBack => Answer::Back(job),
+    }
+}
 
 // The answer to a job whose move this is.
 fn answer_to(m: Move, job: u32) -> Answer
@@ -28,87 +41,135 @@ fn answer_to(m: Move, job: u32) -> Answer
         Move::Keep => Answer::Go(job),
         Move::Take(_, _) => Answer::Go(job),
         Move::Stay(_, _) => Answer::Wait(job),
-        Move::End(_, closed) => {
-            if closed {
-                return Answer::Go(job);
-            }
-            Answer::Back(job)
+        Move::End(_, e) => answer_after(e, job),
+        Move::Retry => Answer::Go(job),
+    }
+}
+
+// A job that is closed frees its place, and one that is sent back keeps it.
+fn leave_place(number: &mut [u32; PLACES], p: usize, e: Ending)
+    requires { ⌜ p < 32 ⌝ }
+    ensures { λ r. ⌜ now (number .exit) ≡ numbersAfter e (now (number .entry)) p ⌝ }
+{
+    match e {
+        Ending::Closed => {
+            number[p] = 0;
         }
-        Move::Retry(_) => Answer::Go(job),
+        Ending::SentBack => {}
     }
 }
 
-// The number of a place once its run has ended: 0, or the job's own.
-fn number_after(number: u32, closed: bool) -> u32
-    ensures { λ r. ⌜ r ≡ pick closed 0 number ⌝ }
+// What the places are doing once a job has been retried: the desk's own method says so.
+fn status_retried(d: Desk, job: u32) -> [u8; PLACES]
+    ensures { λ r. ⌜ r ≡ retriedJob d job .status ⌝ }
 {
-    if closed {
-        return 0;
-    }
-    number
+    let after = d.retry(job);
+    after.status
 }
 
-// An answer with the wakes beside it.
-fn said_with(answer: Answer, w: Woken) -> Said
-    ensures { λ r. ⌜ r ≡ saidWith answer w ⌝ }
+// A list of as many places as there are: what a lent array does not say of itself.
+fn sized(status: [u8; PLACES], woken: [u8; PLACES]) -> bool
+    ensures { λ r. ⌜ (length status ≡ 32) × (length woken ≡ 32) ⌝ }
 {
-    let wakes = w.wakes;
-    Said {
-        answer,
-        wakes,
-        count: w.count,
-    }
+    true
 }
 
-// Place p waits for cell c; where there is no such place, nothing changes.
-fn wait(mut d: Desk, p: usize, c: u8, a: Ask) -> Desk
-    ensures { λ r. ⌜ r ≡ waitingFor d p c a ⌝ }
+// One step by numbers, the kind's byte, the job and the cell, on the desk's fields, each lent and changed where it stands.
+// The places woken are put first into a list lent for them, and the answer tells how many they are.
+pub fn step_on(
+    next: &mut u64,
+    number: &mut [u32; PLACES],
+    status: &mut [u8; PLACES],
+    at: &mut [u8; PLACES],
+    ask: &mut [u8; PLACES],
+    held: &mut [u8; SPOTS],
+    woken: &mut [u8; PLACES],
+    kind: u8,
+    job: u32,
+    cell: u32,
+) -> Told
+    ensures { λ r. ⌜ StepsTo (deskOf (now (next .entry)) (now (number .entry)) (now (status .entry)) (now (at .entry)) (now (ask .entry)) (now (held .entry))) (now (woken .entry)) kind job cell (deskOf (now (next .exit)) (now (number .exit)) (now (status .exit)) (now (at .exit)) (now (ask .exit)) (now (held .exit))) (now (woken .exit)) r ⌝ }
 {
-    if p < 32 {
-        d.status[p] = WAITING;
-        d.cell[p] = c;
-        d.ask[p] = ask_code(a);
-    }
-    d
-}
-
-// One step by numbers: the kind's byte, the job and the cell.
-pub fn step(mut d: Desk, kind: u8, job: u32, cell: u32) -> Outcome
-    ensures { λ r. ⌜ r ≡ stepOf d kind job cell ⌝ }
-{
-    let n = d.next;
-    let m = plan(n, d.number, d.status, &d.cell, &d.held, kind, job, cell);
+    sized(*status, *woken);
+    let m = plan(*next, number, status, at, held, kind, job, cell);
     let answer = answer_to(m, job);
     match m {
-        Move::Refuse(_) => {}
+        Move::Refuse(_) => Told { answer, count: 0 },
         Move::Begin(p, new) => {
-            d.next = new as u64 + 1;
-            d.number[p] = new;
-            d.status[p] = RUNNING;
+            *next = new as u64 + 1;
+            number[p] = new;
+            status[p] = RUNNING;
+            Told { answer, count: 0 }
         }
-        Move::Keep => {}
+        Move::Keep => Told { answer, count: 0 },
         Move::Take(p, mode) => {
-            d.held[cell as usize * 32 + p] = code_of(mode);
+            held[cell as usize * PLACES + p] = code_of(mode);
+            Told { answer, count: 0 }
         }
         Move::Stay(p, a) => {
-            d = wait(d, p, cell as u8, a);
+            status[p] = WAITING;
+            at[p] = cell as u8;
+            ask[p] = ask_code(a);
+            Told { answer, count: 0 }
         }
-        Move::End(p, closed) => {
-            let w = end_run(d.number, d.status, d.cell, d.ask, &mut d.held, p, closed);
-            let status = w.status;
-            d.status = status;
-            d.number[p] = number_after(d.number[p], closed);
-            return Outcome {
-                desk: d,
-                said: said_with(answer, w),
+        Move::End(p, e) => {
+            let count = end_run(held, status, woken, number, at, ask, p, e);
+            leave_place(number, p, e);
+            Told { answer, count }
+        }
+        Move::Retry => {
+            let d = Desk {
+                next: *next,
+                number: *number,
+                status: *status,
+                cell: *at,
+                ask: *ask,
+                held: *held,
             };
-        }
-        Move::Retry(_) => {
-            d = d.retry(job);
+            *status = status_retried(d, job);
+            Told { answer, count: 0 }
         }
     }
-    Outcome {
-        desk: d,
-        said: with_no_wakes(answer),
-    }
+}
+
+// The same by value: the desk comes in, and what it has become and what was said go out.
+pub fn step(d: Desk, kind: u8, job: u32, cell: u32) -> Outcome
+    ensures { λ r. ⌜ r ≡ stepOf d kind job cell ⌝ }
+{
+    let mut next = d.next;
+    let mut number = d.number;
+    let mut status = d.status;
+    let mut at = d.cell;
+    let mut ask = d.ask;
+    let mut held = d.held;
+    let mut woken = [0; PLACES];
+    let t = step_on(
+        &mut next,
+        &mut number,
+        &mut status,
+        &mut at,
+        &mut ask,
+        &mut held,
+        &mut woken,
+        kind,
+        job,
+        cell,
+    );
+    let answer = t.answer;
+    let count = t.count;
+    let wakes = tell(&number, &at, &ask, woken, count);
+    let desk = Desk {
+        next,
+        number,
+        status,
+        cell: at,
+        ask,
+        held,
+    };
+    let said = Said {
+        answer,
+        wakes,
+        count,
+    };
+    Outcome { desk, said }
 }

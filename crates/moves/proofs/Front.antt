@@ -1,6 +1,6 @@
 -- Laws of the front of a cell's queue, the youngest that waits there: how a loop over the places finds it.
 -- Assumes nothing.
-use Prim.Native.Nat.{ℕ, zero, suc, _+_, _<_}
+use Prim.Native.Nat.{ℕ, _+_}
 use mathlib.Core.Path.{_≡_, refl, sym, _∙_}
 use mathlib.Core.Bool.{Bool, true, false, _&&_}
 use mathlib.Core.List.{List}
@@ -8,7 +8,6 @@ use native.Mathlib.Numerals.{add-one}
 use native.Mathlib.Omega.{arith}
 use lib.Dec.{ltb}
 use lib.ListN.{length, getD, List·getD-eq-default}
-use Rattle.laws.specs.Choice.{pick}
 use Rattle.board.specs.Places.{waitsAt, youngest}
 
 -- the youngest waiter of the places below q, and its number
@@ -35,22 +34,3 @@ module _ {number status cell : List ℕ} {c q best age : ℕ} (f : Front number 
   front-same {r} {b} {a} s h e g =
       let t : (waitsAt status cell c q && ltb (getD number (youngest number status cell c q) 0) (getD number q 0)) ≡ false = rw (← f .place, ← f .number-of, ← s) h in
       record { place = rw (add-one, t) (e ∙ f .place); number-of = rw (e, g) (f .number-of) }
-
--- a choice between two of which each passes a test passes it
-picked : (P : ℕ → Bool) (a b : Bool) (x y : ℕ) → (a ≡ true → P x ≡ true) → (y < 32 → P y ≡ true) → pick (a && b) x y < 32 → P (pick (a && b) x y) ≡ true
-picked P true true x y f g h = f refl
-picked P true false x y f g h = g h
-picked P false b x y f g h = g h
-
--- who is found waits for the cell
-pub front-waits : (number status cell : List ℕ) (c n : ℕ) → youngest number status cell c n < 32 → waitsAt status cell c (youngest number status cell c n) ≡ true
-unfolding youngest
-front-waits number status cell c zero h = absurd (omega arith)
-front-waits number status cell c (suc n) h =
-    picked (waitsAt status cell c) (waitsAt status cell c n) (ltb (getD number (youngest number status cell c n) 0) (getD number n 0)) n (youngest number status cell c n) (λ e. e) (front-waits number status cell c n) h
-
--- where nobody waits for the cell, nobody is found
-pub front-nobody : (number status cell : List ℕ) (c n : ℕ) → ((q : ℕ) → q < n → waitsAt status cell c q ≡ false) → youngest number status cell c n ≡ 32
-unfolding youngest
-front-nobody number status cell c zero h = refl
-front-nobody number status cell c (suc n) h = rw (h n (omega arith)) (front-nobody number status cell c n (λ q l. h q (omega arith)))

@@ -27,7 +27,7 @@ module _ (number status cell ask held : List ℕ) {c : ℕ} where
 
     module _ (there : p < 32) {a : Ask} {m : Mode} {r : Bool} (asks : a ≡ askOf (getD ask p 0)) (wants : m ≡ wantsAt held c p a) (agrees : r ≡ agreesAt held c p m) where
       -- it agrees with the other holders
-      pub granted-front : r ≡ true → To p a m ≡ frontGrant number status cell ask held c
+      pub granted-front : r ≡ true → To p m ≡ frontGrant number status cell ask held c
       unfolding frontGrant
       granted-front h = rw (lt-ltb c 64 inside, ← in-front, lt-ltb p 32 there, ← asks, ← wants, ← agrees, h)
 

@@ -1,5 +1,6 @@
 pub mod Decides
 pub mod Every
+pub mod Fitting
 pub mod Front
 pub mod Granting
 pub mod Open

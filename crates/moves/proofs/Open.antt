@@ -12,11 +12,11 @@ use Rattle.laws.specs.Choice.{by-test}
 use Rattle.laws.specs.Lists.{pos}
 use Rattle.terms.specs.declared.refusals.Refusal.the-variants.{NotOpen}
 use Rattle.board.specs.Codes.{freeCode}
-use Rattle.board.specs.Steps.{statusOf}
-use Rattle.moves.specs.declared.plan.Found.{Found}
-use Rattle.moves.specs.declared.plan.Standing.{Standing}
-use Rattle.moves.specs.declared.plan.Standing.the-variants.{Runs, Against}
-use Rattle.moves.specs.Plan.{foundAt, standingOf}
+use Rattle.board.specs.Moves.{statusOf}
+use Rattle.board.specs.declared.moves.Found.{Found}
+use Rattle.board.specs.declared.moves.Standing.{Standing}
+use Rattle.board.specs.declared.moves.Standing.the-variants.{Runs, Against}
+use Rattle.board.specs.Moves.{foundAt, standingOf}
 
 -- a number that no place has belongs to nobody
 pub nowhere-free : (number status : List ℕ) (job : ℕ) → length status ≤ pos number job → statusOf number status job ≡ freeCode

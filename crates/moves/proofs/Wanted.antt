@@ -13,7 +13,7 @@ use borrow.Author.Tests.{eqb-true, eqb-false, eq-eqb, ne-eqb}
 use Rattle.laws.specs.Choice.{by-test, not-both}
 use Rattle.board.specs.Codes.{waitingCode}
 use Rattle.board.specs.Places.{waitsAt}
-use Rattle.board.specs.Settling.{wanted}
+use Rattle.moves.specs.Grants.{wanted}
 
 module _ (status cell : List ℕ) where
   -- there is a mark for each cell

@@ -2,32 +2,34 @@
 use crate::places::agrees;
 use crate::places::front_of;
 use crate::places::mode_at;
+use crate::places::sized;
 use crate::places::wide;
 use board::codes::WAITING;
 use board::codes::ask_of;
+use board::state::SPOTS;
 use conflict::modes::Mode;
 use conflict::modes::asked_mode;
 use conflict::modes::needed_mode;
 use terms::letters::Ask;
+use terms::limits::PLACES;
 ghost use Prim.Native.Nat.{_<_};
 ghost use mathlib.Core.Path.{_≡_};
 ghost use Rattle.board.specs.Places.{wantsAt};
-ghost use Rattle.board.specs.Settling.{wanted};
-ghost use Rattle.moves.specs.Grants.{frontGrant};
+ghost use Rattle.moves.specs.Grants.{wanted, frontGrant};
 
-// Who is granted next: nobody, or a place, with what it asked for and the mode that it gets.
+// Who is granted next: nobody, or a place, with the mode that it gets.
 pub enum Grant {
     Nobody,
-    To(usize, Ask, Mode),
+    To(usize, Mode),
 }
 
 // The cells that somebody waits for.
-pub fn wanted_cells<'a>(status: &'a [u8; 32], cell: &'a [u8; 32]) -> [bool; 64]
+pub fn wanted_cells<'a>(status: &'a [u8; PLACES], cell: &'a [u8; PLACES]) -> [bool; 64]
     ensures { λ r. ⌜ r ≡ wanted (now (status .entry)) (now (cell .entry)) 32 ⌝ }
 {
     let mut cells = [false; 64];
     let mut q: usize = 0;
-    while q < 32 {
+    while q < PLACES {
         if status[q] == WAITING {
             let c = wide(cell[q]);
             if c < 64 {
@@ -40,7 +42,7 @@ pub fn wanted_cells<'a>(status: &'a [u8; 32], cell: &'a [u8; 32]) -> [bool; 64]
 }
 
 // The mode that a place asks for on a cell.
-fn wanted_mode(held: &[u8; 2048], c: usize, p: usize, a: Ask) -> Mode
+fn wanted_mode(held: &[u8; SPOTS], c: usize, p: usize, a: Ask) -> Mode
     requires { ⌜ (c < 64) × (p < 32) ⌝ }
     ensures { λ r. ⌜ r ≡ wantsAt (now (held .entry)) c p a ⌝ }
 {
@@ -49,26 +51,27 @@ fn wanted_mode(held: &[u8; 2048], c: usize, p: usize, a: Ask) -> Mode
 
 // The front of a cell's queue, if what it asks for agrees with the other holders; nobody where there is no such cell.
 pub fn front_grant<'a>(
-    number: [u32; 32],
-    status: &'a [u8; 32],
-    cell: &'a [u8; 32],
-    ask: &'a [u8; 32],
-    held: &[u8; 2048],
+    number: &'a [u32; PLACES],
+    status: &'a [u8; PLACES],
+    cell: &'a [u8; PLACES],
+    ask: &'a [u8; PLACES],
+    held: &[u8; SPOTS],
     c: usize,
 ) -> Grant
-    ensures { λ r. ⌜ r ≡ frontGrant number (now (status .entry)) (now (cell .entry)) (now (ask .entry)) (now (held .entry)) c ⌝ }
+    ensures { λ r. ⌜ r ≡ frontGrant (now (number .entry)) (now (status .entry)) (now (cell .entry)) (now (ask .entry)) (now (held .entry)) c ⌝ }
 {
     if 64 <= c {
         return Grant::Nobody;
     }
-    let p = front_of(&number, status, cell, c);
-    if 32 <= p {
+    sized(*number, *status);
+    let p = front_of(number, status, cell, c);
+    if PLACES <= p {
         return Grant::Nobody;
     }
     let a = ask_of(ask[p]);
     let m = wanted_mode(held, c, p, a);
     if agrees(held, c, p, m) {
-        return Grant::To(p, a, m);
+        return Grant::To(p, m);
     }
     Grant::Nobody
 }

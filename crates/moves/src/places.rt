@@ -1,9 +1,11 @@
 // Tests over the places of the desk: who holds a cell beside whom, who is older, who waits (01, rules 2 to 4).
 use board::codes::WAITING;
+use board::state::SPOTS;
 use conflict::modes::Mode;
 use conflict::modes::mode_grants;
 use conflict::modes::mode_is_free;
 use conflict::modes::mode_of;
+use terms::limits::PLACES;
 ghost use Prim.Native.Nat.{_<_};
 ghost use mathlib.Core.Path.{_≡_};
 ghost use mathlib.Core.Bool.{not, _&&_, _||_};
@@ -13,13 +15,20 @@ ghost use Rattle.laws.specs.Lists.{pos};
 ghost use Rattle.conflict.specs.Modes.{grants, isFree};
 ghost use Rattle.board.specs.Places.{modeAt, agreesAt, aloneAt, olderAt, waitsAt, nobodyWaits, oldestOf, youngest};
 
+// Numbers and statuses of as many places as there are: what a lent array does not say of itself.
+pub fn sized(number: [u32; PLACES], status: [u8; PLACES]) -> bool
+    ensures { λ r. ⌜ (length number ≡ 32) × (length status ≡ 32) ⌝ }
+{
+    true
+}
+
 // The place of a job, or 32; the first free place is that of job 0.
-pub fn place_of(number: &[u32; 32], job: u32) -> usize
+pub fn place_of(number: &[u32; PLACES], job: u32) -> usize
     requires { ⌜ length (now number) ≡ 32 ⌝ }
     ensures { λ r. ⌜ r ≡ pos (now (number .entry)) job ⌝ }
 {
     let mut p: usize = 0;
-    while p < 32 {
+    while p < PLACES {
         if number[p] == job {
             return p;
         }
@@ -29,15 +38,15 @@ pub fn place_of(number: &[u32; 32], job: u32) -> usize
 }
 
 // The mode that a place holds on a cell.
-pub fn mode_at(held: &[u8; 2048], c: usize, p: usize) -> Mode
+pub fn mode_at(held: &[u8; SPOTS], c: usize, p: usize) -> Mode
     requires { ⌜ (c < 64) × (p < 32) ⌝ }
     ensures { λ r. ⌜ r ≡ modeAt (now (held .entry)) c p ⌝ }
 {
-    mode_of(held[c * 32 + p])
+    mode_of(held[c * PLACES + p])
 }
 
 // Whether a place is the job's own, or what it holds on the cell lets the mode be granted.
-fn grants_at(held: &[u8; 2048], c: usize, p: usize, m: Mode, q: usize) -> bool
+fn grants_at(held: &[u8; SPOTS], c: usize, p: usize, m: Mode, q: usize) -> bool
     requires { ⌜ (c < 64) × (q < 32) ⌝ }
     ensures { λ r. ⌜ r ≡ (eqb q p || grants (modeAt (now (held .entry)) c q) m) ⌝ }
 {
@@ -48,12 +57,12 @@ fn grants_at(held: &[u8; 2048], c: usize, p: usize, m: Mode, q: usize) -> bool
 }
 
 // Whether a mode agrees with what every other place holds on the cell.
-pub fn agrees(held: &[u8; 2048], c: usize, p: usize, m: Mode) -> bool
+pub fn agrees(held: &[u8; SPOTS], c: usize, p: usize, m: Mode) -> bool
     requires { ⌜ c < 64 ⌝ }
     ensures { λ r. ⌜ r ≡ agreesAt (now (held .entry)) c p m ⌝ }
 {
     let mut q: usize = 0;
-    while q < 32 {
+    while q < PLACES {
         if !grants_at(held, c, p, m, q) {
             return false;
         }
@@ -63,7 +72,7 @@ pub fn agrees(held: &[u8; 2048], c: usize, p: usize, m: Mode) -> bool
 }
 
 // Whether a place is the job's own, or holds nothing on the cell.
-fn leaves_at(held: &[u8; 2048], c: usize, p: usize, q: usize) -> bool
+fn leaves_at(held: &[u8; SPOTS], c: usize, p: usize, q: usize) -> bool
     requires { ⌜ (c < 64) × (q < 32) ⌝ }
     ensures { λ r. ⌜ r ≡ (eqb q p || isFree (modeAt (now (held .entry)) c q)) ⌝ }
 {
@@ -74,12 +83,12 @@ fn leaves_at(held: &[u8; 2048], c: usize, p: usize, q: usize) -> bool
 }
 
 // Whether no other place holds the cell.
-pub fn alone(held: &[u8; 2048], c: usize, p: usize) -> bool
+pub fn alone(held: &[u8; SPOTS], c: usize, p: usize) -> bool
     requires { ⌜ c < 64 ⌝ }
     ensures { λ r. ⌜ r ≡ aloneAt (now (held .entry)) c p ⌝ }
 {
     let mut q: usize = 0;
-    while q < 32 {
+    while q < PLACES {
         if !leaves_at(held, c, p, q) {
             return false;
         }
@@ -90,8 +99,8 @@ pub fn alone(held: &[u8; 2048], c: usize, p: usize) -> bool
 
 // Whether a place is the job's own, holds nothing on the cell, or is that of a younger job.
 fn older_at<'a>(
-    held: &'a [u8; 2048],
-    number: &'a [u32; 32],
+    held: &'a [u8; SPOTS],
+    number: &'a [u32; PLACES],
     c: usize,
     p: usize,
     job: u32,
@@ -108,8 +117,8 @@ fn older_at<'a>(
 
 // Whether the job, at place p, is older than every other holder of the cell.
 pub fn older_than_holders<'a>(
-    held: &'a [u8; 2048],
-    number: &'a [u32; 32],
+    held: &'a [u8; SPOTS],
+    number: &'a [u32; PLACES],
     c: usize,
     p: usize,
     job: u32,
@@ -118,7 +127,7 @@ pub fn older_than_holders<'a>(
     ensures { λ r. ⌜ r ≡ olderAt (now (held .entry)) (now (number .entry)) c p job ⌝ }
 {
     let mut q: usize = 0;
-    while q < 32 {
+    while q < PLACES {
         if !older_at(held, number, c, p, job, q) {
             return false;
         }
@@ -135,7 +144,7 @@ pub fn wide(byte: u8) -> usize
 }
 
 // Whether a place waits for the cell; few places have its number, so that is looked at first.
-pub fn waits_for<'a>(status: &'a [u8; 32], cell: &'a [u8; 32], c: usize, q: usize) -> bool
+pub fn waits_for<'a>(status: &'a [u8; PLACES], cell: &'a [u8; PLACES], c: usize, q: usize) -> bool
     requires { ⌜ q < 32 ⌝ }
     ensures { λ r. ⌜ r ≡ waitsAt (now (status .entry)) (now (cell .entry)) c q ⌝ }
 {
@@ -146,11 +155,11 @@ pub fn waits_for<'a>(status: &'a [u8; 32], cell: &'a [u8; 32], c: usize, q: usiz
 }
 
 // Whether nobody waits for the cell.
-pub fn nobody_waits<'a>(status: &'a [u8; 32], cell: &'a [u8; 32], c: usize) -> bool
+pub fn nobody_waits<'a>(status: &'a [u8; PLACES], cell: &'a [u8; PLACES], c: usize) -> bool
     ensures { λ r. ⌜ r ≡ nobodyWaits (now (status .entry)) (now (cell .entry)) c ⌝ }
 {
     let mut q: usize = 0;
-    while q < 32 {
+    while q < PLACES {
         if waits_for(status, cell, c, q) {
             return false;
         }
@@ -161,9 +170,9 @@ pub fn nobody_waits<'a>(status: &'a [u8; 32], cell: &'a [u8; 32], c: usize) -> b
 
 // Whether a place does not wait for the cell, or is that of a younger job.
 fn waits_older<'a>(
-    number: &'a [u32; 32],
-    status: &'a [u8; 32],
-    cell: &'a [u8; 32],
+    number: &'a [u32; PLACES],
+    status: &'a [u8; PLACES],
+    cell: &'a [u8; PLACES],
     c: usize,
     job: u32,
     q: usize,
@@ -179,16 +188,16 @@ fn waits_older<'a>(
 
 // Whether the job is older than every waiter of the cell.
 pub fn older_than_waiters<'a>(
-    number: &'a [u32; 32],
-    status: &'a [u8; 32],
-    cell: &'a [u8; 32],
+    number: &'a [u32; PLACES],
+    status: &'a [u8; PLACES],
+    cell: &'a [u8; PLACES],
     c: usize,
     job: u32,
 ) -> bool
     ensures { λ r. ⌜ r ≡ oldestOf (now (number .entry)) (now (status .entry)) (now (cell .entry)) c job ⌝ }
 {
     let mut q: usize = 0;
-    while q < 32 {
+    while q < PLACES {
         if !waits_older(number, status, cell, c, job, q) {
             return false;
         }
@@ -199,9 +208,9 @@ pub fn older_than_waiters<'a>(
 
 // Whether a place waits for the cell with a number above the one given.
 fn waits_above<'a>(
-    number: &'a [u32; 32],
-    status: &'a [u8; 32],
-    cell: &'a [u8; 32],
+    number: &'a [u32; PLACES],
+    status: &'a [u8; PLACES],
+    cell: &'a [u8; PLACES],
     c: usize,
     age: u32,
     q: usize,
@@ -217,18 +226,18 @@ fn waits_above<'a>(
 
 // The place of the youngest that waits for the cell, or 32: the front of its queue.
 pub fn front_of<'a>(
-    number: &'a [u32; 32],
-    status: &'a [u8; 32],
-    cell: &'a [u8; 32],
+    number: &'a [u32; PLACES],
+    status: &'a [u8; PLACES],
+    cell: &'a [u8; PLACES],
     c: usize,
 ) -> usize
     requires { ⌜ length (now number) ≡ 32 ⌝ }
     ensures { λ r. ⌜ r ≡ youngest (now (number .entry)) (now (status .entry)) (now (cell .entry)) c 32 ⌝ }
 {
-    let mut best: usize = 32;
+    let mut best: usize = PLACES;
     let mut age: u32 = 0;
     let mut q: usize = 0;
-    while q < 32 {
+    while q < PLACES {
         if waits_above(number, status, cell, c, age, q) {
             best = q;
             age = number[q];

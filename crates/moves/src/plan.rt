@@ -6,10 +6,15 @@ use crate::places::nobody_waits;
 use crate::places::older_than_holders;
 use crate::places::older_than_waiters;
 use crate::places::place_of;
+use crate::places::sized;
 use board::codes::FREE;
 use board::codes::SENT_BACK;
 use board::codes::WAITING;
-use board::state::Decision;
+use board::moves::Ending;
+use board::moves::Found;
+use board::moves::Move;
+use board::moves::Standing;
+use board::state::SPOTS;
 use conflict::modes::Mode;
 use conflict::modes::asked_mode;
 use conflict::modes::mode_covers;
@@ -26,39 +31,13 @@ use terms::refusals::Refusal;
 ghost use Prim.Native.Nat.{_<_};
 ghost use mathlib.Core.Path.{_≡_};
 ghost use mathlib.Core.Bool.{_&&_};
-ghost use mathlib.Core.List.{[]};
 ghost use lib.ListN.{length};
 ghost use Rattle.terms.specs.Letters.{letterOf};
-ghost use Rattle.board.specs.Places.{nobodyWaits, agreesAt, olderAt, oldestOf};
-ghost use Rattle.board.specs.Steps.{decided};
-ghost use Rattle.moves.specs.Plan.{over, foundAt, standingOf, beginMove, commitMove, giveUpMove, retryMove, decidedMove, askMove, moveFor};
-
-// What a step is to do: refuse, open a place for a new number, let the job go as it is, give it a mode, let it wait,
-// end the run at a place, closed or sent back, or let the job there run again.
-pub enum Move {
-    Refuse(Refusal),
-    Begin(usize, u32),
-    Keep,
-    Take(usize, Mode),
-    Stay(usize, Ask),
-    End(usize, bool),
-    Retry(usize),
-}
-
-// Whether a job may make a request that only a running job may make.
-pub enum Standing {
-    Runs,
-    Against(Refusal),
-}
-
-// The place of a job, and what the job there is doing.
-pub struct Found {
-    pub place: usize,
-    pub code: u8,
-}
+ghost use Rattle.board.specs.Places.{modeAt, nobodyWaits, agreesAt, olderAt, oldestOf};
+ghost use Rattle.board.specs.Moves.{foundAt, standingOf, beginMove, commitMove, giveUpMove, retryMove, promotes, enters, decided, askMove, moveFor};
 
 // Where a job stands, and what it is doing: nothing for 0, and for a number that no place has.
-fn find<'a>(number: &'a [u32; 32], status: &'a [u8; 32], job: u32) -> Found
+fn find<'a>(number: &'a [u32; PLACES], status: &'a [u8; PLACES], job: u32) -> Found
     requires { ⌜ (length (now number) ≡ 32) × (length (now status) ≡ 32) ⌝ }
     ensures { λ r. ⌜ r ≡ foundAt (now (number .entry)) (now (status .entry)) job ⌝ }
 {
@@ -66,7 +45,7 @@ fn find<'a>(number: &'a [u32; 32], status: &'a [u8; 32], job: u32) -> Found
     if job == 0 {
         return Found { place, code: FREE };
     }
-    if place < 32 {
+    if place < PLACES {
         return Found {
             place,
             code: status[place],
@@ -93,9 +72,9 @@ fn standing_of(code: u8) -> Standing
 
 // Rule 3, to go: the queue is empty and the mode agrees with every holder.
 fn may_take<'a>(
-    held: &'a [u8; 2048],
-    status: &'a [u8; 32],
-    cell: &'a [u8; 32],
+    held: &'a [u8; SPOTS],
+    status: &'a [u8; PLACES],
+    cell: &'a [u8; PLACES],
     p: usize,
     c: usize,
     m: Mode,
@@ -111,10 +90,10 @@ fn may_take<'a>(
 
 // Rule 3, to wait: the job is older than every holder and every waiter.
 fn may_wait<'a>(
-    held: &'a [u8; 2048],
-    number: &'a [u32; 32],
-    status: &'a [u8; 32],
-    cell: &'a [u8; 32],
+    held: &'a [u8; SPOTS],
+    number: &'a [u32; PLACES],
+    status: &'a [u8; PLACES],
+    cell: &'a [u8; PLACES],
     p: usize,
     c: usize,
     job: u32,
@@ -128,45 +107,78 @@ fn may_wait<'a>(
     false
 }
 
-// Rules 1 to 3: what becomes of a request for a cell.
-fn decide<'a>(
-    held: &'a [u8; 2048],
-    number: &'a [u32; 32],
-    status: &'a [u8; 32],
-    cell: &'a [u8; 32],
+// Rule 3: a job new to the cell.
+fn enter<'a>(
+    held: &'a [u8; SPOTS],
+    number: &'a [u32; PLACES],
+    status: &'a [u8; PLACES],
+    cell: &'a [u8; PLACES],
     p: usize,
     c: usize,
     job: u32,
     a: Ask,
-) -> Decision
-    requires { ⌜ (p < 32) × (c < 64) ⌝ }
-    ensures { λ r. ⌜ r ≡ decided (over 0 (now (number .entry)) (now (status .entry)) (now (cell .entry)) [] (now (held .entry))) p c job a ⌝ }
+) -> Move
+    requires { ⌜ c < 64 ⌝ }
+    ensures { λ r. ⌜ r ≡ enters (now (number .entry)) (now (status .entry)) (now (cell .entry)) (now (held .entry)) p c job a ⌝ }
 {
-    let mine = mode_at(held, c, p);
     let need = needed_mode(a);
-    if mode_covers(mine, need) {
-        return Decision::Keep;
+    if may_take(held, status, cell, p, c, need) {
+        return Move::Take(p, need);
     }
-    if mode_is_free(mine) {
-        if may_take(held, status, cell, p, c, need) {
-            return Decision::Take(need);
-        }
-        if may_wait(held, number, status, cell, p, c, job) {
-            return Decision::Stay;
-        }
-        return Decision::Away;
+    if may_wait(held, number, status, cell, p, c, job) {
+        return Move::Stay(p, a);
     }
+    Move::End(p, Ending::SentBack)
+}
+
+// Rule 2: a job that holds another mode.
+fn promote<'a>(
+    held: &'a [u8; SPOTS],
+    number: &'a [u32; PLACES],
+    p: usize,
+    c: usize,
+    job: u32,
+    a: Ask,
+    mine: Mode,
+) -> Move
+    requires { ⌜ (c < 64) × (mine ≡ modeAt (now held) c p) ⌝ }
+    ensures { λ r. ⌜ r ≡ promotes (now (number .entry)) (now (held .entry)) p c job a ⌝ }
+{
     if alone(held, c, p) {
-        return Decision::Take(asked_mode(mine, need));
+        return Move::Take(p, asked_mode(mine, needed_mode(a)));
     }
     if older_than_holders(held, number, c, p, job) {
-        return Decision::Stay;
+        return Move::Stay(p, a);
     }
-    Decision::Away
+    Move::End(p, Ending::SentBack)
+}
+
+// Rules 1 to 3: what becomes of a request for a cell.
+fn decide<'a>(
+    held: &'a [u8; SPOTS],
+    number: &'a [u32; PLACES],
+    status: &'a [u8; PLACES],
+    cell: &'a [u8; PLACES],
+    p: usize,
+    c: usize,
+    job: u32,
+    a: Ask,
+) -> Move
+    requires { ⌜ (p < 32) × (c < 64) ⌝ }
+    ensures { λ r. ⌜ r ≡ decided (now (number .entry)) (now (status .entry)) (now (cell .entry)) (now (held .entry)) p c job a ⌝ }
+{
+    let mine = mode_at(held, c, p);
+    if mode_covers(mine, needed_mode(a)) {
+        return Move::Keep;
+    }
+    if mode_is_free(mine) {
+        return enter(held, number, status, cell, p, c, job, a);
+    }
+    promote(held, number, p, c, job, a, mine)
 }
 
 // Begin: 7, then 6, else the next number at the first free place.
-fn begin_move(next: u64, number: &[u32; 32]) -> Move
+fn begin_move(next: u64, number: &[u32; PLACES]) -> Move
     requires { ⌜ length (now number) ≡ 32 ⌝ }
     ensures { λ r. ⌜ r ≡ beginMove next (now (number .entry)) ⌝ }
 {
@@ -186,7 +198,7 @@ fn commit_move(f: Found) -> Move
 {
     match standing_of(f.code) {
         Standing::Against(why) => Move::Refuse(why),
-        Standing::Runs => Move::End(f.place, true),
+        Standing::Runs => Move::End(f.place, Ending::Closed),
     }
 }
 
@@ -197,7 +209,7 @@ fn give_up_move(f: Found) -> Move
     if f.code == FREE {
         return Move::Refuse(Refusal::NotOpen);
     }
-    Move::End(f.place, true)
+    Move::End(f.place, Ending::Closed)
 }
 
 // Retry: 3, 4, 8, else the job runs again.
@@ -211,43 +223,30 @@ fn retry_move(f: Found) -> Move
         return Move::Refuse(Refusal::Waiting);
     }
     if f.code == SENT_BACK {
-        return Move::Retry(f.place);
+        return Move::Retry;
     }
     Move::Refuse(Refusal::Running)
 }
 
-// A decision for the job at a place.
-fn decided_move(p: usize, a: Ask, what: Decision) -> Move
-    ensures { λ r. ⌜ r ≡ decidedMove p a what ⌝ }
-{
-    match what {
-        Decision::Keep => Move::Keep,
-        Decision::Take(m) => Move::Take(p, m),
-        Decision::Stay => Move::Stay(p, a),
-        Decision::Away => Move::End(p, false),
-    }
-}
-
 // Read, write and increment: 3, 4, 5, 2, else what the rules decide.
 fn ask_move<'a>(
-    held: &'a [u8; 2048],
-    number: &'a [u32; 32],
-    status: &'a [u8; 32],
-    cell: &'a [u8; 32],
+    held: &'a [u8; SPOTS],
+    number: &'a [u32; PLACES],
+    status: &'a [u8; PLACES],
+    cell: &'a [u8; PLACES],
     job: u32,
     c: u32,
     a: Ask,
 ) -> Move
     requires { ⌜ (length (now number) ≡ 32) × (length (now status) ≡ 32) ⌝ }
-    ensures { λ r. ⌜ r ≡ askMove (over 0 (now (number .entry)) (now (status .entry)) (now (cell .entry)) [] (now (held .entry))) job c a ⌝ }
+    ensures { λ r. ⌜ r ≡ askMove (now (number .entry)) (now (status .entry)) (now (cell .entry)) (now (held .entry)) job c a ⌝ }
 {
     let f = find(number, status, job);
     match standing_of(f.code) {
         Standing::Against(why) => Move::Refuse(why),
         Standing::Runs => {
             if c < CELLS {
-                let what = decide(held, number, status, cell, f.place, c as usize, job, a);
-                return decided_move(f.place, a, what);
+                return decide(held, number, status, cell, f.place, c as usize, job, a);
             }
             Move::Refuse(Refusal::CellAbove)
         }
@@ -257,25 +256,26 @@ fn ask_move<'a>(
 // What a request is to do, by its kind.
 pub fn plan<'a>(
     next: u64,
-    number: [u32; 32],
-    status: [u8; 32],
-    cell: &'a [u8; 32],
-    held: &'a [u8; 2048],
+    number: &'a [u32; PLACES],
+    status: &'a [u8; PLACES],
+    cell: &'a [u8; PLACES],
+    held: &'a [u8; SPOTS],
     kind: u8,
     job: u32,
     c: u32,
 ) -> Move
-    ensures { λ r. ⌜ r ≡ moveFor (over next number status (now (cell .entry)) [] (now (held .entry))) job c (letterOf kind) ⌝ }
+    ensures { λ r. ⌜ r ≡ moveFor next (now (number .entry)) (now (status .entry)) (now (cell .entry)) (now (held .entry)) job c (letterOf kind) ⌝ }
 {
+    sized(*number, *status);
     match letter_of(kind) {
         Lettered::Unknown => Move::Refuse(Refusal::UnknownKind),
         Lettered::Known(l) => match l {
             Letter::Back => Move::Refuse(Refusal::UnknownKind),
-            Letter::Begin => begin_move(next, &number),
-            Letter::Commit => commit_move(find(&number, &status, job)),
-            Letter::GiveUp => give_up_move(find(&number, &status, job)),
-            Letter::Retry => retry_move(find(&number, &status, job)),
-            Letter::Asks(a) => ask_move(held, &number, &status, cell, job, c, a),
+            Letter::Begin => begin_move(next, number),
+            Letter::Commit => commit_move(find(number, status, job)),
+            Letter::GiveUp => give_up_move(find(number, status, job)),
+            Letter::Retry => retry_move(find(number, status, job)),
+            Letter::Asks(a) => ask_move(held, number, status, cell, job, c, a),
         },
     }
 }

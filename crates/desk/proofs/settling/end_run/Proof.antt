@@ -1,31 +1,26 @@
 -- `desk::settling::end_run` meets its contract: locks are dropped and cells settled, as the definition says.
 -- Assumes nothing.
 use borrow.Author.Needs.{needs}
-use native.Mathlib.Omega.{arith}
-use lib.ListN.{set}
-use Rattle.board.specs.Steps.{noAction, settled}
-use Rattle.desk.proofs.Waiters.{waiters-most}
+use Rattle.board.specs.Steps.{settled}
 use Rattle.desk.proofs.settling.end_run.Statement.{statement}
 use Rattle.desk.proofs.settling.end_run.Tie as tie
 
 code-after-requires : tie.Need-code-after-requires
 code-after-requires c κs = search needs
 
-array-write-after : tie.Need-array-write-after
-array-write-after c = search needs
+element-write-status : tie.Need-element-write-status
+element-write-status c = search needs
 
 drop-locks-requires : tie.Need-drop-locks-requires
 drop-locks-requires c κs = search needs
 
 settle-all-requires : tie.Need-settle-all-requires
-settle-all-requires c κs =
-    let s = c .before .before .before .before .before .before .before .args in
-    omega (arith, waiters-most (set (s .status) (s .p) (c .before .before .before .before .before .before .code-after .result)) 32)
+settle-all-requires c κs = search needs
 
 returns : tie.Need-returns
-unfolding noAction settled
-returns c = rw (← c .before .before .before .before .before .drop-locks .ensures, ← c .before .before .before .before .before .before .before .code-after .ensures) (c .settle-all .ensures)
+unfolding settled
+returns c =
+    rw (← c .before .before .before .before .drop-locks .ensures, ← c .before .before .before .before .before .before .code-after .ensures) (c .settle-all .ensures)
 
 pub end-run-spec : {M : Type 1} → statement M
-end-run-spec =
-    tie.close (tie.spec code-after-requires array-write-after drop-locks-requires settle-all-requires returns)
+end-run-spec = tie.close (tie.spec code-after-requires element-write-status drop-locks-requires settle-all-requires returns)

@@ -1,24 +1,30 @@
 -- `desk::settling::settle_cell` meets its contract. The loop's invariant: so many grants have been made; the measure is what is left of 32. Where it stops early, further grants change nothing.
 -- Assumes nothing.
-use Prim.Native.Nat.{_≤_, _-_}
-use mathlib.Core.Path.{_≡_, refl, ap}
-use native.Mathlib.Omega.{arith}
 use borrow.Author.Needs.{needs}
+use Prim.Native.Nat.{_≤_, _-_}
+use mathlib.Core.Path.{_≡_, refl, ap, sym, _∙_}
+use native.Mathlib.Omega.{arith}
+use lib.ListN.{length, take, take-append-drop}
+use lib.Seq.{length-take-le}
 use Rattle.board.specs.Settling.{Settling, settleCell}
-use Rattle.desk.proofs.Grants.{none-granted, who-granted, granted-place, front-granted, settle-more, settle-end, settle-stop}
-use Rattle.desk.proofs.Room.{wake-fits}
+use Rattle.desk.specs.InPlace.{laid, Reached}
+use Rattle.desk.proofs.Cells.{holds, reached-as, reached-length, cell-stops, turn-place, turn-room, turn-granted}
 use Rattle.desk.proofs.settling.settle_cell.Statement.{statement}
 use Rattle.desk.proofs.settling.settle_cell.Tie as tie
 
 abbrev Inv-loop : tie.InvT-loop
-Inv-loop held₀ number cell ask c s₀ n₀ held s n = (n ≤ 32) × (_≡_ {A = Settling} (record { held = held; told = s }) (settleCell number cell ask c n (record { held = held₀; told = s₀ })))
+Inv-loop held₀ status₀ woken₀ number cell ask count c k₀ n₀ held status woken k n =
+    (n ≤ 32) × (Reached (settleCell number cell ask c n (holds held₀ status₀ woken₀ count)) woken₀ held status woken k)
 
 abbrev μ-loop : tie.MeasureT-loop
-μ-loop held₀ number cell ask c s₀ n₀ held s n = 32 - n
+μ-loop held₀ status₀ woken₀ number cell ask count c k₀ n₀ held status woken k n = 32 - n
 
 loop-holds : tie.Need-loop-holds Inv-loop μ-loop
-unfolding settleCell
-loop-holds c = (omega arith, refl)
+unfolding settleCell laid
+loop-holds c =
+    let a = c .args in
+    let e : length (take (a .count) (a .woken .now)) ≡ a .count = length-take-le (a .count) (a .woken .now) (omega arith) in
+    (omega arith, record { modes = refl; doing = refl; places = sym (rw e (take-append-drop (a .count) (a .woken .now))); many = sym e })
 
 front-grant-requires : tie.Need-front-grant-requires Inv-loop μ-loop
 front-grant-requires c κs = tt
@@ -28,8 +34,8 @@ enum-told c = search needs
 
 returns : tie.Need-returns Inv-loop μ-loop
 returns c =
-    let e = settle-stop _ _ _ _ _ _ 32 (c .before .before .before .before .before .before .before .before .loop .inv .1) (none-granted _ _ _ _ (record { held = c .before .before .before .before .before .before .before .before .loop .held; told = c .before .before .before .before .before .before .before .before .loop .s }) (c .before .before .before .before .before .before .before .before .before .pre .0) (c .before .before .front-grant .ensures) (c .enum-told .given .1)) (omega arith) in
-    (ap (λ x. x .told) e, ap (λ x. x .held) e)
+    let a = c .before .before .before .before .before .before .before .args in
+    cell-stops (a .number .now) (a .cell .now) (a .ask .now) (a .c) (holds (a .held .now) (a .status .now) (a .woken .now) (a .count)) (c .before .before .before .before .before .before .before .pre .0) (c .before .before .before .before .before .before .loop .n) (c .before .before .before .before .before .before .loop .inv .1) (c .before .before .front-grant .ensures) (c .enum-told .given .1) (c .before .before .before .before .before .before .loop .inv .0)
 
 enum-known-p : tie.Need-enum-known-p Inv-loop μ-loop
 enum-known-p c = search needs
@@ -38,30 +44,48 @@ code-of-requires : tie.Need-code-of-requires Inv-loop μ-loop
 code-of-requires c κs = tt
 
 mul-held : tie.Need-mul-held Inv-loop μ-loop
-mul-held c = omega (arith, granted-place _ _ _ _ (record { held = c .before .before .before .before .before .before .before .before .before .before .loop .held; told = c .before .before .before .before .before .before .before .before .before .before .loop .s }) (c .before .before .before .before .before .before .before .before .before .before .before .pre .0) (c .before .before .before .before .front-grant .ensures) (c .before .before .p .given .1))
+mul-held c =
+    let a = c .before .before .before .before .before .before .before .before .before .args in
+    let b = turn-place (a .number .now) (a .cell .now) (a .ask .now) (a .c) (holds (a .held .now) (a .status .now) (a .woken .now) (a .count)) (c .before .before .before .before .before .before .before .before .before .pre .0) (c .before .before .before .before .before .before .before .before .loop .n) (c .before .before .before .before .before .before .before .before .loop .inv .1) (c .before .before .before .before .front-grant .ensures) (c .before .before .p .given .1) in
+    omega arith
 
 add-held : tie.Need-add-held Inv-loop μ-loop
-add-held c = omega (arith, granted-place _ _ _ _ (record { held = c .before .before .before .before .before .before .before .before .before .before .loop .held; told = c .before .before .before .before .before .before .before .before .before .before .loop .s }) (c .before .before .before .before .before .before .before .before .before .before .before .pre .0) (c .before .before .before .before .front-grant .ensures) (c .before .before .p .given .1))
+add-held c =
+    let a = c .before .before .before .before .before .before .before .before .before .args in
+    let b = turn-place (a .number .now) (a .cell .now) (a .ask .now) (a .c) (holds (a .held .now) (a .status .now) (a .woken .now) (a .count)) (c .before .before .before .before .before .before .before .before .before .pre .0) (c .before .before .before .before .before .before .before .before .loop .n) (c .before .before .before .before .before .before .before .before .loop .inv .1) (c .before .before .before .before .front-grant .ensures) (c .before .before .p .given .1) in
+    omega arith
 
 element-write-held : tie.Need-element-write-held Inv-loop μ-loop
-element-write-held c = omega (arith, granted-place _ _ _ _ (record { held = c .before .before .before .before .before .before .before .before .before .before .loop .held; told = c .before .before .before .before .before .before .before .before .before .before .loop .s }) (c .before .before .before .before .before .before .before .before .before .before .before .pre .0) (c .before .before .before .before .front-grant .ensures) (c .before .before .p .given .1))
+element-write-held c =
+    let a = c .before .before .before .before .before .before .before .before .before .args in
+    let b = turn-place (a .number .now) (a .cell .now) (a .ask .now) (a .c) (holds (a .held .now) (a .status .now) (a .woken .now) (a .count)) (c .before .before .before .before .before .before .before .before .before .pre .0) (c .before .before .before .before .before .before .before .before .loop .n) (c .before .before .before .before .before .before .before .before .loop .inv .1) (c .before .before .before .before .front-grant .ensures) (c .before .before .p .given .1) in
+    omega arith
 
-recorded-kind-requires : tie.Need-recorded-kind-requires Inv-loop μ-loop
-recorded-kind-requires c κs = tt
+element-write-status : tie.Need-element-write-status Inv-loop μ-loop
+element-write-status c =
+    let a = c .before .before .before .before .before .before .before .before .before .args in
+    let b = turn-place (a .number .now) (a .cell .now) (a .ask .now) (a .c) (holds (a .held .now) (a .status .now) (a .woken .now) (a .count)) (c .before .before .before .before .before .before .before .before .before .pre .0) (c .before .before .before .before .before .before .before .before .loop .n) (c .before .before .before .before .before .before .before .before .loop .inv .1) (c .before .before .before .before .front-grant .ensures) (c .before .before .p .given .1) in
+    omega arith
 
-mul-t20 : tie.Need-mul-t20 Inv-loop μ-loop
-mul-t20 c = omega (arith, granted-place _ _ _ _ (record { held = c .before .before .before .before .before .before .before .before .before .before .before .loop .held; told = c .before .before .before .before .before .before .before .before .before .before .before .loop .s }) (c .before .before .before .before .before .before .before .before .before .before .before .before .pre .0) (c .before .before .before .before .before .front-grant .ensures) (c .before .before .before .p .given .1))
+cast-woken : tie.Need-cast-woken Inv-loop μ-loop
+cast-woken c =
+    let a = c .before .before .before .before .before .before .before .before .before .args in
+    let b = turn-place (a .number .now) (a .cell .now) (a .ask .now) (a .c) (holds (a .held .now) (a .status .now) (a .woken .now) (a .count)) (c .before .before .before .before .before .before .before .before .before .pre .0) (c .before .before .before .before .before .before .before .before .loop .n) (c .before .before .before .before .before .before .before .before .loop .inv .1) (c .before .before .before .before .front-grant .ensures) (c .before .before .p .given .1) in
+    omega arith
 
-element-copy-out-t27 : tie.Need-element-copy-out-t27 Inv-loop μ-loop
-element-copy-out-t27 c = omega (arith, granted-place _ _ _ _ (record { held = c .before .before .before .before .before .before .before .before .before .before .before .loop .held; told = c .before .before .before .before .before .before .before .before .before .before .before .loop .s }) (c .before .before .before .before .before .before .before .before .before .before .before .before .pre .0) (c .before .before .before .before .before .front-grant .ensures) (c .before .before .before .p .given .1))
+element-write-woken : tie.Need-element-write-woken Inv-loop μ-loop
+element-write-woken c =
+    let a = c .before .before .before .before .before .before .before .before .before .args in
+    let e : length (take (a .count) (a .woken .now)) ≡ a .count = length-take-le (a .count) (a .woken .now) (omega arith) in
+    let b = turn-room (a .number .now) (a .cell .now) (a .ask .now) (a .c) (holds (a .held .now) (a .status .now) (a .woken .now) (a .count)) (c .before .before .before .before .before .before .before .before .before .pre .0) (c .before .before .before .before .before .before .before .before .loop .n) (c .before .before .before .before .before .before .before .before .loop .inv .1) (c .before .before .before .before .front-grant .ensures) (c .before .before .p .given .1) (rw e (c .before .before .before .before .before .before .before .before .before .pre .1)) in
+    omega arith
 
-cast-t28 : tie.Need-cast-t28 Inv-loop μ-loop
-cast-t28 c = omega arith
-
-with-wake-requires : tie.Need-with-wake-requires Inv-loop μ-loop
-with-wake-requires c κs =
-    let b = granted-place _ _ _ _ (record { held = c .before .before .before .before .before .before .before .before .before .before .before .before .loop .held; told = c .before .before .before .before .before .before .before .before .before .before .before .before .loop .s }) (c .before .before .before .before .before .before .before .before .before .before .before .before .before .pre .0) (c .before .before .before .before .before .before .front-grant .ensures) (c .before .before .before .before .p .given .1) in
-    (b, wake-fits _ _ _ _ _ _ (c .before .before .before .before .before .before .before .before .before .before .before .before .loop .inv .1) (c .before .before .before .before .before .before .before .before .before .before .before .before .before .pre .1) (who-granted _ _ _ _ (record { held = c .before .before .before .before .before .before .before .before .before .before .before .before .loop .held; told = c .before .before .before .before .before .before .before .before .before .before .before .before .loop .s }) (c .before .before .before .before .before .before .before .before .before .before .before .before .before .pre .0) (c .before .before .before .before .before .before .front-grant .ensures) (c .before .before .before .before .p .given .1) .place) b)
+add-k : tie.Need-add-k Inv-loop μ-loop
+add-k c =
+    let a = c .before .before .before .before .before .before .before .before .before .args in
+    let e : length (take (a .count) (a .woken .now)) ≡ a .count = length-take-le (a .count) (a .woken .now) (omega arith) in
+    let b = turn-room (a .number .now) (a .cell .now) (a .ask .now) (a .c) (holds (a .held .now) (a .status .now) (a .woken .now) (a .count)) (c .before .before .before .before .before .before .before .before .before .pre .0) (c .before .before .before .before .before .before .before .before .loop .n) (c .before .before .before .before .before .before .before .before .loop .inv .1) (c .before .before .before .before .front-grant .ensures) (c .before .before .p .given .1) (rw e (c .before .before .before .before .before .before .before .before .before .pre .1)) in
+    omega arith
 
 add-n : tie.Need-add-n Inv-loop μ-loop
 add-n c = omega arith
@@ -70,16 +94,17 @@ loop-less : tie.Need-loop-less Inv-loop μ-loop
 loop-less c = omega arith
 
 loop-again : tie.Need-loop-again Inv-loop μ-loop
-loop-again c = (
-  omega arith,
-  settle-more _ _ _ _ _ _ (c .before .before .before .before .before .before .before .before .before .before .before .before .before .loop .inv .1)
-      (front-granted _ _ _ _ (record { held = c .before .before .before .before .before .before .before .before .before .before .before .before .before .loop .held; told = c .before .before .before .before .before .before .before .before .before .before .before .before .before .loop .s }) (c .before .before .before .before .before .before .before .before .before .before .before .before .before .before .pre .0) (c .before .before .before .before .before .before .before .front-grant .ensures) (c .before .before .before .before .before .p .given .1) (c .before .before .before .code-of .ensures) (c .before .before .recorded-kind .ensures) (c .with-wake .ensures)),
-)
+loop-again c =
+    let a = c .before .before .before .before .before .before .before .before .before .args in
+    let e : length (take (a .count) (a .woken .now)) ≡ a .count = length-take-le (a .count) (a .woken .now) (omega arith) in
+    let b = turn-room (a .number .now) (a .cell .now) (a .ask .now) (a .c) (holds (a .held .now) (a .status .now) (a .woken .now) (a .count)) (c .before .before .before .before .before .before .before .before .before .pre .0) (c .before .before .before .before .before .before .before .before .loop .n) (c .before .before .before .before .before .before .before .before .loop .inv .1) (c .before .before .before .before .front-grant .ensures) (c .before .before .p .given .1) (rw e (c .before .before .before .before .before .before .before .before .before .pre .1)) in
+    (omega arith, turn-granted (a .number .now) (a .cell .now) (a .ask .now) (a .c) (holds (a .held .now) (a .status .now) (a .woken .now) (a .count)) (c .before .before .before .before .before .before .before .before .before .pre .0) (c .before .before .before .before .before .before .before .before .loop .n) (c .before .before .before .before .before .before .before .before .loop .inv .1) (c .before .before .before .before .front-grant .ensures) (c .before .before .p .given .1) (c .code-of .ensures) (omega arith))
 
 returns-2 : tie.Need-returns-2 Inv-loop μ-loop
 returns-2 c =
-    let e = settle-end _ _ _ _ _ _ 32 (c .before .loop .inv .1) (omega arith) in
-    (ap (λ x. x .told) e, ap (λ x. x .held) e)
+    let a = c .before .before .args in
+    let e : c .before .loop .n ≡ 32 = omega arith in
+    reached-as (c .before .loop .inv .1) (ap (λ n. settleCell (a .number .now) (a .cell .now) (a .ask .now) (a .c) n (holds (a .held .now) (a .status .now) (a .woken .now) (a .count))) e)
 
 pub settle-cell-spec : {M : Type 1} → statement M
 settle-cell-spec =
@@ -96,11 +121,10 @@ settle-cell-spec =
     mul-held
     add-held
     element-write-held
-    recorded-kind-requires
-    mul-t20
-    element-copy-out-t27
-    cast-t28
-    with-wake-requires
+    element-write-status
+    cast-woken
+    element-write-woken
+    add-k
     add-n
     loop-less
     loop-again

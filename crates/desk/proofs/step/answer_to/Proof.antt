@@ -1,7 +1,7 @@
 -- `desk::step::answer_to` meets its contract: the move is put for the argument.
 -- Assumes nothing.
 use borrow.Author.Needs.{needs}
-use Rattle.desk.specs.Answers.{answerTo}
+use Rattle.board.specs.Steps.{answerTo}
 use Rattle.desk.proofs.step.answer_to.Statement.{statement}
 use Rattle.desk.proofs.step.answer_to.Tie as tie
 
@@ -23,40 +23,39 @@ enum-told-3 c = search needs
 enum-known-m-3 : tie.Need-enum-known-m-3
 enum-known-m-3 c = search needs
 
-returns : tie.Need-returns
-unfolding answerTo
-returns c = rw (c .before .before .m3 .given .1, c .if1 .taken)
+answer-after-requires : tie.Need-answer-after-requires
+answer-after-requires c κs = search needs
 
 enum-told-4 : tie.Need-enum-told-4
 enum-told-4 c = search needs
 
+returns : tie.Need-returns
+unfolding answerTo
+returns c = rw (c .before .m .given .1)
+
 returns-2 : tie.Need-returns-2
 unfolding answerTo
-returns-2 c = rw (c .before .m .given .1)
+returns-2 c = rw (c .before .m2 .given .1)
 
 returns-3 : tie.Need-returns-3
 unfolding answerTo
-returns-3 c = rw (c .before .m2 .given .1)
+returns-3 c = rw (c .enum-told .given .1)
 
 returns-4 : tie.Need-returns-4
 unfolding answerTo
-returns-4 c = rw (c .enum-told .given .1)
+returns-4 c = rw (c .enum-told2 .given .1)
 
 returns-5 : tie.Need-returns-5
 unfolding answerTo
-returns-5 c = rw (c .enum-told2 .given .1)
+returns-5 c = rw (c .enum-told3 .given .1)
 
 returns-6 : tie.Need-returns-6
 unfolding answerTo
-returns-6 c = rw (c .enum-told3 .given .1)
+returns-6 c = rw (c .before .before .m3 .given .1) (c .answer-after .ensures)
 
 returns-7 : tie.Need-returns-7
 unfolding answerTo
-returns-7 c = rw (c .before .before .m3 .given .1, c .if1 .left)
-
-returns-8 : tie.Need-returns-8
-unfolding answerTo
-returns-8 c = rw (c .enum-told4 .given .1)
+returns-7 c = rw (c .enum-told4 .given .1)
 
 pub answer-to-spec : {M : Type 1} → statement M
 answer-to-spec =
@@ -68,12 +67,12 @@ answer-to-spec =
     enum-told-2
     enum-told-3
     enum-known-m-3
-    returns
+    answer-after-requires
     enum-told-4
+    returns
     returns-2
     returns-3
     returns-4
     returns-5
     returns-6
-    returns-7
-    returns-8)
+    returns-7)

@@ -4,7 +4,7 @@ use Prim.Native.Nat.{_≤_, _-_}
 use mathlib.Core.Path.{_≡_, refl, ap, _∙_}
 use mathlib.Core.Logic.{⊎-elim}
 use native.Mathlib.Omega.{arith}
-use Rattle.board.specs.Settling.{wanted}
+use Rattle.moves.specs.Grants.{wanted}
 use Rattle.moves.proofs.Wanted.{wanted-marked, wanted-outside, wanted-unmarked}
 use Rattle.moves.proofs.grants.wanted_cells.Statement.{statement}
 use Rattle.moves.proofs.grants.wanted_cells.Tie as tie

@@ -2,7 +2,7 @@
 -- Assumes nothing.
 use borrow.Author.Needs.{needs}
 use borrow.Author.Tests.{lt-ltb, le-ltb}
-use Rattle.moves.specs.Plan.{ifRuns, askMove}
+use Rattle.board.specs.Moves.{ifRuns, askMove}
 use Rattle.moves.proofs.Open.{runs-inside}
 use Rattle.moves.proofs.plan.ask_move.Statement.{statement}
 use Rattle.moves.proofs.plan.ask_move.Tie as tie
@@ -20,14 +20,13 @@ enum-told : tie.Need-enum-told
 enum-told c = search needs
 
 decide-requires : tie.Need-decide-requires
-decide-requires c κs = (runs-inside _ _ _ (c .before .before .before .before .before .pre .1) (c .before .before .before .before .find .ensures) (c .before .before .before .standing-of .ensures) (c .before .enum-told .given .1), c .if1 .taken)
-
-decided-move-requires : tie.Need-decided-move-requires
-decided-move-requires c κs = search needs
+decide-requires c κs =
+    (runs-inside _ _ _ (c .before .before .before .before .before .pre .1) (c .before .before .before .before .find .ensures) (c .before .before .before .standing-of .ensures) (c .before .enum-told .given .1), c .if1 .taken)
 
 returns : tie.Need-returns
 unfolding ifRuns askMove
-returns c = rw (← c .before .before .before .before .before .before .find .ensures, ← c .before .before .before .before .before .standing-of .ensures, c .before .before .before .enum-told .given .1, lt-ltb _ _ (c .before .before .if1 .taken), ← c .before .decide .ensures) (c .decided-move .ensures)
+returns c =
+    rw (← c .before .before .before .before .before .find .ensures, ← c .before .before .before .before .standing-of .ensures, c .before .before .enum-told .given .1, lt-ltb _ _ (c .before .if1 .taken)) (c .decide .ensures)
 
 returns-2 : tie.Need-returns-2
 unfolding ifRuns askMove
@@ -35,18 +34,8 @@ returns-2 c = rw (← c .before .before .before .before .find .ensures, ← c .b
 
 returns-3 : tie.Need-returns-3
 unfolding ifRuns askMove
-returns-3 c = rw (← c .before .before .before .before .find .ensures, ← c .before .before .before .standing-of .ensures, c .before .enum-told .given .1, le-ltb _ _ (c .if1 .left))
+returns-3 c =
+    rw (← c .before .before .before .before .find .ensures, ← c .before .before .before .standing-of .ensures, c .before .enum-told .given .1, le-ltb _ _ (c .if1 .left))
 
 pub ask-move-spec : {M : Type 1} → statement M
-ask-move-spec =
-    tie.close
-    (tie.spec
-    find-requires
-    standing-of-requires
-    enum-known-why
-    enum-told
-    decide-requires
-    decided-move-requires
-    returns
-    returns-2
-    returns-3)
+ask-move-spec = tie.close (tie.spec find-requires standing-of-requires enum-known-why enum-told decide-requires returns returns-2 returns-3)

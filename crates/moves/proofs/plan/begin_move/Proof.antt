@@ -2,7 +2,7 @@
 -- Assumes nothing.
 use borrow.Author.Needs.{needs}
 use borrow.Author.Tests.{lt-ltb, le-ltb}
-use Rattle.moves.specs.Plan.{beginMove}
+use Rattle.board.specs.Moves.{beginMove}
 use Rattle.moves.proofs.plan.begin_move.Statement.{statement}
 use Rattle.moves.proofs.plan.begin_move.Tie as tie
 

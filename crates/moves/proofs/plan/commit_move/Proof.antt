@@ -2,7 +2,7 @@
 -- Assumes nothing.
 use borrow.Author.Needs.{needs}
 use mathlib.Core.Path.{sym, _∙_}
-use Rattle.moves.specs.Plan.{ifRuns, commitMove}
+use Rattle.board.specs.Moves.{ifRuns, commitMove}
 use Rattle.moves.proofs.plan.commit_move.Statement.{statement}
 use Rattle.moves.proofs.plan.commit_move.Tie as tie
 

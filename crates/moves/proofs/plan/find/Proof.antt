@@ -6,8 +6,8 @@ use native.Mathlib.Omega.{arith}
 use lib.ListN.{length}
 use borrow.Author.Tests.{eq-eqb, ne-eqb}
 use Rattle.laws.specs.Lists.{pos}
-use Rattle.board.specs.Steps.{statusOf}
-use Rattle.moves.specs.Plan.{foundAt}
+use Rattle.board.specs.Moves.{statusOf}
+use Rattle.board.specs.Moves.{foundAt}
 use Rattle.moves.proofs.Open.{nowhere-free}
 use Rattle.moves.proofs.plan.find.Statement.{statement}
 use Rattle.moves.proofs.plan.find.Tie as tie

@@ -1,7 +1,7 @@
 -- `moves::plan::give_up_move` meets its contract: it branches as the definition does.
 -- Assumes nothing.
 use Rattle.laws.specs.Choice.{cases}
-use Rattle.moves.specs.Plan.{giveUpMove}
+use Rattle.board.specs.Moves.{giveUpMove}
 use Rattle.moves.proofs.plan.give_up_move.Statement.{statement}
 use Rattle.moves.proofs.plan.give_up_move.Tie as tie
 

@@ -2,10 +2,12 @@
 -- Assumes nothing.
 use borrow.Author.Needs.{needs}
 use mathlib.Core.Path.{sym, ap, _∙_}
-use Rattle.board.specs.Steps.{decided}
-use Rattle.moves.specs.Plan.{commitMove, giveUpMove, retryMove, askMove, moveFor}
+use Rattle.board.specs.Moves.{commitMove, giveUpMove, retryMove, moveFor}
 use Rattle.moves.proofs.plan.plan.Statement.{statement}
 use Rattle.moves.proofs.plan.plan.Tie as tie
+
+sized-requires : tie.Need-sized-requires
+sized-requires c κs = search needs
 
 letter-of-requires : tie.Need-letter-of-requires
 letter-of-requires c κs = search needs
@@ -68,28 +70,34 @@ returns-2 c = rw (sym (c .before .before .before .before .before .letter-of .ens
 
 returns-3 : tie.Need-returns-3
 unfolding moveFor
-returns-3 c = rw (sym (c .before .before .before .before .before .before .before .letter-of .ensures) ∙ c .before .before .before .before .before .l .given .1, c .before .before .enum-told3 .given .1) (c .begin-move .ensures)
+returns-3 c =
+    rw (sym (c .before .before .before .before .before .before .letter-of .ensures) ∙ c .before .before .before .before .l .given .1, c .before .enum-told3 .given .1) (c .begin-move .ensures)
 
 returns-4 : tie.Need-returns-4
 unfolding moveFor
-returns-4 c = rw (sym (c .before .before .before .before .before .before .before .before .before .letter-of .ensures) ∙ c .before .before .before .before .before .before .before .l .given .1, c .before .before .before .before .enum-told4 .given .1) (c .commit-move .ensures ∙ ap commitMove (c .before .find .ensures))
+returns-4 c =
+    rw (sym (c .before .before .before .before .before .before .before .letter-of .ensures) ∙ c .before .before .before .before .before .l .given .1, c .before .before .enum-told4 .given .1) (c .commit-move .ensures ∙ ap commitMove (c .before .find .ensures))
 
 returns-5 : tie.Need-returns-5
 unfolding moveFor
-returns-5 c = rw (sym (c .before .before .before .before .before .before .before .before .before .letter-of .ensures) ∙ c .before .before .before .before .before .before .before .l .given .1, c .before .before .before .before .enum-told5 .given .1) (c .give-up-move .ensures ∙ ap giveUpMove (c .before .find2 .ensures))
+returns-5 c =
+    rw (sym (c .before .before .before .before .before .before .before .letter-of .ensures) ∙ c .before .before .before .before .before .l .given .1, c .before .before .enum-told5 .given .1) (c .give-up-move .ensures ∙ ap giveUpMove (c .before .find2 .ensures))
 
 returns-6 : tie.Need-returns-6
 unfolding moveFor
-returns-6 c = rw (sym (c .before .before .before .before .before .before .before .before .before .letter-of .ensures) ∙ c .before .before .before .before .before .before .before .l .given .1, c .before .before .before .before .enum-told6 .given .1) (c .retry-move .ensures ∙ ap retryMove (c .before .find3 .ensures))
+returns-6 c =
+    rw (sym (c .before .before .before .before .before .before .before .letter-of .ensures) ∙ c .before .before .before .before .before .l .given .1, c .before .before .enum-told6 .given .1) (c .retry-move .ensures ∙ ap retryMove (c .before .find3 .ensures))
 
 returns-7 : tie.Need-returns-7
-unfolding moveFor askMove decided
-returns-7 c = rw (sym (c .before .before .before .before .before .before .before .before .before .letter-of .ensures) ∙ c .before .before .before .before .before .before .before .l .given .1, c .before .before .before .before .l2 .given .1) (c .ask-move .ensures)
+unfolding moveFor
+returns-7 c =
+    rw (sym (c .before .before .before .before .before .before .before .letter-of .ensures) ∙ c .before .before .before .before .before .l .given .1, c .before .before .l2 .given .1) (c .ask-move .ensures)
 
 pub plan-spec : {M : Type 1} → statement M
 plan-spec =
     tie.close
     (tie.spec
+    sized-requires
     letter-of-requires
     enum-told
     enum-known-l

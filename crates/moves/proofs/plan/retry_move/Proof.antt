@@ -1,7 +1,7 @@
 -- `moves::plan::retry_move` meets its contract: it branches as the definition does.
 -- Assumes nothing.
 use Rattle.laws.specs.Choice.{cases}
-use Rattle.moves.specs.Plan.{retryMove}
+use Rattle.board.specs.Moves.{retryMove}
 use Rattle.moves.proofs.plan.retry_move.Statement.{statement}
 use Rattle.moves.proofs.plan.retry_move.Tie as tie
 

@@ -1,7 +1,7 @@
 -- `moves::plan::standing_of` meets its contract: it branches as the definition does.
 -- Assumes nothing.
 use Rattle.laws.specs.Choice.{cases}
-use Rattle.moves.specs.Plan.{standingOf}
+use Rattle.board.specs.Moves.{standingOf}
 use Rattle.moves.proofs.plan.standing_of.Statement.{statement}
 use Rattle.moves.proofs.plan.standing_of.Tie as tie
 

@@ -1,0 +1,74 @@
+// The wakes of a step as actions, read off the arrays: a woken place keeps its number, and what it waited for (01, rule 4).
+use board::codes::ask_of;
+use conflict::action::Action;
+use conflict::action::Kind;
+use conflict::modes::recorded_kind;
+use terms::limits::PLACES;
+ghost use mathlib.Core.Path.{_≡_};
+ghost use mathlib.Core.List.{map};
+ghost use lib.ListN.{length, take};
+ghost use Rattle.board.specs.Steps.{wakeAt, listed};
+
+// Numbers, cells and what was asked, of as many places as there are: what a lent array does not say of itself.
+fn sized(number: [u32; PLACES], cell: [u8; PLACES], ask: [u8; PLACES]) -> bool
+    ensures { λ r. ⌜ (length number ≡ 32) × (length cell ≡ 32) × (length ask ≡ 32) ⌝ }
+{
+    true
+}
+
+// A byte as a number.
+fn wide(byte: u8) -> u32
+    ensures { λ r. ⌜ r ≡ byte ⌝ }
+{
+    byte as u32
+}
+
+// The action of a woken place; of a place that there is not, one that says nothing.
+pub fn wake_at<'a>(
+    number: &'a [u32; PLACES],
+    cell: &'a [u8; PLACES],
+    ask: &'a [u8; PLACES],
+    p: usize,
+) -> Action
+    ensures { λ r. ⌜ r ≡ wakeAt (now (number .entry)) (now (cell .entry)) (now (ask .entry)) p ⌝ }
+{
+    sized(*number, *cell, *ask);
+    if p < PLACES {
+        return Action {
+            kind: recorded_kind(ask_of(ask[p])),
+            job: number[p],
+            cell: wide(cell[p]),
+        };
+    }
+    Action {
+        kind: recorded_kind(ask_of(0)),
+        job: 0,
+        cell: 0,
+    }
+}
+
+// The list that tells the wakes of the first places of a list, so many.
+pub fn tell<'a>(
+    number: &'a [u32; PLACES],
+    cell: &'a [u8; PLACES],
+    ask: &'a [u8; PLACES],
+    woken: [u8; PLACES],
+    count: usize,
+) -> [Action; PLACES]
+    ensures { λ r. ⌜ r ≡ listed (map (wakeAt (now (number .entry)) (now (cell .entry)) (now (ask .entry))) (take count woken)) ⌝ }
+{
+    let mut wakes = [Action {
+        kind: Kind::Read,
+        job: 0,
+        cell: 0,
+    }; PLACES];
+    let mut i: usize = 0;
+    while i < PLACES {
+        if count <= i {
+            return wakes;
+        }
+        wakes[i] = wake_at(number, cell, ask, woken[i] as usize);
+        i += 1;
+    }
+    wakes
+}
