@@ -126,9 +126,10 @@ fn counted(mut t: Tally, answer: Answer, wakes: u64) -> Tally {
     t
 }
 
-fn put_number(n: u64, after: u8) {
+// A number and the byte behind it, and whether that was taken.
+fn put_number(n: u64, after: u8) -> bool {
     io::print_decimal(STDOUT_FILENO, n);
-    io::write_all(STDOUT_FILENO, &[after]);
+    io::write_all(STDOUT_FILENO, &[after])
 }
 
 fn put_tally(t: Tally) {
@@ -136,7 +137,9 @@ fn put_tally(t: Tally) {
     put_number(t.wait, TAB);
     put_number(t.back, TAB);
     put_number(t.no, TAB);
-    put_number(t.wakes, NEWLINE);
+    if !put_number(t.wakes, NEWLINE) {
+        os::fail(b"desk_mix: cannot write");
+    }
 }
 
 // All the steps.

@@ -27,7 +27,7 @@ struct Field {
     end: u32,
 }
 
-// The desk after a step, and whether there was one.
+// The desk after a step, and whether there was one and its line was taken.
 struct Turn {
     desk: Desk,
     done: bool,
@@ -44,6 +44,9 @@ fn wide(byte: u8) -> u32 {
 fn next_byte() -> u32 {
     let mut one = [0u8; 1];
     let got = libc::read(STDIN_FILENO, &mut one);
+    if got < 0 {
+        os::fail(b"desk_run: cannot read");
+    }
     if got < 1 {
         return END;
     }
@@ -81,6 +84,15 @@ fn next_number() -> Field {
 
 fn put_byte(byte: u8) {
     io::write_all(STDOUT_FILENO, &[byte]);
+}
+
+// The end of a line: whether it was taken.
+fn put_end() -> bool {
+    if io::write_all(STDOUT_FILENO, &[NEWLINE]) {
+        return true;
+    }
+    os::fail(b"desk_run: cannot write");
+    false
 }
 
 fn put_word(w: Word) {
@@ -129,7 +141,8 @@ fn put_answer(answer: Answer) {
     }
 }
 
-fn put_said(said: Said) {
+// A step's line, and whether it was taken.
+fn put_said(said: Said) -> bool {
     let answer = said.answer;
     put_answer(answer);
     let count = said.count;
@@ -141,7 +154,7 @@ fn put_said(said: Said) {
         }
         i += 1;
     }
-    put_byte(NEWLINE);
+    put_end()
 }
 
 // One step, if the input has one more.
@@ -163,12 +176,9 @@ fn take_turn(d: Desk) -> Turn {
     }
     let o = step(d, kind.value as u8, job.value, cell.value);
     let said = o.said;
-    put_said(said);
+    let done = put_said(said);
     let after = o.desk;
-    Turn {
-        desk: after,
-        done: true,
-    }
+    Turn { desk: after, done }
 }
 
 // All the steps. Nothing says that the input ends, so the turns are counted down.
@@ -188,7 +198,7 @@ fn run(d: Desk) {
 // A start that is refused, as an answer.
 fn put_refusal(why: Refusal) {
     put_answer(Answer::No(why));
-    put_byte(NEWLINE);
+    put_end();
 }
 
 // The desk started at a first number, and all its steps.

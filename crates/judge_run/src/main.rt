@@ -48,6 +48,12 @@ struct Numbers {
     line: u32,
 }
 
+fn put_bytes(bytes: &[u8]) {
+    if !io::write_all(STDOUT_FILENO, bytes) {
+        os::fail(b"judge_run: cannot write");
+    }
+}
+
 fn put_mark() {
     io::write_all(STDOUT_FILENO, b"!\n");
 }
@@ -57,7 +63,7 @@ fn put_verdict(said: Verdict, order: &[u8; PLACES]) {
     let mut out = io::buffer();
     match write_verdict(said, order, &mut out) {
         Written::Next(next) => {
-            io::write_all(STDOUT_FILENO, &out[0..next]);
+            put_bytes(&out[0..next]);
         }
         Written::Refused(_) => put_mark(),
     }
@@ -261,6 +267,17 @@ fn take_chunk(before: Case, chunk: &[u8], text: &mut [u8]) -> Case
     case
 }
 
+// One read of the input, and how many bytes came.
+fn read_some(input: &mut [u8]) -> usize
+    ensures { λ r. ⌜ r ≤ length (now (input .exit)) ⌝ }
+{
+    let got = libc::read(STDIN_FILENO, input);
+    if got < 0 {
+        os::fail(b"judge_run: cannot read");
+    }
+    io::count(got, input)
+}
+
 // Reads chunk after chunk. Nothing says that input ends, so the loop counts down from a number of turns that no run uses up.
 fn take_all(input: &mut [u8], text: &mut [u8]) {
     let mut case = Case {
@@ -271,11 +288,10 @@ fn take_all(input: &mut [u8], text: &mut [u8]) {
     };
     let mut turns = u64::MAX;
     while turns > 0 {
-        let got = libc::read(STDIN_FILENO, input);
-        if got <= 0 {
+        let n = read_some(input);
+        if n == 0 {
             break;
         }
-        let n = io::count(got, input);
         case = take_chunk(case, &input[0..n], text);
         turns -= 1;
     }

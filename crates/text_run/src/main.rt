@@ -99,7 +99,20 @@ fn history(out: &mut [u8], at: usize, line: u64, bytes: &[u8]) -> usize
 fn flush(out: &[u8], at: usize)
     requires { ⌜ at ≤ length (now out) ⌝ }
 {
-    io::write_all(STDOUT_FILENO, &out[0..at]);
+    if !io::write_all(STDOUT_FILENO, &out[0..at]) {
+        os::fail(b"text_run: cannot write");
+    }
+}
+
+// One read of the input, and how many bytes came.
+fn read_some(input: &mut [u8]) -> usize
+    ensures { λ r. ⌜ r ≤ length (now (input .exit)) ⌝ }
+{
+    let got = libc::read(STDIN_FILENO, input);
+    if got < 0 {
+        os::fail(b"text_run: cannot read");
+    }
+    io::count(got, input)
 }
 
 // A place from which a line's records fit: the place given, or the first once all before it is written out.
@@ -166,11 +179,10 @@ fn report_all(input: &mut [u8], out: &mut [u8]) {
     };
     let mut turns = u64::MAX;
     while turns > 0 {
-        let got = libc::read(STDIN_FILENO, input);
-        if got <= 0 {
+        let n = read_some(input);
+        if n == 0 {
             break;
         }
-        let n = io::count(got, input);
         progress = report_chunk(progress, &input[0..n], out);
         turns -= 1;
     }

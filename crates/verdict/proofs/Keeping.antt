@@ -1,16 +1,16 @@
 -- What is kept of chunks that come one after the other: a chunk kept byte by byte, and behind what was kept before it; and the line on all of them.
 -- Assumes nothing.
-use Prim.Native.Nat.{ℕ, suc, _+_, _-_, _≤_, _<_, min}
+use Prim.Native.Nat.{ℕ, _+_, _-_, _≤_, _<_, min}
 use mathlib.Core.Path.{_≡_, refl, sym, ap, ap₂, _∙_}
 use mathlib.Core.Bool.{true, false}
-use mathlib.Core.List.{List, [], _∷_, _++_}
+use mathlib.Core.List.{List, [], _++_}
 use native.Mathlib.Numerals.{add-one}
 use native.Mathlib.Nat.{zero-add, sub-zero}
 use native.Mathlib.Omega.{arith}
 use lib.ListN.{length, take, drop, set, getD, length-append}
 use lib.Dec.{leb}
 use borrow.Author.Tests.{leb-true, leb-false}
-use lib.Seq.{take-all, paste, paste-zero, paste-suc, length-paste, take-paste, drop-paste, take-length, take-append-add, drop-drop}
+use lib.Seq.{take-all, paste, paste-zero, paste-suc, take-paste, drop-paste, take-length, take-append-add, drop-drop}
 use Rattle.laws.specs.Choice.{by-test}
 use Rattle.terms.specs.Limits.{judgedBytes}
 use Rattle.verdicts.specs.VerdictLine.{verdictOf}

@@ -1,5 +1,5 @@
 -- What the verdict program keeps of the bytes that it reads, and what it says of them (01, The judge's rules; 01, refusal 16).
-use Prim.Native.Nat.{ℕ, _+_, _-_, _≤_, min}
+use Prim.Native.Nat.{ℕ, _-_, _≤_, min}
 use mathlib.Core.Path.{_≡_}
 use mathlib.Core.Bool.{Bool}
 use mathlib.Core.List.{List, []}

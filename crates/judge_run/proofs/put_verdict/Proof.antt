@@ -19,17 +19,17 @@ write-verdict-requires c κs = search needs
 enum-known-next : tie.Need-enum-known-next
 enum-known-next c = search needs
 
-sub-write-all : tie.Need-sub-write-all
-sub-write-all c = search needs
+sub-put-bytes : tie.Need-sub-put-bytes
+sub-put-bytes c = search needs
 
-part-write-all-start : tie.Need-part-write-all-start
-part-write-all-start c = search needs
+part-put-bytes-start : tie.Need-part-put-bytes-start
+part-put-bytes-start c = search needs
 
-part-write-all-end : tie.Need-part-write-all-end
-part-write-all-end c = let h = next-told _ _ _ _ (sym (c .before .before .before .before .before .write-verdict .ensures .0) ∙ c .before .before .next .given .1) in omega arith
+part-put-bytes-end : tie.Need-part-put-bytes-end
+part-put-bytes-end c = let h = next-told _ _ _ _ (sym (c .before .before .before .before .before .write-verdict .ensures .0) ∙ c .before .before .next .given .1) in omega arith
 
-write-all-requires : tie.Need-write-all-requires
-write-all-requires c κs = search needs
+put-bytes-requires : tie.Need-put-bytes-requires
+put-bytes-requires c κs = search needs
 
 enum-told : tie.Need-enum-told
 enum-told c = search needs
@@ -51,10 +51,10 @@ put-verdict-spec =
     slice-aggregate-write-verdict
     write-verdict-requires
     enum-known-next
-    sub-write-all
-    part-write-all-start
-    part-write-all-end
-    write-all-requires
+    sub-put-bytes
+    part-put-bytes-start
+    part-put-bytes-end
+    put-bytes-requires
     enum-told
     put-mark-requires
     returns

@@ -19,11 +19,8 @@ abbrev μ-loop : tie.MeasureT-loop
 loop-holds : tie.Need-loop-holds Inv-loop μ-loop
 loop-holds c = search needs
 
-read-requires : tie.Need-read-requires Inv-loop μ-loop
-read-requires c κs = search needs
-
-count-requires : tie.Need-count-requires Inv-loop μ-loop
-count-requires c κs = search needs
+read-some-requires : tie.Need-read-some-requires Inv-loop μ-loop
+read-some-requires c κs = search needs
 
 sub-take-chunk : tie.Need-sub-take-chunk Inv-loop μ-loop
 sub-take-chunk c = search needs
@@ -65,8 +62,7 @@ take-all-spec =
     Inv-loop
     μ-loop
     loop-holds
-    read-requires
-    count-requires
+    read-some-requires
     sub-take-chunk
     part-take-chunk-start
     part-take-chunk-end

@@ -24,11 +24,8 @@ started-requires c κs = search needs
 loop-holds : tie.Need-loop-holds Inv-loop μ-loop
 loop-holds c = (rw (c .started .ensures) fresh-sized, search needs, refl, refl)
 
-read-requires : tie.Need-read-requires Inv-loop μ-loop
-read-requires c κs = search needs
-
-count-requires : tie.Need-count-requires Inv-loop μ-loop
-count-requires c κs = search needs
+read-some-requires : tie.Need-read-some-requires Inv-loop μ-loop
+read-some-requires c κs = search needs
 
 sub-report-chunk : tie.Need-sub-report-chunk Inv-loop μ-loop
 sub-report-chunk c = search needs
@@ -71,8 +68,7 @@ report-all-spec =
     μ-loop
     started-requires
     loop-holds
-    read-requires
-    count-requires
+    read-some-requires
     sub-report-chunk
     part-report-chunk-start
     part-report-chunk-end
