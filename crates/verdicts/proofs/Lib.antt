@@ -34,4 +34,3 @@ pub mod ReadBack
 pub mod WrittenHistories
 pub mod TextBack
 pub mod Examples
-pub mod JudgedSet

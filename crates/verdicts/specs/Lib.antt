@@ -8,4 +8,5 @@ pub mod Arrays
 pub mod LineTable
 pub mod Answers
 pub mod AsWorded
+pub mod JudgedSet
 pub mod Written
