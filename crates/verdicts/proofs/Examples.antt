@@ -1,19 +1,26 @@
--- Histories, computed: the empty one, one with a k and a committed job without actions, a walk that starts off its cycle, a knot of three that shows the direction,
--- and where there is a choice: an order behind two predecessors, a job with two remaining predecessors, and two cycles.
+-- Histories and texts, computed. The histories: the empty one, one with a k and a committed job without actions, a walk that starts off its cycle, a knot of three that shows the direction,
+-- and where there is a choice: an order behind two predecessors, a job with two remaining predecessors, and two cycles. The texts: specs/JudgedSet.antt.
 -- Assumes nothing.
 use Prim.Native.Nat.{ℕ}
 use mathlib.Core.Path.{_≡_, refl}
 use mathlib.Core.List.{List, [], _∷_, map}
 use Rattle.laws.specs.Lists.{member, put}
+use Rattle.conflict.specs.Modes.{recorded}
 use Rattle.conflict.specs.declared.action.Kind.the-variants.{Read, Write, Increment}
 use Rattle.conflict.specs.declared.action.Mark.the-variants.{Commit, Back}
 use Rattle.conflict.specs.declared.action.Event.{Event}
 use Rattle.conflict.specs.declared.action.Event.the-variants.{Does, Ends}
 use Rattle.conflict.specs.Schedule.{agree, conflicts, keep, touches, edge}
 use Rattle.conflict.specs.History.{History, isCommit, isBack, marked, partOf, committedPart, commitOrder}
+use Rattle.formats.specs.Quoted.{bytes}
+use Rattle.formats.specs.Lines.{isDigit, digitsOf, afterDigits, valueFrom, shortest, numberThen, ending, cellPart, jobPart, letterPart, readLine}
+use Rattle.formats.specs.Split.{inFront, linesOf}
 use Rattle.verdicts.specs.Order.{preceded, first, ready, without, ends, leads, taken, orderOf, stuck}
 use Rattle.verdicts.specs.Knot.{predecessor, upTo, from, walk, least, turnTo, turn, knotIn}
 use Rattle.verdicts.specs.Judged.{Finding, orderly, knotted, findingBy, judged, insert, sorted, jobsOf, findingOf}
+use Rattle.verdicts.specs.HistoryText.{readingsOf, faultOfGood, faultOf, lineFault, endedAfter, orLater, firstFaulty, eventOf, eventsIn, bare}
+use Rattle.verdicts.specs.Judgement.{filled, sayFinding, sayLines, judgementOf, inNumbers}
+use Rattle.verdicts.specs.JudgedSet.{tells, told, cases}
 
 -- cell A of the papers is 0
 abbrev A : ℕ
@@ -88,3 +95,8 @@ samples =
 pub tried : map (λ s. findingOf (s .history)) samples ≡ map (λ s. s .finding) samples
 unfolding member agree conflicts keep touches edge isCommit isBack marked partOf committedPart put commitOrder preceded first ready without ends leads taken orderOf stuck predecessor upTo from walk least turnTo turn knotIn findingBy judged insert sorted jobsOf findingOf
 tried = refl
+
+-- each of these texts is told so
+pub all-told : map tells cases ≡ map told cases
+unfolding bytes isDigit digitsOf afterDigits valueFrom shortest numberThen ending cellPart jobPart letterPart readLine inFront linesOf member put recorded agree conflicts keep touches edge isCommit isBack marked partOf committedPart commitOrder preceded first ready without ends leads taken orderOf stuck predecessor upTo from walk least turnTo turn knotIn findingBy judged insert sorted jobsOf findingOf readingsOf faultOfGood faultOf lineFault endedAfter orLater firstFaulty eventOf eventsIn bare filled sayFinding sayLines judgementOf inNumbers
+all-told = refl

@@ -36,4 +36,3 @@ pub mod Printed
 pub mod VerdictWords
 pub mod TextBack
 pub mod Examples
-pub mod JudgedSet

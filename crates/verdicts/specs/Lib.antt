@@ -10,3 +10,4 @@ pub mod Answers
 pub mod KeepsLimits
 pub mod VerdictLine
 pub mod AsWorded
+pub mod JudgedSet

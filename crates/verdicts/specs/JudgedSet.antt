@@ -1,22 +1,11 @@
--- The judge at texts of bytes: every refusal of a line and of the buffer, each two neighbours of 9, 12, 2, 13 on one line, what is no fault, and what is judged then; one list, with the answer in numbers, the line handed back and the buffer (01, Refusals by number; 01, Lines).
--- Refusal 11 is at line 4,097 of any text: proofs/AsWorded.antt. Assumes nothing.
+-- The judge at texts of bytes: every refusal of a line and of the buffer, each two neighbours of 9, 12, 2, 13 on one line, what is no fault, and what is judged then (01, Refusals by number; 01, Lines).
+-- One list, with the answer in numbers, the line handed back and the buffer; that each is told so is `all-told` (proofs/Examples.antt). Refusal 11 is at line 4,097 of any text: `too-many-exactly` (proofs/AsWorded.antt).
 use Prim.Native.Nat.{ℕ, _-_}
 use Prim.Native.String.{String}
-use mathlib.Core.Path.{_≡_, refl}
-use mathlib.Core.List.{List, [], _∷_, _++_, map}
+use mathlib.Core.List.{List, [], _∷_, _++_}
 use lib.ListN.{length, replicate}
-use Rattle.laws.specs.Lists.{member, put}
-use Rattle.conflict.specs.Modes.{recorded}
-use Rattle.conflict.specs.Schedule.{agree, conflicts, keep, touches, edge}
-use Rattle.conflict.specs.History.{isCommit, isBack, marked, partOf, committedPart, commitOrder}
 use Rattle.formats.specs.Quoted.{bytes}
-use Rattle.formats.specs.Lines.{isDigit, digitsOf, afterDigits, valueFrom, shortest, numberThen, ending, cellPart, jobPart, letterPart, readLine}
-use Rattle.formats.specs.Split.{inFront, linesOf}
-use Rattle.verdicts.specs.Order.{preceded, first, ready, without, ends, leads, taken, orderOf, stuck}
-use Rattle.verdicts.specs.Knot.{predecessor, upTo, from, walk, least, turnTo, turn, knotIn}
-use Rattle.verdicts.specs.Judged.{findingBy, judged, insert, sorted, jobsOf, findingOf}
-use Rattle.verdicts.specs.HistoryText.{readingsOf, faultOfGood, faultOf, lineFault, endedAfter, orLater, firstFaulty, eventOf, eventsIn, bare}
-use Rattle.verdicts.specs.Judgement.{filled, sayFinding, sayLines, judgementOf, inNumbers}
+use Rattle.verdicts.specs.Judgement.{judgementOf, inNumbers}
 
 -- what is told of a text: the answer in three numbers (0 orderly and 1 knot with the length, 2 a refusal with its number and line number), the line handed back, and the buffer
 pub record Telling : Type 0 where
@@ -33,15 +22,15 @@ pub record Case : Type 0 where
   pub jobs : List ℕ
 
 -- a text that has a faulty line, with room for every job: the refusal's number, the line number and the line
-abbrev faulty : String → ℕ → ℕ → String → Case
+abbrev pub faulty : String → ℕ → ℕ → String → Case
 faulty text number n line = record { text = text; places = 255; answer = 2 ∷ number ∷ n ∷ []; line = line; jobs = [] }
 
 -- a text in which there is no fault and no knot: so many jobs, in this order
-abbrev fine : String → ℕ → List ℕ → Case
+abbrev pub fine : String → ℕ → List ℕ → Case
 fine text n jobs = record { text = text; places = 255; answer = 0 ∷ n ∷ 0 ∷ []; line = ""; jobs = jobs }
 
 -- a text in which there is no fault and a knot: so many jobs, in this order
-abbrev tied : String → ℕ → List ℕ → Case
+abbrev pub tied : String → ℕ → List ℕ → Case
 tied text n jobs = record { text = text; places = 255; answer = 1 ∷ n ∷ 0 ∷ []; line = ""; jobs = jobs }
 
 abbrev pub cases : List Case
@@ -100,14 +89,9 @@ cases =
     ∷ []
 
 -- what the judge tells of a text
-abbrev tells : Case → Telling
+abbrev pub tells : Case → Telling
 tells c = let j = judgementOf (bytes (c .text)) (replicate (c .places) 9) in record { answer = inNumbers (j .said); line = j .line; order = j .order }
 
 -- what it has to tell
-abbrev told : Case → Telling
+abbrev pub told : Case → Telling
 told c = record { answer = c .answer; line = bytes (c .line); order = c .jobs ++ replicate (c .places - length (c .jobs)) 9 }
-
--- each of these texts is told so
-pub all-told : map tells cases ≡ map told cases
-unfolding bytes isDigit digitsOf afterDigits valueFrom shortest numberThen ending cellPart jobPart letterPart readLine inFront linesOf member put recorded agree conflicts keep touches edge isCommit isBack marked partOf committedPart commitOrder preceded first ready without ends leads taken orderOf stuck predecessor upTo from walk least turnTo turn knotIn findingBy judged insert sorted jobsOf findingOf readingsOf faultOfGood faultOf lineFault endedAfter orLater firstFaulty eventOf eventsIn bare filled sayFinding sayLines judgementOf inNumbers
-all-told = refl
