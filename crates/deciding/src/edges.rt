@@ -102,7 +102,7 @@ fn meets_last<'a>(
     actions_conflict(action_at(codes, jobs, cells, x), other)
 }
 
-// Whether a line of xs stands before a line of ys, job j's, that it conflicts with. Lines on cells where the two jobs do not meet are passed over; of job j's lines on a cell the last of each kind decides; and the search is left at the first two found.
+// Whether a line of xs stands before a line of ys, job j's, that it conflicts with. The lines of xs are looked at from the last back, since a job mostly writes what it has read before; those on cells where the two jobs do not meet are passed over; of job j's lines on a cell the last of each kind decides; and the search is left at the first two found.
 fn meets<'a>(
     codes: &'a [u8; JUDGED_LINES],
     jobs: &'a [u8; JUDGED_LINES],
@@ -121,10 +121,10 @@ fn meets<'a>(
         return false;
     }
     let mut found = false;
-    let mut i = 0;
-    'outer: while i < xs.len() {
+    let mut i = xs.len();
+    'outer: while 0 < i {
+        i -= 1;
         let x = xs[i] as usize;
-        i += 1;
         if !has_cell(mask, wide(cells[x])) {
             continue;
         }

@@ -6,11 +6,11 @@ use mathlib.Core.Bool.{false}
 use native.Mathlib.Omega.{arith}
 use borrow.Author.Needs.{needs}
 use borrow.Author.Count.{below-none, below-more}
-use lib.ListN.{length, drop}
+use lib.ListN.{length, take}
 use Rattle.laws.specs.Choice.{was-true, was-false}
 use Rattle.deciding.specs.Meeting.{clashing, meetings}
 use Rattle.deciding.specs.Reaching.{lastMet}
-use Rattle.deciding.proofs.Searching.{member-at, meets-past, meets-found, meets-end}
+use Rattle.deciding.proofs.Searching.{member-at, meets-whole, meets-past, meets-found, meets-end}
 use Rattle.deciding.proofs.Reaching.{apart-none, reach-found, reach-none, masked-none, in-mask}
 use Rattle.deciding.proofs.edges.meets.Statement.{statement}
 use Rattle.deciding.proofs.edges.meets.Tie as tie
@@ -22,10 +22,10 @@ abbrev μ-loop : tie.MeasureT-loop
 μ-loop codes jobs cells lasts mask xs ys j found₀ i x k₀ found k = 3 - k
 
 abbrev Inv-outer : tie.InvT-outer
-Inv-outer codes jobs cells lasts mask xs ys j found₀ i₀ found i = (i ≤ length xs) × (found ≡ false) × (meetings (clashing codes jobs cells) xs ys ≡ meetings (clashing codes jobs cells) (drop i xs) ys)
+Inv-outer codes jobs cells lasts mask xs ys j found₀ i₀ found i = (i ≤ length xs) × (found ≡ false) × (meetings (clashing codes jobs cells) xs ys ≡ meetings (clashing codes jobs cells) (take i xs) ys)
 
 abbrev μ-outer : tie.MeasureT-outer
-μ-outer codes jobs cells lasts mask xs ys j found₀ i₀ found i = length xs - i
+μ-outer codes jobs cells lasts mask xs ys j found₀ i₀ found i = i
 
 apart-requires : tie.Need-apart-requires Inv-loop μ-loop Inv-outer μ-outer
 apart-requires c κs = (c .before .before .pre .0 .1, c .before .before .pre .0 .2)
@@ -34,7 +34,10 @@ returns : tie.Need-returns Inv-loop μ-loop Inv-outer μ-outer
 returns c = apart-none _ _ _ (c .before .apart .ensures (c .if1 .taken))
 
 outer-holds : tie.Need-outer-holds Inv-loop μ-loop Inv-outer μ-outer
-outer-holds c = (omega arith, refl, refl)
+outer-holds c = (omega arith, refl, meets-whole _ _ _)
+
+sub-i : tie.Need-sub-i Inv-loop μ-loop Inv-outer μ-outer
+sub-i c = omega arith
 
 mul-x : tie.Need-mul-x Inv-loop μ-loop Inv-outer μ-outer
 mul-x c = omega arith
@@ -43,10 +46,7 @@ shared-slice-read-x : tie.Need-shared-slice-read-x Inv-loop μ-loop Inv-outer μ
 shared-slice-read-x c = omega arith
 
 cast-x : tie.Need-cast-x Inv-loop μ-loop Inv-outer μ-outer
-cast-x c = omega (arith, c .shared-slice-known3 .given (c .before .before .outer .i))
-
-add-i : tie.Need-add-i Inv-loop μ-loop Inv-outer μ-outer
-add-i c = omega arith
+cast-x c = omega (arith, c .shared-slice-known3 .given (c .before .before .outer .i - 1))
 
 element-copy-out-wide : tie.Need-element-copy-out-wide Inv-loop μ-loop Inv-outer μ-outer
 element-copy-out-wide c = c .before .before .before .before .before .before .before .pre .0 .1 .known _
@@ -64,7 +64,7 @@ outer-again : tie.Need-outer-again Inv-loop μ-loop Inv-outer μ-outer
 outer-again c = (
   omega arith,
   c .before .before .before .before .before .before .outer .inv .1,
-  meets-past _ _ _ (c .before .before .before .before .before .before .outer .i) (omega arith)
+  meets-past _ _ _ (c .before .before .before .before .before .before .outer .i) (omega arith) (omega arith)
       (masked-none _ _ _ _ _ _ (c .before .before .before .before .before .before .before .before .before .before .before .pre .1 .0) _ _ _ _ _ (c .before .before .before .before .before .before .before .before .before .before .before .pre .1 .1) (member-at _ _ (omega arith)) (c .before .before .wide .ensures) (c .before .has-cell .ensures) (c .if2 .taken))
       (c .before .before .before .before .before .before .outer .inv .2),
 )
@@ -79,7 +79,7 @@ outer-again-2 : tie.Need-outer-again-2 Inv-loop μ-loop Inv-outer μ-outer
 outer-again-2 c = (
   omega arith,
   c .before .loop .inv .1,
-  meets-past _ _ _ (c .before .before .before .before .before .before .before .before .outer .i) (omega arith) (reach-none _ _ _ _ _ _ (c .before .before .before .before .before .before .before .before .before .before .before .before .before .pre .1 .0) _ (λ y h. c .before .loop .inv .2 y (omega arith))) (c .before .before .before .before .before .before .before .before .outer .inv .2),
+  meets-past _ _ _ (c .before .before .before .before .before .before .before .before .outer .i) (omega arith) (omega arith) (reach-none _ _ _ _ _ _ (c .before .before .before .before .before .before .before .before .before .before .before .before .before .pre .1 .0) _ (λ y h. c .before .loop .inv .2 y (omega arith))) (c .before .before .before .before .before .before .before .before .outer .inv .2),
 )
 
 meets-last-requires : tie.Need-meets-last-requires Inv-loop μ-loop Inv-outer μ-outer
@@ -99,7 +99,7 @@ returns-2 c = c .before .outer .inv .1 ∙ meets-end _ _ _ (c .before .outer .i)
 
 returns-3 : tie.Need-returns-3 Inv-loop μ-loop Inv-outer μ-outer
 returns-3 c =
-    meets-found _ _ _ (c .before .before .before .before .before .before .before .before .before .before .outer .i) (omega arith)
+    meets-found _ _ _ (c .before .before .before .before .before .before .before .before .before .before .outer .i) (omega arith) (omega arith)
     (reach-found _ _ _ _ _ _ (c .before .before .before .before .before .before .before .before .before .before .before .before .before .before .before .pre .1 .0) _ _ (omega arith) (in-mask _ _ _ _ (c .before .before .before .before .before .before .wide .ensures) (c .before .before .before .before .before .has-cell .ensures) (c .before .before .before .before .if2 .left)) (was-true _ (c .before .meets-last .ensures) (c .if3 .taken)))
     (c .before .before .before .before .before .before .before .before .before .before .outer .inv .2)
 
@@ -114,10 +114,10 @@ meets-spec =
     apart-requires
     returns
     outer-holds
+    sub-i
     mul-x
     shared-slice-read-x
     cast-x
-    add-i
     element-copy-out-wide
     wide-requires
     has-cell-requires
