@@ -6,26 +6,15 @@ use mathlib.Core.Bool.{true, false}
 use mathlib.Core.List.{List}
 use native.Mathlib.Omega.{arith}
 use lib.ListN.{length}
-use Rattle.terms.specs.declared.letters.Letter.{Letter}
-use Rattle.terms.specs.Letters.{byteOf, ofRequests}
-use Rattle.formats.specs.declared.Reading.{Reading}
-use Rattle.formats.specs.declared.Reading.the-variants.{Good, Bad}
 use Rattle.formats.specs.declared.splitter.Splitter.{Splitter}
 use Rattle.formats.specs.declared.splitter.Cut.{Cut}
-use Rattle.formats.specs.Lines.{readLine}
-use Rattle.formats.specs.Split.{cutOf, foundAt}
-use Rattle.formats.specs.Wrote.{Wrote}
+use Rattle.formats.specs.Split.{cutOf}
 use Rattle.formats.proofs.Cuts.{cut-ahead}
-use Rattle.formats.proofs.WroteLaws.{wrote-as, wrote-length}
-use Rattle.board.specs.declared.state.Outcome.{Outcome}
-use Rattle.board.specs.Steps.{stepOf}
 use Rattle.runs.specs.declared.Clerk.{Clerk}
 use Rattle.runs.specs.declared.View.{View}
 use Rattle.runs.specs.declared.Worked.{Worked}
-use Rattle.runs.specs.Work.{viewed, unended, roomy, due, Turn, turning, cutting, Working, stopped, workBy, workOf}
-use Rattle.runs.proofs.Turns.{work-done, work-full, Rest, work-on, turn-passes, turn-bad, turn-good}
-use Rattle.clerk.specs.Parts.{lineRecords}
-use Rattle.clerk.proofs.Telling.{records-told}
+use Rattle.runs.specs.Work.{roomy, due, Turn, turning, cutting, Working, stopped, workBy, workOf}
+use Rattle.runs.proofs.Turns.{work-done, work-full, Rest, work-on, turn-passes}
 
 -- where the work has come to, and what the buffer then holds, for a call with these arguments
 abbrev pub Works : View → Clerk → List ℕ → ℕ → List ℕ → ℕ → Worked → List ℕ → Type 0
@@ -86,17 +75,6 @@ module _ (view : View) (first : Clerk) (chunk : List ℕ) (from : ℕ) (before :
       pub left-passes : due (cut .splitter) ≡ false → Left with-cut (cut .next) out place
       left-passes f = left-cut (record { clerk = with-cut; at = place; out = out }) (turn-passes view with-cut out place f) refl
 
-      -- a bad line is answered
-      pub left-bad : {to : ℕ} {after : List ℕ} {r : Reading} → due (cut .splitter) ≡ true → r ≡ readLine ofRequests (foundAt (cut .splitter) .bytes) → r ≡ Bad →
-          Wrote place to (viewed view (unended (cut .splitter .line))) out after → Left with-cut (cut .next) after to
-      left-bad {to} {after} d e f w = left-cut (record { clerk = with-cut; at = to; out = after }) (turn-bad view with-cut out place d (sym e ∙ f) w) (wrote-length w)
-
-      -- a good line is answered
-      pub left-good : {to : ℕ} {after : List ℕ} {r : Reading} {l : Letter} {job cell kind : ℕ} {o : Outcome} → due (cut .splitter) ≡ true →
-          r ≡ readLine ofRequests (foundAt (cut .splitter) .bytes) → r ≡ Good l job cell → kind ≡ byteOf l → o ≡ stepOf (c .desk) kind job cell →
-          Wrote place to (lineRecords view (cut .splitter .line) l cell (o .said)) out after →
-          Left (record { desk = o .desk; splitter = cut .splitter }) (cut .next) after to
-      left-good {to} {after} {l = l} {job} {cell} {kind} {o} d e f k s w =
-          left-cut (record { clerk = record { desk = o .desk; splitter = cut .splitter }; at = to; out = after })
-          (turn-good view with-cut out place d (sym e ∙ f) (s ∙ ap (λ n. stepOf (c .desk) n job cell) k) (wrote-as w (records-told view (cut .splitter .line) l job cell (o .said))))
-          (wrote-length w)
+      -- the line is answered
+      pub left-answers : (t : Turn) → turning view with-cut out place ≡ t → length (t .out) ≡ length out → Left (t .clerk) (cut .next) (t .out) (t .at)
+      left-answers = left-cut

@@ -4,5 +4,6 @@ pub mod Noting
 pub mod Waking
 pub mod Telling
 pub mod Holding
+pub mod Answering
 pub mod Going
 pub mod Unique

@@ -3,7 +3,6 @@
 use Prim.Native.Nat.{ℕ}
 use mathlib.Core.Path.{_≡_, refl, sym, ap, ap₂, _∙_}
 use mathlib.Core.List.{List, [], _∷_, _++_}
-use lib.ListN.{take}
 use Rattle.terms.specs.declared.letters.Letter.{Letter}
 use Rattle.terms.specs.declared.letters.Letter.the-variants.{Begin, Commit, GiveUp, Retry, Back, Asks}
 use Rattle.terms.specs.declared.letters.Lettered.{Lettered}
@@ -17,14 +16,12 @@ use Rattle.rules.specs.declared.Answer.the-variants.{Go, Wait, Back as goes-bac
 use Rattle.rules.specs.Desk.{Request}
 use Rattle.rules.specs.Step.{wentBy, ownRecords, recordsOf}
 use Rattle.rules.specs.Step as step
-use Rattle.board.specs.declared.state.Said.{Said}
 use Rattle.formats.specs.EventRecords.{textOf}
 use Rattle.formats.proofs.RecordLines.{text-append}
 use Rattle.runs.specs.declared.View.{View}
 use Rattle.runs.specs.declared.View.the-variants.{Answers, History as TheHistory}
 use Rattle.runs.specs.Run.{wakeLines, answerLines, historyLines}
 use Rattle.runs.specs.Work.{viewed}
-use Rattle.runs.proofs.Turns.{toldBy}
 use Rattle.clerk.specs.Parts.{asking, firstRecord, wakeRecord, wakeRecords, lineRecords}
 
 -- what the history records of a request that goes does not name the job that asked
@@ -59,10 +56,10 @@ wakes-noted line [] = refl
 wakes-noted line (a ∷ ws) = ap (λ l. wakeRecord TheHistory line a ++ l) (wakes-noted line ws)
 
 -- all records of a line whose request is good are those of what is told of it
-pub records-told : (view : View) (line : ℕ) (l : Letter) (job cell : ℕ) (said : Said) →
-    lineRecords view line l cell said ≡ viewed view (toldBy line l job cell said)
+pub records-told : (view : View) (line : ℕ) (l : Letter) (job cell : ℕ) (a : Answer) (ws : List Action) →
+    lineRecords view line l cell a ws ≡ viewed view (record { line = line; request = record { kind = byteOf l; job = job; cell = cell }; said = a; wakes = ws })
 unfolding lineRecords viewed firstRecord answerLines historyLines recordsOf
-records-told Answers line l job cell said = ap (λ r. firstRecord Answers line l cell (said .answer) ++ r) (wakes-answered line (take (said .count) (said .wakes)))
-records-told TheHistory line l job cell said =
-    ap₂ (λ h k. h ++ k) (ap textOf (own-of l job cell (said .answer))) (wakes-noted line (take (said .count) (said .wakes)))
-    ∙ sym (text-append (ownRecords (record { kind = byteOf l; job = job; cell = cell }) (said .answer)) (step.wakeRecords (take (said .count) (said .wakes))))
+records-told Answers line l job cell a ws = ap (λ r. firstRecord Answers line l cell a ++ r) (wakes-answered line ws)
+records-told TheHistory line l job cell a ws =
+    ap₂ (λ h k. h ++ k) (ap textOf (own-of l job cell a)) (wakes-noted line ws)
+    ∙ sym (text-append (ownRecords (record { kind = byteOf l; job = job; cell = cell }) a) (step.wakeRecords ws))

@@ -12,7 +12,7 @@ use Rattle.conflict.specs.declared.action.Action.{Action}
 use Rattle.formats.specs.Records.{longestRecord}
 use Rattle.formats.specs.Wrote.{Wrote}
 use Rattle.formats.proofs.WroteLaws.{wrote-then, wrote-as}
-use Rattle.board.specs.declared.state.Said.{Said}
+use Rattle.rules.specs.declared.Answer.{Answer}
 use Rattle.runs.specs.declared.View.{View}
 use Rattle.clerk.specs.Parts.{Added, firstRecord, wakeRecord, wakeRecords, lineRecords}
 use Rattle.clerk.proofs.Adding.{added-none, added-as}
@@ -61,14 +61,14 @@ pub wakes-told : (view : View) (line : ℕ) (ws : List Action) (i count : ℕ) {
     Added most at e (wakeRecords view line (take i ws)) b m → Wrote at e (wakeRecords view line (take count ws)) b m
 wakes-told view line ws i count h g w = wrote-as (w .wrote) (let e : i ≡ count = omega arith in ap (λ n. wakeRecords view line (take n ws)) e)
 
-module _ (view : View) (line : ℕ) (l : Letter) (cell : ℕ) (said : Said) where
+module _ (view : View) (line : ℕ) (l : Letter) (cell : ℕ) (answer : Answer) (ws : List Action) (count : ℕ) where
   -- where nobody wakes, the first record is all
-  pub records-quiet : {at e : ℕ} {b m : List ℕ} → said .count ≡ 0 → Added longestRecord at e (firstRecord view line l cell (said .answer)) b m → Wrote at e (lineRecords view line l cell said) b m
+  pub records-quiet : {at e : ℕ} {b m : List ℕ} → count ≡ 0 → Added longestRecord at e (firstRecord view line l cell answer) b m → Wrote at e (lineRecords view line l cell answer (take count ws)) b m
   unfolding lineRecords wakeRecords
   records-quiet h w = wrote-as (w .wrote) (sym (append-nil _) ∙ rw h)
 
   -- and else the wakes stand behind it
-  pub records-woken : {at a e : ℕ} {b m p : List ℕ} → Added longestRecord at a (firstRecord view line l cell (said .answer)) b m →
-      Wrote a e (wakeRecords view line (take (said .count) (said .wakes))) m p → Wrote at e (lineRecords view line l cell said) b p
+  pub records-woken : {at a e : ℕ} {b m p : List ℕ} → Added longestRecord at a (firstRecord view line l cell answer) b m →
+      Wrote a e (wakeRecords view line (take count ws)) m p → Wrote at e (lineRecords view line l cell answer (take count ws)) b p
   unfolding lineRecords
   records-woken w v = wrote-then (w .wrote) v

@@ -1,7 +1,7 @@
 -- The records of one line as the code writes them, one after another: the first, if there is one, and then one for each wake (01, Lines).
 use Prim.Native.Nat.{ℕ, _≤_}
 use mathlib.Core.List.{List, [], _∷_, _++_}
-use lib.ListN.{length, take}
+use lib.ListN.{length}
 use Rattle.terms.specs.declared.letters.Letter.{Letter}
 use Rattle.terms.specs.declared.letters.Letter.the-variants.{Asks}
 use Rattle.terms.specs.declared.words.Word.the-variants.{Wake}
@@ -12,7 +12,6 @@ use Rattle.formats.specs.EventRecords.{eventLine, textOf}
 use Rattle.formats.specs.Records.{answerRecord, lineRecord}
 use Rattle.formats.specs.Wrote.{Wrote}
 use Rattle.rules.specs.declared.Answer.{Answer}
-use Rattle.board.specs.declared.state.Said.{Said}
 use Rattle.runs.specs.declared.View.{View}
 use Rattle.runs.specs.declared.View.the-variants.{Answers, History}
 use Rattle.rules.specs.AnswerWords.{wordOf, numberBeside}
@@ -51,5 +50,5 @@ wakeRecords view line [] = []
 wakeRecords view line (a ∷ rest) = wakeRecord view line a ++ wakeRecords view line rest
 
 -- all records of a line whose request is good
-unfoldable pub lineRecords : View → ℕ → Letter → ℕ → Said → List ℕ
-lineRecords view line l cell said = firstRecord view line l cell (said .answer) ++ wakeRecords view line (take (said .count) (said .wakes))
+unfoldable pub lineRecords : View → ℕ → Letter → ℕ → Answer → List Action → List ℕ
+lineRecords view line l cell a wakes = firstRecord view line l cell a ++ wakeRecords view line wakes

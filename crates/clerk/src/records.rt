@@ -1,12 +1,13 @@
 // The records of one line in either view: the answer or what the history notes of it, and then the wakes (01, Lines).
-use board::state::Said;
 use conflict::action::Action;
 use conflict::action::Kind;
+use desk::wakes::wake_at;
 use formats::Written;
 use rules::Answer;
 use runs::View;
 use terms::letters::Ask;
 use terms::letters::Letter;
+use terms::limits::PLACES;
 use terms::refusals::Refusal;
 use terms::refusals::number_of;
 use terms::words::Word;
@@ -15,12 +16,14 @@ use text::writer::write_line;
 ghost use mathlib.Core.Path.{_≡_};
 ghost use mathlib.Core.Bool.{true};
 ghost use Prim.Native.Nat.{_+_, _≤_};
+ghost use mathlib.Core.List.{map};
 ghost use lib.ListN.{length, take};
 ghost use Rattle.terms.specs.Limits.{requestLines, lastNumber};
 ghost use Rattle.formats.specs.Records.{ofAnswers, answerRecord, longestRecord, lineRecord};
 ghost use Rattle.formats.specs.Wrote.{Wrote};
 ghost use Rattle.rules.specs.AnswerWords.{wordOf, numberBeside};
 ghost use Rattle.formats.specs.EventRecords.{askBy, textOf};
+ghost use Rattle.board.specs.Steps.{wakeAt};
 ghost use Rattle.rules.specs.Step.{wentBy, ownRecords};
 ghost use Rattle.terms.specs.declared.letters.Lettered.the-variants.{Known};
 ghost use Rattle.runs.specs.Work.{viewed, unended, wakesRoom, lineRoom};
@@ -175,25 +178,28 @@ fn put_wake(view: View, out: &mut [u8], at: usize, line: u64, a: Action) -> usiz
     }
 }
 
-// One record for each wake; there are never more than 32.
-fn put_wakes(
+// One record for each of the places woken, so many, with its number and what it waited for read off the desk's arrays.
+fn put_wakes<'a>(
     view: View,
     out: &mut [u8],
     at: usize,
     line: u64,
-    wakes: [Action; 32],
+    number: &'a [u32; PLACES],
+    cells: &'a [u8; PLACES],
+    ask: &'a [u8; PLACES],
+    woken: [u8; PLACES],
     count: usize,
 ) -> usize
     requires { ⌜ (line ≤ requestLines) × (at + wakesRoom ≤ length (now out)) ⌝ }
-    ensures { λ r. ⌜ Wrote at r (wakeRecords view line (take count wakes)) (now (out .entry)) (now (out .exit)) ⌝ }
+    ensures { λ r. ⌜ Wrote at r (wakeRecords view line (take count (map (wakeAt (now (number .entry)) (now (cells .entry)) (now (ask .entry))) woken))) (now (out .entry)) (now (out .exit)) ⌝ }
 {
     let mut next = at;
     let mut i: usize = 0;
-    while i < 32 {
+    while i < PLACES {
         if count <= i {
             break;
         }
-        let a = wakes[i];
+        let a = wake_at(number, cells, ask, woken[i] as usize);
         next = put_wake(view, out, next, line, a);
         i += 1;
     }
@@ -201,25 +207,28 @@ fn put_wakes(
 }
 
 // All records of a line whose request is good. Most steps wake nobody.
-pub fn put_records(
+pub fn put_records<'a>(
     view: View,
     out: &mut [u8],
     at: usize,
     line: u64,
     letter: Letter,
     cell: u32,
-    said: Said,
+    answer: Answer,
+    number: &'a [u32; PLACES],
+    cells: &'a [u8; PLACES],
+    ask: &'a [u8; PLACES],
+    woken: [u8; PLACES],
+    count: usize,
 ) -> usize
     requires { ⌜ (line ≤ requestLines) × (at + lineRoom ≤ length (now out)) ⌝ }
-    ensures { λ r. ⌜ Wrote at r (lineRecords view line letter cell said) (now (out .entry)) (now (out .exit)) ⌝ }
+    ensures { λ r. ⌜ Wrote at r (lineRecords view line letter cell answer (take count (map (wakeAt (now (number .entry)) (now (cells .entry)) (now (ask .entry))) woken))) (now (out .entry)) (now (out .exit)) ⌝ }
 {
-    let answer = said.answer;
     let next = put_first(view, out, at, line, letter, cell, answer);
-    if said.count == 0 {
+    if count == 0 {
         return next;
     }
-    let wakes = said.wakes;
-    put_wakes(view, out, next, line, wakes, said.count)
+    put_wakes(view, out, next, line, number, cells, ask, woken, count)
 }
 
 // The record of a bad line: refusal 9 among the answers, and none in the history.

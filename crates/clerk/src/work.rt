@@ -1,7 +1,9 @@
 // Line after line of a chunk: cut, read, step the desk, write the records (01, Lines).
 use crate::records::put_bad;
 use crate::records::put_records;
-use desk::step::step;
+use board::state::Desk;
+use board::state::SPOTS;
+use desk::step::step_on;
 use formats::Reading;
 use formats::splitter::KEPT;
 use formats::splitter::Splitter;
@@ -14,12 +16,15 @@ use terms::limits::PLACES;
 use terms::limits::REQUEST_LINES;
 use text::reader::read_request;
 ghost use mathlib.Core.Path.{_≡_};
-ghost use Prim.Native.Nat.{_+_};
+ghost use mathlib.Core.Bool.{true};
+ghost use Prim.Native.Nat.{_+_, _≤_};
 ghost use lib.Dec.{leb};
+ghost use lib.ListN.{length};
 ghost use Rattle.terms.specs.Letters.{ofRequests};
 ghost use Rattle.formats.specs.Lines.{readLine};
 ghost use Rattle.formats.specs.Split.{Found, foundAt};
-ghost use Rattle.runs.specs.Work.{lineRoom, due, owing, workOf, finishOf};
+ghost use Rattle.board.specs.Steps.{deskOf};
+ghost use Rattle.runs.specs.Work.{lineRoom, due, turning, owing, workOf, finishOf};
 
 // The longest record has so many bytes.
 const LONGEST_RECORD: usize = 24;
@@ -69,46 +74,113 @@ fn is_owing(s: Splitter) -> bool
     s.line <= REQUEST_LINES
 }
 
+// The line in the splitter is answered on the desk's fields where they stand, and its records are put into the buffer.
+fn answer_line(
+    view: View,
+    next: &mut u64,
+    number: &mut [u32; PLACES],
+    status: &mut [u8; PLACES],
+    cells: &mut [u8; PLACES],
+    ask: &mut [u8; PLACES],
+    held: &mut [u8; SPOTS],
+    woken: &mut [u8; PLACES],
+    s: Splitter,
+    out: &mut [u8],
+    at: usize,
+) -> usize
+    requires { ⌜ (due s ≡ true) × (at + lineRoom ≤ length (now out)) ⌝ }
+    ensures { λ r. ⌜ (turning view (record { desk = deskOf (now (next .entry)) (now (number .entry)) (now (status .entry)) (now (cells .entry)) (now (ask .entry)) (now (held .entry)); splitter = s }) (now (out .entry)) at ≡ record { clerk = record { desk = deskOf (now (next .exit)) (now (number .exit)) (now (status .exit)) (now (cells .exit)) (now (ask .exit)) (now (held .exit)); splitter = s }; at = r; out = now (out .exit) }) × (length (now (out .exit)) ≡ length (now (out .entry))) ⌝ }
+{
+    match reading_of(s) {
+        Reading::Good { letter, job, cell } => {
+            let t = step_on(
+                next,
+                number,
+                status,
+                cells,
+                ask,
+                held,
+                woken,
+                byte_of(letter),
+                job,
+                cell,
+            );
+            let answer = t.answer;
+            put_records(
+                view,
+                out,
+                at,
+                s.line,
+                letter,
+                cell,
+                answer,
+                number,
+                cells,
+                ask,
+                *woken,
+                t.count,
+            )
+        }
+        Reading::Bad => put_bad(view, out, at, s.line),
+    }
+}
+
 // From a place of a chunk on, every line that ends is answered and its records stand in the buffer from a place on, as long as a byte is left and there is
 // room for the records of any line; where there is not, the work is full and stops before the next cut, and goes on from there once the buffer is written out.
+// The desk's fields are taken out once and put back at the end.
 pub fn work(view: View, c: Clerk, chunk: &[u8], from: usize, out: &mut [u8], at: usize) -> Worked
     ensures { λ r. ⌜ (r ≡ workOf view c (now (chunk .entry)) from (now (out .entry)) at .worked) × (now (out .exit) ≡ workOf view c (now (chunk .entry)) from (now (out .entry)) at .out) ⌝ }
 {
-    let mut desk = c.desk;
+    let desk = c.desk;
+    let mut numbered = desk.next;
+    let mut number = desk.number;
+    let mut status = desk.status;
+    let mut cells = desk.cell;
+    let mut ask = desk.ask;
+    let mut held = desk.held;
+    let mut woken = [0; PLACES];
     let mut splitter = c.splitter;
     let mut next = from;
     let mut place = at;
+    let mut full = false;
     while next < chunk.len() {
         if !has_room(out.len(), place) {
-            return Worked {
-                clerk: Clerk { desk, splitter },
-                next,
-                at: place,
-                full: true,
-            };
+            full = true;
+            break;
         }
         let cut = splitter.cut(chunk, next);
         splitter = cut.splitter;
         next = cut.next;
         if is_due(splitter) {
-            match reading_of(splitter) {
-                Reading::Good { letter, job, cell } => {
-                    let o = step(desk, byte_of(letter), job, cell);
-                    desk = o.desk;
-                    let said = o.said;
-                    place = put_records(view, out, place, splitter.line, letter, cell, said);
-                }
-                Reading::Bad => {
-                    place = put_bad(view, out, place, splitter.line);
-                }
-            }
+            place = answer_line(
+                view,
+                &mut numbered,
+                &mut number,
+                &mut status,
+                &mut cells,
+                &mut ask,
+                &mut held,
+                &mut woken,
+                splitter,
+                out,
+                place,
+            );
         }
     }
+    let desk = Desk {
+        next: numbered,
+        number,
+        status,
+        cell: cells,
+        ask,
+        held,
+    };
+    let clerk = Clerk { desk, splitter };
     Worked {
-        clerk: Clerk { desk, splitter },
+        clerk,
         next,
         at: place,
-        full: false,
+        full,
     }
 }
 
