@@ -1,7 +1,7 @@
 // Twenty-four hands with a job each, and a mix of steps drawn from a fixed sequence, run on the desk: what a step by numbers costs, with no text between.
 // Writes how many steps went, waited, went back and were refused, and how many jobs woke.
 use board::state::Desk;
-use desk::step::step;
+use desk::step::step_on;
 use libc::STDOUT_FILENO;
 use rules::Answer;
 use std::num::wrapping_add_u64;
@@ -12,6 +12,7 @@ use terms::letters::INCREMENT;
 use terms::letters::READ;
 use terms::letters::RETRY;
 use terms::letters::WRITE;
+use terms::limits::PLACES;
 use terms::words::NEWLINE;
 use terms::words::TAB;
 ghost use Prim.Native.Nat.{_<_};
@@ -144,7 +145,13 @@ fn put_tally(t: Tally) {
 
 // All the steps.
 fn run(d: Desk) -> Tally {
-    let mut now = d;
+    let mut numbered = d.next;
+    let mut number = d.number;
+    let mut status = d.status;
+    let mut cells = d.cell;
+    let mut ask = d.ask;
+    let mut held = d.held;
+    let mut woken = [0; PLACES];
     let mut x: u32 = 1;
     let mut jobs = [0u32; 24];
     let mut backs = [false; 24];
@@ -165,15 +172,25 @@ fn run(d: Desk) -> Tally {
         };
         let kind = kind_by(h, x);
         x = next(x);
-        let o = step(now, kind, h.job, x / 65536 % 64);
+        let cell = x / 65536 % 64;
+        let t = step_on(
+            &mut numbered,
+            &mut number,
+            &mut status,
+            &mut cells,
+            &mut ask,
+            &mut held,
+            &mut woken,
+            kind,
+            h.job,
+            cell,
+        );
         x = next(x);
-        now = o.desk;
-        let said = o.said;
-        let answer = said.answer;
+        let answer = t.answer;
         let after = hand_after(h, kind, answer);
         jobs[i] = after.job;
         backs[i] = after.back;
-        tally = counted(tally, answer, said.count as u64);
+        tally = counted(tally, answer, t.count as u64);
         left -= 1;
     }
     tally

@@ -5,10 +5,10 @@ use Rattle.desk_mix.proofs.run.Statement.{statement}
 use Rattle.desk_mix.proofs.run.Tie as tie
 
 abbrev Inv-loop : tie.InvT-loop
-Inv-loop now₀ x₀ jobs₀ backs₀ tally₀ left₀ now x jobs backs tally left = Unit {0}
+Inv-loop numbered₀ number₀ status₀ cells₀ ask₀ held₀ woken₀ x₀ jobs₀ backs₀ tally₀ left₀ numbered number status cells ask held woken x jobs backs tally left = Unit {0}
 
 abbrev μ-loop : tie.MeasureT-loop
-μ-loop now₀ x₀ jobs₀ backs₀ tally₀ left₀ now x jobs backs tally left = left
+μ-loop numbered₀ number₀ status₀ cells₀ ask₀ held₀ woken₀ x₀ jobs₀ backs₀ tally₀ left₀ numbered number status cells ask held woken x jobs backs tally left = left
 
 loop-holds : tie.Need-loop-holds Inv-loop μ-loop
 loop-holds c = search needs
@@ -19,14 +19,14 @@ hand-by-requires c κs = search needs
 next-requires : tie.Need-next-requires Inv-loop μ-loop
 next-requires c κs = search needs
 
-mul-step : tie.Need-mul-step Inv-loop μ-loop
-mul-step c = search needs
+mul-cell : tie.Need-mul-cell Inv-loop μ-loop
+mul-cell c = search needs
 
-array-read-step : tie.Need-array-read-step Inv-loop μ-loop
-array-read-step c = search needs
+array-read-cell : tie.Need-array-read-cell Inv-loop μ-loop
+array-read-cell c = search needs
 
-array-read-t15 : tie.Need-array-read-t15 Inv-loop μ-loop
-array-read-t15 c = search needs
+array-read-t21 : tie.Need-array-read-t21 Inv-loop μ-loop
+array-read-t21 c = search needs
 
 kind-by-requires : tie.Need-kind-by-requires Inv-loop μ-loop
 kind-by-requires c κs = search needs
@@ -34,8 +34,8 @@ kind-by-requires c κs = search needs
 next-requires-2 : tie.Need-next-requires-2 Inv-loop μ-loop
 next-requires-2 c κs = search needs
 
-step-requires : tie.Need-step-requires Inv-loop μ-loop
-step-requires c κs = search needs
+step-on-requires : tie.Need-step-on-requires Inv-loop μ-loop
+step-on-requires c κs = search needs
 
 next-requires-3 : tie.Need-next-requires-3 Inv-loop μ-loop
 next-requires-3 c κs = search needs
@@ -76,12 +76,12 @@ run-spec =
     loop-holds
     hand-by-requires
     next-requires
-    mul-step
-    array-read-step
-    array-read-t15
+    mul-cell
+    array-read-cell
+    array-read-t21
     kind-by-requires
     next-requires-2
-    step-requires
+    step-on-requires
     next-requires-3
     hand-after-requires
     mul-jobs
