@@ -5,7 +5,6 @@ use mathlib.Core.Path.{_≡_, ap}
 use mathlib.Core.List.{[]}
 use native.Mathlib.Omega.{arith}
 use Rattle.terms.specs.declared.refusals.Refusal.{Refusal}
-use Rattle.rules.specs.declared.Answer.{Answer}
 use Rattle.rules.specs.declared.Answer.the-variants.{Go, Wait, Back, No}
 use Rattle.board.specs.declared.state.Desk.{Desk}
 use Rattle.board.specs.declared.state.Outcome.{Outcome}

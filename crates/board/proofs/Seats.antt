@@ -10,7 +10,7 @@ use lib.Dec.{eqb, ltb}
 use lib.ListN.{length, getD}
 use borrow.Author.Tests.{eqb-true, eqb-false, eq-eqb, ne-eqb, ltb-true, lt-ltb, not-true}
 use Rattle.laws.specs.Choice.{by-test, not-both}
-use Rattle.laws.specs.Lists.{same, member, pos}
+use Rattle.laws.specs.Lists.{member, pos}
 use Rattle.laws.proofs.Lists.{pos-first, pos-later, member-first, member-later, member-more}
 use Rattle.laws.proofs.Parts.{and-first, and-second}
 use Rattle.rules.specs.Invariant.{Once}
@@ -20,7 +20,7 @@ use Rattle.board.specs.Stands.{isSeated}
 pub pos-below : (ks : List ℕ) (j : ℕ) → member j ks ≡ true → pos ks j < length ks
 pos-below [] j m = not-both m (unfold member in refl)
 pos-below (k ∷ ks) j m =
-    by-test (same k j) (λ t. subst (λ i. pos (k ∷ ks) i < suc (length ks)) (eqb-true k j t) (rw (pos-first k ks) (omega arith)))
+    by-test (eqb k j) (λ t. subst (λ i. pos (k ∷ ks) i < suc (length ks)) (eqb-true k j t) (rw (pos-first k ks) (omega arith)))
     (λ f. rw (pos-later k ks j f) (further (pos-below ks j (sym (member-later k ks j f) ∙ m))))
   where
     further : {a b : ℕ} → a < b → suc a < suc b
@@ -30,7 +30,7 @@ pos-below (k ∷ ks) j m =
 pub pos-holds : (ks : List ℕ) (j : ℕ) → member j ks ≡ true → getD ks (pos ks j) 0 ≡ j
 pos-holds [] j m = not-both m (unfold member in refl)
 pos-holds (k ∷ ks) j m =
-    by-test (same k j) (λ t. subst (λ i. getD (k ∷ ks) (pos (k ∷ ks) i) 0 ≡ i) (eqb-true k j t) (rw (pos-first k ks)))
+    by-test (eqb k j) (λ t. subst (λ i. getD (k ∷ ks) (pos (k ∷ ks) i) 0 ≡ i) (eqb-true k j t) (rw (pos-first k ks)))
     (λ f. rw (pos-later k ks j f) (pos-holds ks j (sym (member-later k ks j f) ∙ m)))
 
 -- a job that is not in the list is looked for to its end
@@ -38,7 +38,7 @@ pub pos-end : (ks : List ℕ) (j : ℕ) → member j ks ≡ false → pos ks j �
 unfolding pos member
 pos-end [] j m = refl
 pos-end (k ∷ ks) j m =
-    by-test (same k j) (λ t. not-both (ap (λ i. member i (k ∷ ks)) (sym (eqb-true k j t)) ∙ member-first k ks) m)
+    by-test (eqb k j) (λ t. not-both (ap (λ i. member i (k ∷ ks)) (sym (eqb-true k j t)) ∙ member-first k ks) m)
     (λ f. rw f (ap suc (pos-end ks j (sym (member-later k ks j f) ∙ m))))
 
 -- whose number stands at a place is in the list
@@ -54,9 +54,9 @@ pos-at (k ∷ ks) o zero h z = pos-first k ks
 pos-at (k ∷ ks) o (suc p) h z =
     pos-later k ks (getD ks p 0) (other (at-member ks p (omega arith))) ∙ ap suc (pos-at ks (o .1) p (omega arith) z)
   where
-    other : member (getD ks p 0) ks ≡ true → same k (getD ks p 0) ≡ false
+    other : member (getD ks p 0) ks ≡ true → eqb k (getD ks p 0) ≡ false
     other m =
-        by-test (same k (getD ks p 0))
+        by-test (eqb k (getD ks p 0))
         (λ t. let e : k ≡ getD ks p 0 = eqb-true k (getD ks p 0) t in not-both (ap (λ i. member i ks) e ∙ m) (o .0 (λ n. z (sym e ∙ n))))
         (λ f. f)
 
@@ -120,7 +120,7 @@ module _ {ks : List ℕ} {j p : ℕ} (s : Seat ks j p) where
   seat-only o q h e = sym (pos-at ks o q h (λ z. s .real (sym e ∙ z))) ∙ ap (pos ks) e ∙ s .found
 
   -- so the test of places is the test of numbers
-  pub seat-same : Once ks → (q : ℕ) → q < length ks → eqb q p ≡ same (getD ks q 0) j
+  pub seat-same : Once ks → (q : ℕ) → q < length ks → eqb q p ≡ eqb (getD ks q 0) j
   seat-same o q h =
       by-test (eqb q p) (λ t. t ∙ sym (eq-eqb (getD ks q 0) j (ap (λ r. getD ks r 0) (eqb-true q p t) ∙ s .sits)))
       (λ f. f ∙ sym (ne-eqb (getD ks q 0) j (λ e. eqb-false q p f (seat-only o q h e))))

@@ -8,8 +8,9 @@ use mathlib.Core.List.{List, [], _∷_}
 use lib.ListN.{length, getD, set, length-set}
 use lib.Seq.{getD-set-same, getD-set-other, lt-length-set}
 use borrow.Author.Tests.{eqb-true}
+use lib.Dec.{eqb}
 use Rattle.laws.specs.Choice.{by-test, not-both}
-use Rattle.laws.specs.Lists.{same, member, pos}
+use Rattle.laws.specs.Lists.{member, pos}
 use Rattle.laws.proofs.Lists.{pos-first, pos-later, member-first, member-later}
 use Rattle.rules.specs.Desk.{at, seated, vacated}
 use Rattle.rules.specs.Invariant.{Once}
@@ -25,7 +26,7 @@ pub seated-set : (n : ℕ) (ks : List ℕ) → member 0 ks ≡ true → seated n
 unfolding seated
 seated-set n [] m = refl
 seated-set n (k ∷ ks) m =
-    by-test (same k 0) (λ t. rw t (ap (λ p. set (k ∷ ks) p n) (sym (ap (pos (k ∷ ks)) (sym (eqb-true k 0 t)) ∙ pos-first k ks))))
+    by-test (eqb k 0) (λ t. rw t (ap (λ p. set (k ∷ ks) p n) (sym (ap (pos (k ∷ ks)) (sym (eqb-true k 0 t)) ∙ pos-first k ks))))
     (λ f. rw (f, pos-later k ks 0 f) (ap (λ l. k ∷ l) (seated-set n ks (sym (member-later k ks 0 f) ∙ m))))
 
 -- where a job has no place, none is freed
@@ -33,7 +34,7 @@ vacated-none : (j : ℕ) (ks : List ℕ) → member j ks ≡ false → vacated j
 unfolding vacated
 vacated-none j [] m = refl
 vacated-none j (k ∷ ks) m =
-    by-test (same k j) (λ t. not-both (ap (λ i. member i (k ∷ ks)) (sym (eqb-true k j t)) ∙ member-first k ks) m)
+    by-test (eqb k j) (λ t. not-both (ap (λ i. member i (k ∷ ks)) (sym (eqb-true k j t)) ∙ member-first k ks) m)
     (λ f. rw f (ap (λ l. k ∷ l) (vacated-none j ks (sym (member-later k ks j f) ∙ m))))
 
 -- a job that frees its place leaves 0 there
@@ -41,10 +42,10 @@ pub vacated-set : (j : ℕ) (ks : List ℕ) → Once ks → j ≢ 0 → member j
 unfolding vacated
 vacated-set j [] o z m = not-both m (unfold member in refl)
 vacated-set j (k ∷ ks) o z m =
-    by-test (same k j) (λ t. first t (eqb-true k j t))
+    by-test (eqb k j) (λ t. first t (eqb-true k j t))
     (λ f. rw (f, pos-later k ks j f) (ap (λ l. k ∷ l) (vacated-set j ks (o .1) z (sym (member-later k ks j f) ∙ m))))
   where
-    first : same k j ≡ true → k ≡ j → vacated j (k ∷ ks) ≡ set (k ∷ ks) (pos (k ∷ ks) j) 0
+    first : eqb k j ≡ true → k ≡ j → vacated j (k ∷ ks) ≡ set (k ∷ ks) (pos (k ∷ ks) j) 0
     first t e =
         rw (t, ap (pos (k ∷ ks)) (sym e) ∙ pos-first k ks)
         (ap (λ l. 0 ∷ l) (vacated-none j ks (ap (λ i. member i ks) (sym e) ∙ o .0 (λ n. z (sym e ∙ n)))))

@@ -2,7 +2,7 @@
 -- Assumes nothing.
 use Prim.Native.Nat.{ℕ, _≤_, _-_, _+_}
 use mathlib.Core.Path.{_≡_, refl, sym, ap, _∙_}
-use mathlib.Core.List.{List, [], _∷_, _++_, map}
+use mathlib.Core.List.{List, [], _++_, map}
 use native.Mathlib.Omega.{arith}
 use lib.ListN.{length, getD, replicate, length-append, length-replicate, length-map}
 use lib.Seq.{take-at, getD-append-add}
@@ -10,7 +10,6 @@ use Rattle.terms.specs.Limits.{places}
 use Rattle.conflict.specs.declared.action.Action.{Action}
 use Rattle.rules.specs.declared.Answer.{Answer}
 use Rattle.rules.specs.Desk as paper
-use Rattle.rules.specs.Rules as rules
 use Rattle.board.specs.declared.state.Desk.{Desk}
 use Rattle.board.specs.Steps.{noAction, wakeAt, listed, saying}
 use Rattle.board.specs.Stands.{Stands, wakesTold, Tied}

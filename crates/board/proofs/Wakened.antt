@@ -4,8 +4,8 @@ use Prim.Native.Nat.{ℕ}
 use mathlib.Core.Path.{_≡_, refl, ap, _∙_, fun-ext}
 use mathlib.Core.Bool.{Bool, true, false}
 use mathlib.Core.List.{List, [], _∷_, _++_}
+use lib.Dec.{eqb}
 use Rattle.laws.specs.Choice.{pick, by-test}
-use Rattle.laws.specs.Lists.{same}
 use Rattle.laws.proofs.Lists.{same-sym}
 use Rattle.conflict.specs.declared.action.Action.{Action}
 use Rattle.rules.specs.Desk.{Status, running, Waiter, at}
@@ -25,7 +25,7 @@ wakened-twice st a b = fun-ext (λ i. rw (woken-either i a b) (by-test (isWoken 
 -- a job that runs is one that has been woken
 wakened-one : (st : ℕ → Status) (c : ℕ) (w : Waiter) → at st (w .job) running ≡ runAgain st (wake c w ∷ [])
 unfolding runAgain isWoken wake at
-wakened-one st c w = fun-ext (λ i. rw (same-sym i (w .job)) (by-test (same (w .job) i) (λ t. rw t) (λ f. rw f)))
+wakened-one st c w = fun-ext (λ i. rw (same-sym i (w .job)) (by-test (eqb (w .job) i) (λ t. rw t) (λ f. rw f)))
 
 -- a job that runs already and further wakes are the wakes with that job first
 pub wakened-more : (st : ℕ → Status) (c : ℕ) (w : Waiter) (q : List Waiter) → runAgain (at st (w .job) running) (wakesAt c q) ≡ runAgain st (wakesAt c (w ∷ q))

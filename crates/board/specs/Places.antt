@@ -1,7 +1,7 @@
 -- The tests of rules 2 to 4 over the arrays: places stand for jobs, and a row of 32 numbers for each cell holds the modes.
 use Prim.Native.Nat.{ℕ, zero, suc, _+_, _*_}
-use mathlib.Core.Bool.{Bool, true, false, not, _&&_, _||_}
-use mathlib.Core.List.{List, [], _∷_}
+use mathlib.Core.Bool.{Bool, true, not, _&&_, _||_}
+use mathlib.Core.List.{List}
 use lib.Dec.{eqb, ltb}
 use lib.ListN.{getD}
 use Rattle.laws.specs.Choice.{pick}
@@ -9,7 +9,7 @@ use Rattle.terms.specs.Limits.{places}
 use Rattle.terms.specs.declared.letters.Ask.{Ask}
 use Rattle.conflict.specs.declared.modes.Mode.{Mode}
 use Rattle.conflict.specs.Modes.{needed, grants, asked, isFree, modeOf}
-use Rattle.board.specs.Codes.{waitingCode, askOf}
+use Rattle.board.specs.Codes.{waitingCode}
 
 -- where the mode of place p on cell c stands
 abbrev pub spot : ℕ → ℕ → ℕ

@@ -1,11 +1,10 @@
 -- A record for which there is room is written, and has at most 24 bytes; records written one after another.
 -- Assumes nothing.
 use Prim.Native.Nat.{ℕ, _+_, _≤_}
-use mathlib.Core.Path.{_≡_, refl, sym, ap, _∙_, subst}
-use mathlib.Core.Bool.{true}
-use mathlib.Core.List.{List, [], _++_}
+use mathlib.Core.Path.{_≡_, subst}
+use mathlib.Core.List.{List, []}
 use native.Mathlib.Omega.{arith}
-use lib.ListN.{length, length-append}
+use lib.ListN.{length}
 use Rattle.terms.specs.declared.letters.Letter.{Letter}
 use Rattle.terms.specs.declared.refusals.Refusal.{Refusal}
 use Rattle.terms.specs.Letters.{hasJob, hasCell}
@@ -13,11 +12,10 @@ use Rattle.terms.specs.Limits.{lastNumber}
 use Rattle.formats.specs.declared.Written.{Written}
 use Rattle.formats.specs.declared.Written.the-variants.{Next, Refused}
 use Rattle.formats.specs.Records.{longestRecord, lineRecord, told, left}
-use Rattle.formats.specs.Wrote.{Wrote}
 use Rattle.formats.proofs.Length.{line-length}
 use Rattle.formats.proofs.FieldLaws.{field-at-most}
 use Rattle.formats.proofs.WriterLaws.{next-wrote, not-refused}
-use Rattle.formats.proofs.WroteLaws.{wrote-none, wrote-then, wrote-as, wrote-length}
+use Rattle.formats.proofs.WroteLaws.{wrote-none, wrote-length}
 use Rattle.clerk.specs.Parts.{Added}
 
 -- no line of a letter with numbers of 32 bits is longer than 24 bytes

@@ -1,7 +1,7 @@
 -- One line answered on the desk's fields where they stand is a turn of the work: what the step leaves, and the records of what it says.
 -- Assumes nothing.
 use Prim.Native.Nat.{ℕ, _-_}
-use mathlib.Core.Path.{_≡_, refl, sym, ap, subst, _∙_}
+use mathlib.Core.Path.{_≡_, refl, sym, ap, _∙_}
 use mathlib.Core.Bool.{true}
 use mathlib.Core.List.{List, map, map-append}
 use lib.ListN.{length, take, drop, replicate, length-map}
@@ -22,7 +22,7 @@ use Rattle.board.specs.declared.state.Told.{Told}
 use Rattle.board.specs.Steps.{noAction, wakeAt, listed, saying, carried, moveOf, performed, stepOf}
 use Rattle.desk.specs.InPlace.{laid, wokenBy, StepsTo}
 use Rattle.runs.specs.declared.View.{View}
-use Rattle.runs.specs.Work.{viewed, unended, due, Turn, turning}
+use Rattle.runs.specs.Work.{viewed, unended, due, turning}
 use Rattle.runs.proofs.Turns.{turn-bad, turn-good}
 use Rattle.clerk.specs.Parts.{lineRecords}
 use Rattle.clerk.proofs.Telling.{records-told}

@@ -6,14 +6,13 @@ use mathlib.Core.Bool.{true, false}
 use mathlib.Core.List.{List}
 use native.Mathlib.Omega.{arith}
 use lib.ListN.{length}
-use Rattle.formats.specs.declared.splitter.Splitter.{Splitter}
 use Rattle.formats.specs.declared.splitter.Cut.{Cut}
 use Rattle.formats.specs.Split.{cutOf}
 use Rattle.formats.proofs.Cuts.{cut-ahead}
 use Rattle.runs.specs.declared.Clerk.{Clerk}
 use Rattle.runs.specs.declared.View.{View}
 use Rattle.runs.specs.declared.Worked.{Worked}
-use Rattle.runs.specs.Work.{roomy, due, Turn, turning, cutting, Working, stopped, workBy, workOf}
+use Rattle.runs.specs.Work.{roomy, due, Turn, turning, cutting, stopped, workBy, workOf}
 use Rattle.runs.proofs.Turns.{work-done, work-full, Rest, work-on, turn-passes}
 
 -- where the work has come to, and what the buffer then holds, for a call with these arguments

@@ -1,7 +1,7 @@
 -- What the history notes of a request, by its letter and by its answer, is what the paper's desk records of it (01, Lines).
 -- Assumes nothing.
 use Prim.Native.Nat.{ℕ}
-use mathlib.Core.Path.{_≡_, refl, sym, ap, _∙_}
+use mathlib.Core.Path.{_≡_, sym, ap, _∙_}
 use mathlib.Core.List.{append-nil}
 use Rattle.terms.specs.declared.letters.Ask.{Ask}
 use Rattle.terms.specs.declared.letters.Ask.the-variants.{Read, Write, Increment}

@@ -1,6 +1,6 @@
 -- No second result and no second buffer meets the contract of the clerk's functions.
 -- Assumes nothing.
-use mathlib.Core.Path.{_≡_, sym, _∙_}
+use mathlib.Core.Path.{sym, _∙_}
 use denote.Ref.{now}
 use Rattle.laws.specs.Unique.{UniqueLent}
 use Rattle.clerk.proofs.work.work.Reads as work

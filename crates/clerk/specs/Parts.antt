@@ -3,7 +3,6 @@ use Prim.Native.Nat.{ℕ, _≤_}
 use mathlib.Core.List.{List, [], _∷_, _++_}
 use lib.ListN.{length}
 use Rattle.terms.specs.declared.letters.Letter.{Letter}
-use Rattle.terms.specs.declared.letters.Letter.the-variants.{Asks}
 use Rattle.terms.specs.declared.words.Word.the-variants.{Wake}
 use Rattle.terms.specs.Letters.{byteOf}
 use Rattle.conflict.specs.declared.action.Action.{Action}

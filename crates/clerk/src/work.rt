@@ -22,7 +22,7 @@ ghost use lib.Dec.{leb};
 ghost use lib.ListN.{length};
 ghost use Rattle.terms.specs.Letters.{ofRequests};
 ghost use Rattle.formats.specs.Lines.{readLine};
-ghost use Rattle.formats.specs.Split.{Found, foundAt};
+ghost use Rattle.formats.specs.Split.{foundAt};
 ghost use Rattle.board.specs.Steps.{deskOf};
 ghost use Rattle.runs.specs.Work.{lineRoom, due, turning, owing, workOf, finishOf};
 

@@ -4,11 +4,10 @@ use Prim.Native.Nat.{ℕ}
 use mathlib.Core.Path.{_≡_, refl, sym, ap, _∙_}
 use mathlib.Core.Bool.{Bool, true, false, not, _&&_, _||_, or-assoc}
 use mathlib.Core.List.{[], _∷_, _++_}
-use borrow.Author.Tests.{eqb-true, not-true}
-use Rattle.laws.specs.Choice.{by-test, not-both}
-use Rattle.laws.specs.Lists.{same}
+use lib.Dec.{eqb}
+use Rattle.laws.specs.Choice.{by-test}
 use Rattle.laws.proofs.Lists.{same-refl}
-use Rattle.laws.proofs.Parts.{and-first, and-second, and-both, nor-first, nor-second, or-either, or-second}
+use Rattle.laws.proofs.Parts.{and-both, or-second}
 use Rattle.conflict.specs.declared.action.Mark.{Mark}
 use Rattle.conflict.specs.declared.action.Mark.the-variants.{Commit, GiveUp, Back}
 use Rattle.conflict.specs.declared.action.Event.the-variants.{Does, Ends}
@@ -21,15 +20,15 @@ use Rattle.conflict.proofs.OneEvent.{isLast}
 pub line-append : (j : ℕ) (h g : History) → lineOf j (h ++ g) ≡ (lineOf j h || lineOf j g)
 unfolding lineOf
 line-append j [] g = refl
-line-append j (Does a ∷ h) g = ap (λ b. same (a .job) j || b) (line-append j h g) ∙ sym (or-assoc (same (a .job) j) (lineOf j h) (lineOf j g))
-line-append j (Ends m i ∷ h) g = ap (λ b. same i j || b) (line-append j h g) ∙ sym (or-assoc (same i j) (lineOf j h) (lineOf j g))
+line-append j (Does a ∷ h) g = ap (λ b. eqb (a .job) j || b) (line-append j h g) ∙ sym (or-assoc (eqb (a .job) j) (lineOf j h) (lineOf j g))
+line-append j (Ends m i ∷ h) g = ap (λ b. eqb i j || b) (line-append j h g) ∙ sym (or-assoc (eqb i j) (lineOf j h) (lineOf j g))
 
 -- and so a mark
 pub marked-append : (f : Mark → Bool) (j : ℕ) (h g : History) → marked f j (h ++ g) ≡ (marked f j h || marked f j g)
 unfolding marked
 marked-append f j [] g = refl
 marked-append f j (Does a ∷ h) g = marked-append f j h g
-marked-append f j (Ends m i ∷ h) g = ap (λ b. (same i j && f m) || b) (marked-append f j h g) ∙ sym (or-assoc (same i j && f m) (marked f j h) (marked f j g))
+marked-append f j (Ends m i ∷ h) g = ap (λ b. (eqb i j && f m) || b) (marked-append f j h g) ∙ sym (or-assoc (eqb i j && f m) (marked f j h) (marked f j g))
 
 -- a run has ended in the whole if it has in a part
 pub ended-append : (j : ℕ) (h g : History) → ended j (h ++ g) ≡ (ended j h || ended j g)
@@ -52,4 +51,4 @@ ends-append (Ends m i ∷ h) g e d apart =
     and-both (isBack m || not (lineOf i (h ++ g))) (endsForGood (h ++ g))
     (by-test (isBack m) (λ t. rw t)
     (λ f. rw (f, line-append i h g, ended-alone m i h e f, apart i (rw (same-refl i, last-is m, f)))))
-    (ends-append h g (ends-rest m i h e) d (λ j l. apart j (or-second (same i j && isLast m) (marked isLast j h) l)))
+    (ends-append h g (ends-rest m i h e) d (λ j l. apart j (or-second (eqb i j && isLast m) (marked isLast j h) l)))

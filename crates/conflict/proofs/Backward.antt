@@ -7,8 +7,9 @@ use mathlib.Core.Bool.{Bool, true, false, _&&_, _||_, and-false}
 use mathlib.Core.List.{List, [], _∷_, _++_}
 use native.Mathlib.Omega.{arith}
 use borrow.Author.Tests.{eqb-true}
+use lib.Dec.{eqb}
 use Rattle.laws.specs.Choice.{by-test, not-both}
-use Rattle.laws.specs.Lists.{same, member, distinct, pos}
+use Rattle.laws.specs.Lists.{member, distinct, pos}
 use Rattle.laws.proofs.Lists.{first-ahead, pos-both, once-first, once-rest, member-other}
 use Rattle.laws.proofs.Parts.{and-first, and-second, or-swap, and-swap}
 use Rattle.conflict.specs.declared.action.Action.{Action}
@@ -32,8 +33,8 @@ keep-swap false false a b s n = refl
 swap-keeps-own : (j : ℕ) {s t : Schedule} → Swap s t → own j s ≡ own j t
 unfolding own
 swap-keeps-own j (here {a} {b} {s} o f) =
-    keep-swap (same (a .job) j) (same (b .job) j) a b (own j s) (λ x y. o (eqb-true (a .job) j x ∙ sym (eqb-true (b .job) j y)))
-swap-keeps-own j (later {a} w) = ap (keep (same (a .job) j) a) (swap-keeps-own j w)
+    keep-swap (eqb (a .job) j) (eqb (b .job) j) a b (own j s) (λ x y. o (eqb-true (a .job) j x ∙ sym (eqb-true (b .job) j y)))
+swap-keeps-own j (later {a} w) = ap (keep (eqb (a .job) j) a) (swap-keeps-own j w)
 
 -- equivalent schedules have each job's actions in the same order
 pub keeps-own : (j : ℕ) {s t : Schedule} → Equivalent s t → own j s ≡ own j t
@@ -44,15 +45,15 @@ keeps-own j (after w e) = swap-keeps-own j w ∙ keeps-own j e
 swap-keeps-touches : (c : Action) (j : ℕ) {s t : Schedule} → Swap s t → touches c j s ≡ touches c j t
 unfolding touches
 swap-keeps-touches c j (here {a} {b} {s} o f) =
-    or-swap (same (a .job) j && conflicts c a) (same (b .job) j && conflicts c b) (touches c j s)
-swap-keeps-touches c j (later {a} w) = ap (λ r. (same (a .job) j && conflicts c a) || r) (swap-keeps-touches c j w)
+    or-swap (eqb (a .job) j && conflicts c a) (eqb (b .job) j && conflicts c b) (touches c j s)
+swap-keeps-touches c j (later {a} w) = ap (λ r. (eqb (a .job) j && conflicts c a) || r) (swap-keeps-touches c j w)
 
 -- a swap keeps the edges
 swap-keeps-edge : (i j : ℕ) {s t : Schedule} → Swap s t → edge s i j ≡ edge t i j
 unfolding edge touches
 swap-keeps-edge i j (here {a} {b} {s} o f) =
-    simp (f, conflicts-sym b a, and-false) (or-swap (same (a .job) i && touches a j s) (same (b .job) i && touches b j s) (edge s i j))
-swap-keeps-edge i j (later {a} w) = ap₂ (λ r q. (same (a .job) i && r) || q) (swap-keeps-touches a j w) (swap-keeps-edge i j w)
+    simp (f, conflicts-sym b a, and-false) (or-swap (eqb (a .job) i && touches a j s) (eqb (b .job) i && touches b j s) (edge s i j))
+swap-keeps-edge i j (later {a} w) = ap₂ (λ r q. (eqb (a .job) i && r) || q) (swap-keeps-touches a j w) (swap-keeps-edge i j w)
 
 -- equivalent schedules have the same edges
 pub keeps-edge : (i j : ℕ) {s t : Schedule} → Equivalent s t → edge s i j ≡ edge t i j
@@ -72,11 +73,11 @@ keeps-names order (after w e) = swap-keeps-names order w ∙ keeps-names order e
 
 -- a job that stands before others: an edge goes from it to another, or stands among those behind it
 edge-behind : {P : Type 0} (k : ℕ) (s t : Schedule) (i j : ℕ) → edge (own k s ++ t) i j ≡ true
-    → (same k i ≡ true → same k j ≡ false → P) → (edge t i j ≡ true → P) → P
+    → (eqb k i ≡ true → eqb k j ≡ false → P) → (edge t i j ≡ true → P) → P
 unfolding own keep edge
 edge-behind k [] t i j h one′ two′ = two′ h
 edge-behind k (a ∷ s) t i j h one′ two′ =
-    by-test (same (a .job) k)
+    by-test (eqb (a .job) k)
     (λ e. edge-cases a (own k s ++ t) i j (rw e at h)
     (λ m c. one′ (rw (eqb-true (a .job) k e) at m) (rw (eqb-true (a .job) k e) at (touches-other a j (own k s ++ t) c)))
     (λ l. edge-behind k s t i j l one′ two′))

@@ -5,10 +5,10 @@ use mathlib.Core.Path.{_≡_, refl, sym}
 use mathlib.Core.Logic.{_⊎_, inl, inr, ⊎-elim}
 use mathlib.Core.Bool.{true, false}
 use mathlib.Core.List.{[], _∷_}
-use lib.Dec.{lit<}
+use lib.Dec.{lit<, eqb}
 use borrow.Author.Tests.{eqb-true, eqb-false}
 use Rattle.laws.specs.Choice.{not-both}
-use Rattle.laws.specs.Lists.{same, member, distinct, pos}
+use Rattle.laws.specs.Lists.{member, distinct, pos}
 use Rattle.laws.proofs.Parts.{or-either}
 use Rattle.conflict.specs.declared.action.Kind.the-variants.{Read, Write}
 use Rattle.conflict.specs.declared.action.Action.{Action}
@@ -50,7 +50,7 @@ abbrev line-5 : Schedule
 line-5 = r 1 A ∷ w 1 A ∷ r 1 B ∷ w 1 B ∷ r 2 A ∷ w 2 A ∷ r 2 B ∷ w 2 B ∷ []
 
 -- two neighbours are swapped where the tests say that they may be
-swap-of : (a b : Action) {s : Schedule} → same (a .job) (b .job) ≡ false → conflicts a b ≡ false → Swap (a ∷ b ∷ s) (b ∷ a ∷ s)
+swap-of : (a b : Action) {s : Schedule} → eqb (a .job) (b .job) ≡ false → conflicts a b ≡ false → Swap (a ∷ b ∷ s) (b ∷ a ∷ s)
 swap-of a b o f = here (eqb-false (a .job) (b .job) o) f
 
 -- the pair that is underlined in the first line
@@ -90,9 +90,9 @@ S = r 2 A ∷ r 1 B ∷ w 2 A ∷ r 3 A ∷ w 1 B ∷ w 3 A ∷ r 2 B ∷ w 2 B 
 of-three : (P : ℕ → Type 0) → P 1 → P 2 → P 3 → (i : ℕ) → member i (1 ∷ 2 ∷ 3 ∷ []) ≡ true → P i
 unfolding member
 of-three P p q r i m =
-    or-either (same 1 i) (member i (2 ∷ 3 ∷ [])) m (λ e. rw (sym (eqb-true 1 i e)) p)
-    (λ m. or-either (same 2 i) (member i (3 ∷ [])) m (λ e. rw (sym (eqb-true 2 i e)) q)
-    (λ m. or-either (same 3 i) false m (λ e. rw (sym (eqb-true 3 i e)) r) (λ e. not-both e refl)))
+    or-either (eqb 1 i) (member i (2 ∷ 3 ∷ [])) m (λ e. rw (sym (eqb-true 1 i e)) p)
+    (λ m. or-either (eqb 2 i) (member i (3 ∷ [])) m (λ e. rw (sym (eqb-true 2 i e)) q)
+    (λ m. or-either (eqb 3 i) false m (λ e. rw (sym (eqb-true 3 i e)) r) (λ e. not-both e refl)))
 
 -- Figure 18.9: an arc from 1 to 2
 pub one-to-two : edge S 1 2 ≡ true

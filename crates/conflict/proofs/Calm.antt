@@ -4,8 +4,8 @@ use Prim.Native.Nat.{ℕ}
 use mathlib.Core.Path.{_≡_, refl, sym, ap, ap₂, _∙_}
 use mathlib.Core.Bool.{Bool, true, false, not, _&&_, _||_, and-assoc, and-true}
 use mathlib.Core.List.{[], _∷_, _++_}
+use lib.Dec.{eqb}
 use Rattle.laws.specs.Choice.{by-test}
-use Rattle.laws.specs.Lists.{same}
 use Rattle.laws.proofs.Parts.{and-both, or-second}
 use Rattle.conflict.specs.declared.action.Action.{Action}
 use Rattle.conflict.specs.declared.action.Mark.{Mark}
@@ -27,7 +27,7 @@ undisturbed-append a [] g = refl
 undisturbed-append a (Does b ∷ h) g =
     ap (λ u. not (conflicts a b) && u) (undisturbed-append a h g)
     ∙ sym (and-assoc (not (conflicts a b)) (undisturbed a h) (ended (a .job) h || undisturbed a g))
-undisturbed-append a (Ends m i ∷ h) g = by-test (same i (a .job)) (λ t. rw t) (λ f. rw f (undisturbed-append a h g))
+undisturbed-append a (Ends m i ∷ h) g = by-test (eqb i (a .job)) (λ t. rw t) (λ f. rw f (undisturbed-append a h g))
 
 -- five tests regrouped
 regroup : (u w s c t : Bool) → ((u && w) && ((s && c) && t)) ≡ (((u && s) && (w && c)) && t)
@@ -51,7 +51,7 @@ unfolding calm undisturbed
 calm-mark [] m j = refl
 calm-mark (Does a ∷ h) m j =
     and-both (ended (a .job) h || undisturbed a (Ends m j ∷ [])) (calm h (Ends m j ∷ []))
-    (or-second (ended (a .job) h) (undisturbed a (Ends m j ∷ [])) (by-test (same j (a .job)) (λ t. rw t) (λ f. rw f)))
+    (or-second (ended (a .job) h) (undisturbed a (Ends m j ∷ [])) (by-test (eqb j (a .job)) (λ t. rw t) (λ f. rw f)))
     (calm-mark h m j)
 calm-mark (Ends n i ∷ h) m j = calm-mark h m j
 

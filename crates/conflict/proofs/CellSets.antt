@@ -1,7 +1,7 @@
 -- Sets of cells as bits: what joining and meeting two sets does to each cell, and the set of one cell.
 -- Assumes nothing.
-use Prim.Native.Nat.{ℕ, zero, suc, _+_, _-_, _*_, _/_, _%_, _^_, _≤_, _<_, min, max}
-use mathlib.Core.Path.{_≡_, refl, sym, ap, ap₂, _∙_}
+use Prim.Native.Nat.{ℕ, zero, suc, _+_, _-_, _*_, _/_, _%_, _^_, _≤_, _<_}
+use mathlib.Core.Path.{_≡_, refl, ap, _∙_}
 use mathlib.Core.Bool.{Bool, true, false, not, _&&_, _||_, and-true, and-false, or-false, or-comm}
 use native.Mathlib.Omega.{arith}
 use native.Mathlib.Nat.{zero-div, div-eq-of-lt, div-self, div-one, one-mul, one-le-pow, pow-suc}
@@ -10,7 +10,6 @@ use lib.Bits.{bitAnd, bitOr, and-step, or-step, and-shr, or-shr, and-mask}
 use lib.Pow.{pow-lt, pow-add, shl-shr, shr-shr, shl-exact}
 use borrow.Author.Tests.{eqb-true, eqb-false, eq-eqb, ne-eqb, ltb-true, ltb-false, lt-ltb, le-ltb}
 use Rattle.laws.specs.Choice.{by-test}
-use Rattle.laws.specs.Lists.{same}
 use Rattle.laws.proofs.Parts.{or-second}
 use Rattle.conflict.specs.declared.action.Kind.{Kind}
 use Rattle.conflict.specs.declared.action.Kind.the-variants.{Read, Write, Increment}
@@ -63,10 +62,10 @@ unfolding inSet
 in-either a b c = ap (λ n. eqb (n % 2) 1) (or-shr a b c) ∙ low-or (a / 2 ^ c) (b / 2 ^ c)
 
 -- the set of one cell has it and no other
-pub in-one : (k c : ℕ) → inSet (2 ^ k) c ≡ same k c
+pub in-one : (k c : ℕ) → inSet (2 ^ k) c ≡ eqb k c
 unfolding inSet
 in-one k c =
-    by-test (same k c)
+    by-test (eqb k c)
     (λ t. rw (t, eqb-true k c t, div-self (one-le-pow c 2 (omega arith))))
     (λ f. rw f
     (by-test (ltb k c)
@@ -89,14 +88,14 @@ unfolding canConflict someKind actsOn agree
 meeting-tells a b c = simp (in-either, in-both, both-either, and-true, and-false, or-false)
 
 -- a set with one cell more
-pub cell-more : (set cell : ℕ) → cell < 64 → (c : ℕ) → inSet (bitOr set ((1 * 2 ^ cell) % 2 ^ 64)) c ≡ ((same cell c && ltb cell 64) || inSet set c)
+pub cell-more : (set cell : ℕ) → cell < 64 → (c : ℕ) → inSet (bitOr set ((1 * 2 ^ cell) % 2 ^ 64)) c ≡ ((eqb cell c && ltb cell 64) || inSet set c)
 cell-more set cell h c =
-    rw (shl-exact {a = 1} 1 cell 64 (omega arith) (omega arith), lt-ltb cell 64 h, in-either set (1 * 2 ^ cell) c, one-mul (2 ^ cell), in-one cell c, and-true (same cell c))
-    (or-comm (inSet set c) (same cell c))
+    rw (shl-exact {a = 1} 1 cell 64 (omega arith) (omega arith), lt-ltb cell 64 h, in-either set (1 * 2 ^ cell) c, one-mul (2 ^ cell), in-one cell c, and-true (eqb cell c))
+    (or-comm (inSet set c) (eqb cell c))
 
 -- what is no cell changes nothing
-pub cell-none : (set cell : ℕ) → 64 ≤ cell → (c : ℕ) → inSet set c ≡ ((same cell c && ltb cell 64) || inSet set c)
-cell-none set cell h c = rw (le-ltb cell 64 h, and-false (same cell c))
+pub cell-none : (set cell : ℕ) → 64 ≤ cell → (c : ℕ) → inSet set c ≡ ((eqb cell c && ltb cell 64) || inSet set c)
+cell-none set cell h c = rw (le-ltb cell 64 h, and-false (eqb cell c))
 
 -- a bit looked at
 pub cell-there : (set cell : ℕ) → cell < 64 → eqb (bitAnd (set / 2 ^ cell) 1) 1 ≡ (ltb cell 64 && inSet set cell)

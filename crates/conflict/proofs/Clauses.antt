@@ -4,7 +4,7 @@ use Prim.Native.Nat.{ℕ}
 use mathlib.Core.Path.{_≡_, refl}
 use mathlib.Core.Bool.{true, false, not, _&&_, _||_}
 use mathlib.Core.List.{[], _∷_}
-use Rattle.laws.specs.Lists.{same}
+use lib.Dec.{eqb}
 use Rattle.terms.specs.declared.letters.Ask.the-variants.{Read as asks-read, Write as asks-write, Increment as asks-increment}
 use Rattle.conflict.specs.declared.action.Kind.the-variants.{Read, Write, Increment}
 use Rattle.conflict.specs.declared.action.Action.{Action}
@@ -37,7 +37,7 @@ unfolding keep
 keep-not a s = refl
 
 -- actions of two jobs on one cell conflict unless their kinds agree
-pub conflicts-by : (a b : Action) → conflicts a b ≡ (same (a .cell) (b .cell) && not (same (a .job) (b .job)) && not (agree (a .kind) (b .kind)))
+pub conflicts-by : (a b : Action) → conflicts a b ≡ (eqb (a .cell) (b .cell) && not (eqb (a .job) (b .job)) && not (agree (a .kind) (b .kind)))
 unfolding conflicts
 conflicts-by a b = refl
 
@@ -47,12 +47,12 @@ unfolding touches
 touches-none a j = refl
 
 -- where job j is the first of a longer one, its action does, or a later one
-pub touches-own : (a : Action) (j : ℕ) (b : Action) (s : Schedule) → same (b .job) j ≡ true → touches a j (b ∷ s) ≡ (conflicts a b || touches a j s)
+pub touches-own : (a : Action) (j : ℕ) (b : Action) (s : Schedule) → eqb (b .job) j ≡ true → touches a j (b ∷ s) ≡ (conflicts a b || touches a j s)
 unfolding touches
 touches-own a j b s t = rw t
 
 -- where another is, a later one does
-pub touches-past : (a : Action) (j : ℕ) (b : Action) (s : Schedule) → same (b .job) j ≡ false → touches a j (b ∷ s) ≡ touches a j s
+pub touches-past : (a : Action) (j : ℕ) (b : Action) (s : Schedule) → eqb (b .job) j ≡ false → touches a j (b ∷ s) ≡ touches a j s
 unfolding touches
 touches-past a j b s f = rw f
 
@@ -62,11 +62,11 @@ unfolding edge
 edge-none i j = refl
 
 -- an edge from the job of the first action goes from that action, or is one of the later ones
-pub edge-own : (a : Action) (s : Schedule) (i j : ℕ) → same (a .job) i ≡ true → edge (a ∷ s) i j ≡ (touches a j s || edge s i j)
+pub edge-own : (a : Action) (s : Schedule) (i j : ℕ) → eqb (a .job) i ≡ true → edge (a ∷ s) i j ≡ (touches a j s || edge s i j)
 unfolding edge
 edge-own a s i j t = rw t
 
 -- an edge from another job is one of the later actions
-pub edge-past : (a : Action) (s : Schedule) (i j : ℕ) → same (a .job) i ≡ false → edge (a ∷ s) i j ≡ edge s i j
+pub edge-past : (a : Action) (s : Schedule) (i j : ℕ) → eqb (a .job) i ≡ false → edge (a ∷ s) i j ≡ edge s i j
 unfolding edge
 edge-past a s i j f = rw f

@@ -5,8 +5,9 @@ use mathlib.Core.Path.{_≡_, refl, sym, ap, ap₂, _∙_}
 use mathlib.Core.Bool.{true, false, not, _&&_, and-false}
 use mathlib.Core.List.{[], _∷_}
 use borrow.Author.Tests.{eqb-true}
+use lib.Dec.{eqb}
 use Rattle.laws.specs.Choice.{by-test, not-both}
-use Rattle.laws.specs.Lists.{same, member, distinct, put}
+use Rattle.laws.specs.Lists.{member, distinct, put}
 use Rattle.laws.proofs.Lists.{same-refl, member-more}
 use Rattle.laws.proofs.Parts.{and-both, or-first, or-second}
 use Rattle.conflict.specs.declared.action.Mark.{Mark}
@@ -32,9 +33,9 @@ not-back Back e = sym e
 past-mark : (whole : History) (m : Mark) (i : ℕ) (h : History) → endsForGood (Ends m i ∷ h) ≡ true → Ahead whole (Ends m i ∷ h) → Ahead whole h
 unfolding lineOf marked
 past-mark whole m i h e ahead j l =
-    ahead j (or-second (same i j) (lineOf j h) l)
+    ahead j (or-second (eqb i j) (lineOf j h) l)
     ∙ by-test (isCommit m)
-    (λ c. by-test (same i j)
+    (λ c. by-test (eqb i j)
     (λ t. not-both l (rw (← eqb-true i j t) (ended-alone m i h e (not-back m c))))
     (λ f. rw f))
     (λ n. rw (n, and-false))
@@ -45,9 +46,9 @@ unfolding partOf committed endsForGood lineOf marked
 part-is whole [] e ahead = refl
 part-is whole (Does a ∷ h) e ahead =
     ap₂ (λ b s. keep b a s)
-    (ap (λ b. b && not (marked isBack (a .job) h)) (ahead (a .job) (or-first (same (a .job) (a .job)) (lineOf (a .job) h) (same-refl (a .job))))
+    (ap (λ b. b && not (marked isBack (a .job) h)) (ahead (a .job) (or-first (eqb (a .job) (a .job)) (lineOf (a .job) h) (same-refl (a .job))))
     ∙ commits-is (a .job) h e)
-    (part-is whole h e (λ j l. ahead j (or-second (same (a .job) j) (lineOf j h) l)))
+    (part-is whole h e (λ j l. ahead j (or-second (eqb (a .job) j) (lineOf j h) l)))
 part-is whole (Ends m i ∷ h) e ahead = part-is whole h (ends-rest m i h e) (past-mark whole m i h e ahead)
 
 -- the actions whose run ends with a commit are the paper's committed part

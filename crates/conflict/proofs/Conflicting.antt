@@ -1,9 +1,9 @@
 -- Whether two actions conflict, from what the code looks at: their cells, their jobs, then their kinds.
 -- Assumes nothing.
-use mathlib.Core.Path.{_≡_, refl, ap, _∙_}
+use mathlib.Core.Path.{_≡_, refl}
 use mathlib.Core.Bool.{Bool, true, false, not, _&&_}
 use borrow.Author.Tests.{eq-eqb, ne-eqb, eqb-true, not-true}
-use Rattle.laws.specs.Lists.{same}
+use lib.Dec.{eqb}
 use Rattle.laws.proofs.Parts.{and-first, and-second}
 use Rattle.conflict.specs.declared.action.Action.{Action}
 use Rattle.conflict.specs.Schedule.{agree, conflicts}
@@ -22,7 +22,7 @@ module _ (a b : Action) where
   -- nor between actions of one job
   pub one-job : a .job ≡ b .job → false ≡ conflicts a b
   unfolding conflicts
-  one-job e = rw (eq-eqb (a .job) (b .job) e) (and-none (same (a .cell) (b .cell)) (not (agree (a .kind) (b .kind))))
+  one-job e = rw (eq-eqb (a .job) (b .job) e) (and-none (eqb (a .cell) (b .cell)) (not (agree (a .kind) (b .kind))))
 
   -- on one cell, by two jobs, the kinds decide
   pub by-kinds : (r : Bool) → a .cell ≡ b .cell → (a .job ≡ b .job → ⊥) → r ≡ agree (a .kind) (b .kind) → not r ≡ conflicts a b
@@ -35,12 +35,12 @@ module _ (a b : Action) where
     unfolding conflicts
     conflict-cell =
         eqb-true (a .cell) (b .cell)
-        (and-first (same (a .cell) (b .cell)) (not (same (a .job) (b .job)))
-        (and-first (same (a .cell) (b .cell) && not (same (a .job) (b .job))) (not (agree (a .kind) (b .kind))) t))
+        (and-first (eqb (a .cell) (b .cell)) (not (eqb (a .job) (b .job)))
+        (and-first (eqb (a .cell) (b .cell) && not (eqb (a .job) (b .job))) (not (agree (a .kind) (b .kind))) t))
 
     -- and their kinds do not agree
     pub conflict-kinds : agree (a .kind) (b .kind) ≡ false
     unfolding conflicts
     conflict-kinds =
         not-true (agree (a .kind) (b .kind))
-        (and-second (same (a .cell) (b .cell) && not (same (a .job) (b .job))) (not (agree (a .kind) (b .kind))) t)
+        (and-second (eqb (a .cell) (b .cell) && not (eqb (a .job) (b .job))) (not (agree (a .kind) (b .kind))) t)

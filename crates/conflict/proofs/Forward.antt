@@ -5,8 +5,8 @@ use mathlib.Core.Path.{_≡_, refl, _∙_, subst}
 use mathlib.Core.Bool.{true, false, _&&_}
 use mathlib.Core.List.{List, [], _∷_, _++_}
 use borrow.Author.Tests.{eqb-true, eqb-false}
+use lib.Dec.{eqb}
 use Rattle.laws.specs.Choice.{by-test, not-both}
-use Rattle.laws.specs.Lists.{same}
 use Rattle.laws.proofs.Lists.{same-refl, same-sym, pos-rest, none-ahead, once-first, once-rest}
 use Rattle.laws.proofs.Parts.{nor-first, nor-second}
 use Rattle.conflict.specs.declared.action.Action.{Action}
@@ -18,13 +18,13 @@ use Rattle.conflict.proofs.Edges.{touches-here, touches-later, touches-
 use Rattle.conflict.proofs.OwnActions.{others, serial-others, serial-again, names-others, names-none}
 
 -- an action of another job goes behind all actions of job j, if none of them conflicts with it
-goes-behind : (j : ℕ) (a : Action) (s t : Schedule) → same (a .job) j ≡ false → touches a j s ≡ false → Equivalent (a ∷ (own j s ++ t)) (own j s ++ (a ∷ t))
+goes-behind : (j : ℕ) (a : Action) (s t : Schedule) → eqb (a .job) j ≡ false → touches a j s ≡ false → Equivalent (a ∷ (own j s ++ t)) (own j s ++ (a ∷ t))
 unfolding own keep touches
 goes-behind j a [] t f n = done
 goes-behind j a (b ∷ s) t f n =
-    let rest : touches a j s ≡ false = nor-second (same (b .job) j && conflicts a b) (touches a j s) n in
-    let first : (same (b .job) j && conflicts a b) ≡ false = nor-first (same (b .job) j && conflicts a b) (touches a j s) n in
-    by-test (same (b .job) j)
+    let rest : touches a j s ≡ false = nor-second (eqb (b .job) j && conflicts a b) (touches a j s) n in
+    let first : (eqb (b .job) j && conflicts a b) ≡ false = nor-first (eqb (b .job) j && conflicts a b) (touches a j s) n in
+    by-test (eqb (b .job) j)
     (λ e. rw e (after (here (λ q. eqb-false (a .job) j f (q ∙ eqb-true (b .job) j e)) (rw e at first)) (equivalent-later (goes-behind j a s t f rest))))
     (λ g. rw g (goes-behind j a s t f rest))
 
@@ -33,9 +33,9 @@ pub to-front : (j : ℕ) (s : Schedule) → ((i : ℕ) → edge s i j ≡ false)
 unfolding own others keep edge
 to-front j [] n = done
 to-front j (a ∷ s) n =
-    let rest : (i : ℕ) → edge s i j ≡ false = λ i. nor-second (same (a .job) i && touches a j s) (edge s i j) (n i) in
-    let first : (same (a .job) (a .job) && touches a j s) ≡ false = nor-first (same (a .job) (a .job) && touches a j s) (edge s (a .job) j) (n (a .job)) in
-    by-test (same (a .job) j) (λ e. rw e (equivalent-later (to-front j s rest)))
+    let rest : (i : ℕ) → edge s i j ≡ false = λ i. nor-second (eqb (a .job) i && touches a j s) (edge s i j) (n i) in
+    let first : (eqb (a .job) (a .job) && touches a j s) ≡ false = nor-first (eqb (a .job) (a .job) && touches a j s) (edge s (a .job) j) (n (a .job)) in
+    by-test (eqb (a .job) j) (λ e. rw e (equivalent-later (to-front j s rest)))
     (λ f. rw f (equivalent-trans (equivalent-later (to-front j s rest)) (goes-behind j a s (others j s) f (rw (same-refl (a .job)) at first))))
 
 -- an action that conflicts with one that is left conflicts with one of the whole
@@ -43,16 +43,16 @@ touches-others : (j k : ℕ) (a : Action) (s : Schedule) → touches a k (others
 unfolding touches others keep
 touches-others j k a [] h = h
 touches-others j k a (b ∷ s) h =
-    by-test (same (b .job) j) (λ e. touches-later a k b s (touches-others j k a s (rw e at h)))
+    by-test (eqb (b .job) j) (λ e. touches-later a k b s (touches-others j k a s (rw e at h)))
     (λ f. touches-cases a k b (others j s) (rw f at h) (λ m c. touches-here a k b s m c)
     (λ l. touches-later a k b s (touches-others j k a s l)))
 
 -- an edge that is left without job j is an edge of the whole, and none of j's
-pub edge-others : (j : ℕ) (s : Schedule) (i k : ℕ) → edge (others j s) i k ≡ true → (edge s i k ≡ true) × (same j i ≡ false)
+pub edge-others : (j : ℕ) (s : Schedule) (i k : ℕ) → edge (others j s) i k ≡ true → (edge s i k ≡ true) × (eqb j i ≡ false)
 unfolding edge others keep
 edge-others j [] i k h = not-both h refl
 edge-others j (a ∷ s) i k h =
-    by-test (same (a .job) j) (λ e. let r = edge-others j s i k (rw e at h) in (edge-later a s i k (r .0), r .1))
+    by-test (eqb (a .job) j) (λ e. let r = edge-others j s i k (rw e at h) in (edge-later a s i k (r .0), r .1))
     (λ f. edge-cases a (others j s) i k (rw f at h)
     (λ m t. (edge-here a s i k m (touches-others j k a s t), same-sym j i ∙ (rw (eqb-true (a .job) i m) at f)))
     (λ l. let r = edge-others j s i k l in (edge-later a s i k (r .0), r .1)))

@@ -6,8 +6,8 @@ use mathlib.Core.Logic.{_≢_}
 use mathlib.Core.Bool.{Bool, true, false, not, _&&_, _||_}
 use mathlib.Core.List.{[], _∷_, _++_}
 use borrow.Author.Tests.{eqb-true, eqb-false}
+use lib.Dec.{eqb}
 use Rattle.laws.specs.Choice.{by-test, not-both}
-use Rattle.laws.specs.Lists.{same}
 use Rattle.laws.proofs.Lists.{same-refl}
 use Rattle.laws.proofs.Parts.{and-first, and-second, and-both, or-either, or-first, or-second, nor-second}
 use Rattle.conflict.specs.declared.action.Action.{Action}
@@ -86,9 +86,9 @@ held-stops t u (Ends n i ∷ h) m j more e = held-stops t u h m j more e
 no-conflict : (t : Table) (a b : Action) → Together t → allows t a ≡ true → allows t b ≡ true → conflicts a b ≡ false
 unfolding conflicts
 no-conflict t a b safe p q =
-    by-test (same (a .cell) (b .cell))
+    by-test (eqb (a .cell) (b .cell))
     (λ c.
-    by-test (same (a .job) (b .job)) (λ j. rw (c, j))
+    by-test (eqb (a .job) (b .job)) (λ j. rw (c, j))
     (λ f.
     rw (
       c,

@@ -5,8 +5,9 @@ use mathlib.Core.Path.{_≡_, refl, sym, ap, _∙_}
 use mathlib.Core.Bool.{Bool, true, false, not, _&&_, _||_, and-false}
 use mathlib.Core.List.{[], _∷_}
 use borrow.Author.Tests.{eqb-true, not-true}
+use lib.Dec.{eqb}
 use Rattle.laws.specs.Choice.{by-test}
-use Rattle.laws.specs.Lists.{same, member}
+use Rattle.laws.specs.Lists.{member}
 use Rattle.laws.proofs.Lists.{member-put}
 use Rattle.laws.proofs.Parts.{and-first, and-second, nor-first, nor-second}
 use Rattle.conflict.specs.declared.action.Mark.{Mark}
@@ -18,22 +19,22 @@ use Rattle.conflict.specs.History.{History, isCommit, isBack, marked, co
 pub unmarked : (f : Mark → Bool) (j : ℕ) (h : History) → lineOf j h ≡ false → marked f j h ≡ false
 unfolding marked lineOf
 unmarked f j [] e = refl
-unmarked f j (Does a ∷ h) e = unmarked f j h (nor-second (same (a .job) j) (lineOf j h) e)
-unmarked f j (Ends m i ∷ h) e = rw (nor-first (same i j) (lineOf j h) e) (unmarked f j h (nor-second (same i j) (lineOf j h) e))
+unmarked f j (Does a ∷ h) e = unmarked f j h (nor-second (eqb (a .job) j) (lineOf j h) e)
+unmarked f j (Ends m i ∷ h) e = rw (nor-first (eqb i j) (lineOf j h) e) (unmarked f j h (nor-second (eqb i j) (lineOf j h) e))
 
 -- the jobs in the order of commits are those with a c
 pub listed : (j : ℕ) (h : History) → member j (commitOrder h) ≡ marked isCommit j h
 unfolding member commitOrder marked
 listed j [] = refl
 listed j (Does a ∷ h) = listed j h
-listed j (Ends m i ∷ h) = member-put (isCommit m) i j (commitOrder h) ∙ ap (λ b. (same i j && isCommit m) || b) (listed j h)
+listed j (Ends m i ∷ h) = member-put (isCommit m) i j (commitOrder h) ∙ ap (λ b. (eqb i j && isCommit m) || b) (listed j h)
 
 -- a job whose next mark is a commit has a c
 pub commits-marked : (j : ℕ) (h : History) → commits j h ≡ true → marked isCommit j h ≡ true
 unfolding marked commits
 commits-marked j [] e = e
 commits-marked j (Does a ∷ h) e = commits-marked j h e
-commits-marked j (Ends m i ∷ h) e = by-test (same i j) (λ t. rw t (let g : isCommit m ≡ true = rw t at e in rw g)) (λ f. rw f (commits-marked j h (rw f at e)))
+commits-marked j (Ends m i ∷ h) e = by-test (eqb i j) (λ t. rw t (let g : isCommit m ≡ true = rw t at e in rw g)) (λ f. rw f (commits-marked j h (rw f at e)))
 
 -- where jobs end for good, no line of a job follows its mark, if that is not a k
 pub ended-alone : (m : Mark) (i : ℕ) (h : History) → endsForGood (Ends m i ∷ h) ≡ true → isBack m ≡ false → lineOf i h ≡ false
@@ -58,6 +59,6 @@ unfolding marked commits endsForGood
 commits-is j [] e = refl
 commits-is j (Does a ∷ h) e = commits-is j h e
 commits-is j (Ends m i ∷ h) e =
-    by-test (same i j)
+    by-test (eqb i j)
     (λ t. rw t (rw (sym (eqb-true i j t)) (at-mark m i h (ended-alone m i h e))))
     (λ f. rw f (commits-is j h (ends-rest m i h e)))

@@ -1,10 +1,7 @@
 -- The laws of lock modes: what covers, what may be held beside what, what is granted, asked for and let.
 -- Assumes nothing.
-use Prim.Native.Nat.{ℕ, _<_}
 use mathlib.Core.Path.{_≡_, refl, _∙_}
 use mathlib.Core.Bool.{true, false}
-use native.Mathlib.Omega.{arith}
-use borrow.Author.Tests.{ne-eqb}
 use Rattle.laws.specs.Choice.{by-test, not-both}
 use Rattle.terms.specs.declared.letters.Ask.{Ask}
 use Rattle.terms.specs.declared.letters.Ask.the-variants.{Read as asks-read, Write as asks-write, Increment as asks-increment}
@@ -13,7 +10,7 @@ use Rattle.conflict.specs.declared.action.Kind.the-variants.{Read, Write
 use Rattle.conflict.specs.declared.modes.Mode.{Mode}
 use Rattle.conflict.specs.declared.modes.Mode.the-variants.{Free, S, X, I}
 use Rattle.conflict.specs.Schedule.{agree}
-use Rattle.conflict.specs.Modes.{needed, recorded, covers, beside, grants, asked, lets, isFree, codeOf, modeOf}
+use Rattle.conflict.specs.Modes.{needed, recorded, covers, beside, grants, asked, lets, isFree}
 pub use Rattle.conflict.proofs.Swaps.{agree-sym}
 
 -- which of two jobs is named first does not matter

@@ -5,7 +5,8 @@ use Prim.Native.Nat.{ℕ}
 use mathlib.Core.Path.{_≡_, refl}
 use mathlib.Core.Bool.{Bool, true, false, not, _&&_, _||_}
 use mathlib.Core.List.{[], _∷_}
-use Rattle.laws.specs.Lists.{same, put}
+use lib.Dec.{eqb}
+use Rattle.laws.specs.Lists.{put}
 use Rattle.conflict.specs.declared.action.Action.{Action}
 use Rattle.conflict.specs.declared.action.Mark.{Mark}
 use Rattle.conflict.specs.declared.action.Mark.the-variants.{Commit, GiveUp, Back}
@@ -26,12 +27,12 @@ unfolding lineOf
 line-none j = refl
 
 -- an action is a line of its job
-pub line-does : (j : ℕ) (a : Action) (h : History) → lineOf j (Does a ∷ h) ≡ (same (a .job) j || lineOf j h)
+pub line-does : (j : ℕ) (a : Action) (h : History) → lineOf j (Does a ∷ h) ≡ (eqb (a .job) j || lineOf j h)
 unfolding lineOf
 line-does j a h = refl
 
 -- and so is a mark
-pub line-ends : (j : ℕ) (m : Mark) (i : ℕ) (h : History) → lineOf j (Ends m i ∷ h) ≡ (same i j || lineOf j h)
+pub line-ends : (j : ℕ) (m : Mark) (i : ℕ) (h : History) → lineOf j (Ends m i ∷ h) ≡ (eqb i j || lineOf j h)
 unfolding lineOf
 line-ends j m i h = refl
 
@@ -46,7 +47,7 @@ unfolding marked
 marked-does f j a h = refl
 
 -- a mark is one of its job
-pub marked-ends : (f : Mark → Bool) (j : ℕ) (m : Mark) (i : ℕ) (h : History) → marked f j (Ends m i ∷ h) ≡ ((same i j && f m) || marked f j h)
+pub marked-ends : (f : Mark → Bool) (j : ℕ) (m : Mark) (i : ℕ) (h : History) → marked f j (Ends m i ∷ h) ≡ ((eqb i j && f m) || marked f j h)
 unfolding marked
 marked-ends f j m i h = refl
 

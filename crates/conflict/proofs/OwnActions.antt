@@ -5,8 +5,9 @@ use mathlib.Core.Path.{_≡_, refl, sym, ap, ap₂, _∙_}
 use mathlib.Core.Bool.{Bool, true, false, not}
 use mathlib.Core.List.{List, [], _∷_, _++_, append-nil}
 use borrow.Author.Tests.{eqb-true}
+use lib.Dec.{eqb}
 use Rattle.laws.specs.Choice.{by-test, not-both}
-use Rattle.laws.specs.Lists.{same, member, distinct}
+use Rattle.laws.specs.Lists.{member, distinct}
 use Rattle.laws.proofs.Lists.{same-sym, member-first, member-later, member-more, member-other, once-first, once-rest}
 use Rattle.laws.proofs.Parts.{and-first, and-second, and-both, nor-first, nor-second}
 use Rattle.conflict.specs.declared.action.Action.{Action}
@@ -15,46 +16,46 @@ use Rattle.conflict.specs.Schedule.{Schedule, keep, own, serial, names}
 -- the actions of every job but one, in their order
 unfoldable pub others : ℕ → Schedule → Schedule
 others j [] = []
-others j (a ∷ s) = keep (not (same (a .job) j)) a (others j s)
+others j (a ∷ s) = keep (not (eqb (a .job) j)) a (others j s)
 
 -- a job's actions in two schedules, one behind the other
 pub own-append : (j : ℕ) (s t : Schedule) → own j (s ++ t) ≡ own j s ++ own j t
 unfolding own keep
 own-append j [] t = refl
 own-append j (a ∷ s) t =
-    by-test (same (a .job) j) (λ e. rw e (ap (λ u. a ∷ u) (own-append j s t))) (λ f. rw f (own-append j s t))
+    by-test (eqb (a .job) j) (λ e. rw e (ap (λ u. a ∷ u) (own-append j s t))) (λ f. rw f (own-append j s t))
 
 -- of a job's actions, all are that job's
 pub own-same : (j : ℕ) (s : Schedule) → own j (own j s) ≡ own j s
 unfolding own keep
 own-same j [] = refl
 own-same j (a ∷ s) =
-    by-test (same (a .job) j) (λ e. simp e (ap (λ u. a ∷ u) (own-same j s))) (λ f. rw f (own-same j s))
+    by-test (eqb (a .job) j) (λ e. simp e (ap (λ u. a ∷ u) (own-same j s))) (λ f. rw f (own-same j s))
 
 -- one action more or not, of another job
-own-more : (k : ℕ) (b : Bool) (a : Action) (s : Schedule) → (b ≡ true → same (a .job) k ≡ false) → own k (keep b a s) ≡ own k s
+own-more : (k : ℕ) (b : Bool) (a : Action) (s : Schedule) → (b ≡ true → eqb (a .job) k ≡ false) → own k (keep b a s) ≡ own k s
 unfolding own keep
 own-more k true a s h = rw (h refl)
 own-more k false a s h = refl
 
 -- who is one job is not another
-same-other : (i j k : ℕ) → same j k ≡ false → same i j ≡ true → same i k ≡ false
+same-other : (i j k : ℕ) → eqb j k ≡ false → eqb i j ≡ true → eqb i k ≡ false
 same-other i j k f e = rw (eqb-true i j e) f
 
 -- of a job's actions, none is another's
-pub own-other : (j k : ℕ) (s : Schedule) → same j k ≡ false → own k (own j s) ≡ []
+pub own-other : (j k : ℕ) (s : Schedule) → eqb j k ≡ false → own k (own j s) ≡ []
 unfolding own
 own-other j k [] f = refl
 own-other j k (a ∷ s) f =
-    own-more k (same (a .job) j) a (own j s) (λ e. same-other (a .job) j k f e) ∙ own-other j k s f
+    own-more k (eqb (a .job) j) a (own j s) (λ e. same-other (a .job) j k f e) ∙ own-other j k s f
 
 -- leaving out a job leaves every other job's actions
-pub own-others : (j k : ℕ) (s : Schedule) → same j k ≡ false → own k (others j s) ≡ own k s
+pub own-others : (j k : ℕ) (s : Schedule) → eqb j k ≡ false → own k (others j s) ≡ own k s
 unfolding own keep others
 own-others j k [] f = refl
 own-others j k (a ∷ s) f =
-    by-test (same (a .job) j) (λ e. simp (e, same-other (a .job) j k f e) (own-others j k s f))
-    (λ g. rw g (ap (keep (same (a .job) k) a) (own-others j k s f)))
+    by-test (eqb (a .job) j) (λ e. simp (e, same-other (a .job) j k f e) (own-others j k s f))
+    (λ g. rw g (ap (keep (eqb (a .job) k) a) (own-others j k s f)))
 
 -- schedules in which each job of the order has the same actions have the same serial schedule
 pub serial-alike : (order : List ℕ) (s t : Schedule) → ((k : ℕ) → member k order ≡ true → own k s ≡ own k t) → serial order s ≡ serial order t
@@ -73,7 +74,7 @@ unfolding serial own member
 own-serial-none [] k s f = refl
 own-serial-none (j ∷ order) k s f =
     own-append k (own j s) (serial order s)
-    ∙ ap₂ _++_ (own-other j k s (nor-first (same j k) (member k order) f)) (own-serial-none order k s (nor-second (same j k) (member k order) f))
+    ∙ ap₂ _++_ (own-other j k s (nor-first (eqb j k) (member k order) f)) (own-serial-none order k s (nor-second (eqb j k) (member k order) f))
 
 -- the first job of the order has its own actions in front, and none behind them
 own-first : (j : ℕ) (order : List ℕ) (s : Schedule) → member j order ≡ false → own j (serial (j ∷ order) s) ≡ own j s
@@ -86,7 +87,7 @@ pub own-serial : (order : List ℕ) (k : ℕ) (s : Schedule) → distinct order 
 unfolding serial member
 own-serial [] k s d m = not-both m refl
 own-serial (j ∷ order) k s d m =
-    by-test (same j k) (λ e. rw (← eqb-true j k e) (own-first j order s (once-first j order d)))
+    by-test (eqb j k) (λ e. rw (← eqb-true j k e) (own-first j order s (once-first j order d)))
     (λ f. own-append k (own j s) (serial order s) ∙ ap₂ _++_ (own-other j k s f) (own-serial order k s (once-rest j order d) (rw f at m)))
 
 -- a serial schedule is its own serial schedule in the same order
@@ -106,7 +107,7 @@ pub names-own : (order : List ℕ) (j : ℕ) (s : Schedule) → member j order �
 unfolding names own keep
 names-own order j [] m = refl
 names-own order j (a ∷ s) m =
-    by-test (same (a .job) j) (λ e. rw e (and-both (member (a .job) order) (names order (own j s)) (rw (eqb-true (a .job) j e) m) (names-own order j s m)))
+    by-test (eqb (a .job) j) (λ e. rw e (and-both (member (a .job) order) (names order (own j s)) (rw (eqb-true (a .job) j e) m) (names-own order j s m)))
     (λ f. rw f (names-own order j s m))
 
 -- a serial schedule in part of an order has only jobs of the order
@@ -127,7 +128,7 @@ unfolding names others keep
 names-others j order [] h = refl
 names-others j order (a ∷ s) h =
     let rest : names order (others j s) ≡ true = names-others j order s (and-second (member (a .job) (j ∷ order)) (names (j ∷ order) s) h) in
-    by-test (same (a .job) j) (λ e. rw e rest)
+    by-test (eqb (a .job) j) (λ e. rw e rest)
     (λ f. rw f (and-both (member (a .job) order) (names order (others j s))
     (sym (member-later j order (a .job) (same-sym j (a .job) ∙ f)) ∙ and-first (member (a .job) (j ∷ order)) (names (j ∷ order) s) h)
     rest))

@@ -5,8 +5,9 @@ use mathlib.Core.Path.{_≡_, refl, _∙_}
 use mathlib.Core.Bool.{Bool, true, false, not}
 use mathlib.Core.List.{[], _∷_}
 use borrow.Author.Tests.{eqb-true, not-true}
+use lib.Dec.{eqb}
 use Rattle.laws.specs.Choice.{by-test, not-both}
-use Rattle.laws.specs.Lists.{same, member, distinct, pos, put}
+use Rattle.laws.specs.Lists.{member, distinct, pos, put}
 use Rattle.laws.proofs.Lists.{same-refl, first-ahead, put-once, put-ahead}
 use Rattle.laws.proofs.Parts.{and-first, and-second, and-both}
 use Rattle.conflict.specs.declared.action.Action.{Action}
@@ -40,7 +41,7 @@ commits-ahead a j (Does b ∷ h) d u c t =
     commits-ahead a j h d (and-second (not (conflicts a b)) (undisturbed a h) u) c
     (touches-rest a j b (commits (b .job) h) (committed h) (not-true (conflicts a b) (and-first (not (conflicts a b)) (undisturbed a h) u)) t)
 commits-ahead a j (Ends m i ∷ h) d u c t =
-    by-test (same i (a .job))
+    by-test (eqb i (a .job))
     (λ e.
     let now : isCommit m ≡ true = rw e at c in
     rw now (first-ahead i (commitOrder h) (a .job) j e (rw (eqb-true i (a .job) e) (touches-other a j (committed h) t))))

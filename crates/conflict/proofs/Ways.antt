@@ -1,7 +1,7 @@
 -- Ways along edges: from one job, by one more, to one more, and that a knot may be read from any of its jobs.
 -- Assumes nothing.
 use Prim.Native.Nat.{ℕ}
-use mathlib.Core.Path.{_≡_, refl}
+use mathlib.Core.Path.{_≡_}
 use mathlib.Core.Bool.{Bool, true}
 use mathlib.Core.List.{List, [], _∷_, _++_}
 use Rattle.laws.proofs.Parts.{and-first, and-second, and-both}

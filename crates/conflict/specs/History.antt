@@ -1,9 +1,10 @@
 -- Histories: actions and the marks that end runs; the committed part, the order of commits, and strictness (01, The judge's rules; 01, Jobs and their numbers).
 use Prim.Native.Nat.{ℕ}
-use mathlib.Core.Path.{_≡_}
-use mathlib.Core.Bool.{Bool, true, false, not, _&&_, _||_, cond}
-use mathlib.Core.List.{List, [], _∷_, _++_}
-use Rattle.laws.specs.Lists.{same, put}
+use mathlib.Core.Bool.{Bool, true, false, not, _&&_, _||_}
+use mathlib.Core.List.{List, [], _∷_}
+use lib.Dec.{eqb}
+use Rattle.laws.specs.Choice.{pick}
+use Rattle.laws.specs.Lists.{put}
 use Rattle.conflict.specs.declared.action.Action.{Action}
 use Rattle.conflict.specs.declared.action.Mark.{Mark}
 use Rattle.conflict.specs.declared.action.Mark.the-variants.{Commit, GiveUp, Back}
@@ -31,7 +32,7 @@ isBack Back = true
 unfoldable pub marked : (Mark → Bool) → ℕ → History → Bool
 marked f j [] = false
 marked f j (Does a ∷ h) = marked f j h
-marked f j (Ends m i ∷ h) = (same i j && f m) || marked f j h
+marked f j (Ends m i ∷ h) = (eqb i j && f m) || marked f j h
 
 -- of the lines that are left, the actions of jobs with a c in the whole history and no k after them
 unfoldable pub partOf : History → History → Schedule
@@ -47,7 +48,7 @@ committedPart h = partOf h h
 unfoldable pub commits : ℕ → History → Bool
 commits j [] = false
 commits j (Does a ∷ h) = commits j h
-commits j (Ends m i ∷ h) = cond (same i j) (isCommit m) (commits j h)
+commits j (Ends m i ∷ h) = pick (eqb i j) (isCommit m) (commits j h)
 
 -- the actions whose run ends with a commit
 unfoldable pub committed : History → Schedule
@@ -64,8 +65,8 @@ commitOrder (Ends m i ∷ h) = put (isCommit m) i (commitOrder h)
 -- whether a line of job j stands in the history
 unfoldable pub lineOf : ℕ → History → Bool
 lineOf j [] = false
-lineOf j (Does a ∷ h) = same (a .job) j || lineOf j h
-lineOf j (Ends m i ∷ h) = same i j || lineOf j h
+lineOf j (Does a ∷ h) = eqb (a .job) j || lineOf j h
+lineOf j (Ends m i ∷ h) = eqb i j || lineOf j h
 
 -- no line of a job follows its c or a (01, refusal 13)
 unfoldable pub endsForGood : History → Bool
@@ -77,7 +78,7 @@ endsForGood (Ends m i ∷ h) = (isBack m || not (lineOf i h)) && endsForGood h
 unfoldable pub undisturbed : Action → History → Bool
 undisturbed a [] = true
 undisturbed a (Does b ∷ h) = not (conflicts a b) && undisturbed a h
-undisturbed a (Ends m i ∷ h) = cond (same i (a .job)) true (undisturbed a h)
+undisturbed a (Ends m i ∷ h) = pick (eqb i (a .job)) true (undisturbed a h)
 
 -- strict: from each action to the end of its run nothing of another job conflicts with it (01, The desk's rules: nothing is released before the run ends)
 unfoldable pub strict : History → Bool

@@ -2,9 +2,8 @@
 use terms::limits::CELLS;
 ghost use mathlib.Core.Path.{_≡_};
 ghost use mathlib.Core.Bool.{_&&_, _||_};
-ghost use lib.Dec.{ltb};
+ghost use lib.Dec.{eqb, ltb};
 ghost use Prim.Native.Nat.{ℕ};
-ghost use Rattle.laws.specs.Lists.{same};
 ghost use Rattle.terms.specs.Limits.{cells};
 ghost use Rattle.conflict.specs.Cells.{inSet, canConflict};
 
@@ -17,7 +16,7 @@ pub struct Touched {
 
 // A set with one cell more. What is no cell is in no set.
 pub fn with_cell(set: u64, cell: u32) -> u64
-    ensures { λ r. ⌜ ((c : ℕ) → inSet r c ≡ ((same cell c && ltb cell cells) || inSet set c)) ⌝ }
+    ensures { λ r. ⌜ ((c : ℕ) → inSet r c ≡ ((eqb cell c && ltb cell cells) || inSet set c)) ⌝ }
 {
     if cell >= CELLS {
         return set;

@@ -3,16 +3,15 @@
 use Prim.Native.Nat.{ℕ, _<_, _≤_}
 use mathlib.Core.Path.{_≡_, refl, sym, ap, _∙_}
 use mathlib.Core.Bool.{Bool, true, false, not, _&&_, _||_}
-use mathlib.Core.List.{[], _∷_}
+use mathlib.Core.List.{_∷_}
 use native.Mathlib.Omega.{arith}
 use lib.Dec.{eqb, ltb}
 use borrow.Author.Tests.{eqb-true, eqb-false, ne-eqb, lt-ltb, le-ltb, ltb-true, ltb-false}
 use Rattle.laws.specs.Choice.{pick, by-test}
-use Rattle.laws.specs.Lists.{same}
 use Rattle.conflict.specs.declared.action.Mark.{Mark}
 use Rattle.conflict.specs.declared.action.Mark.the-variants.{Commit, GiveUp, Back}
 use Rattle.conflict.specs.declared.action.Event.the-variants.{Does, Ends}
-use Rattle.conflict.specs.Schedule.{Schedule, keep}
+use Rattle.conflict.specs.Schedule.{keep}
 use Rattle.conflict.specs.History.{History, isCommit, isBack, marked, partOf}
 use Rattle.conflict.proofs.Clauses.{keep-not}
 use Rattle.conflict.proofs.OneEvent.{marked-does, marked-ends, commit-not-back, give-up-not-back, back-is-back, commit-is-commit, give-up-not-commit, back-not-commit, part-does, part-ends}
@@ -61,25 +60,25 @@ none-more false b c e = refl
 
 module _ (c job cell j : ℕ) (h : History) where
   -- a job has a c where this line is one of its, or where it has one later
-  pub commit-line : marked isCommit j (eventBy c job cell ∷ h) ≡ ((same job j && eqb c 3) || marked isCommit j h)
+  pub commit-line : marked isCommit j (eventBy c job cell ∷ h) ≡ ((eqb job j && eqb c 3) || marked isCommit j h)
   commit-line =
       by-test (ltb c 3)
       (λ t.
       let less : c < 3 = ltb-true c 3 t in
       rw (act-event c job cell less)
-      (marked-does isCommit j (actionBy c job cell) h ∙ none-more (same job j) (eqb c 3) (marked isCommit j h) (ne-eqb c 3 (λ e. omega arith))))
-      (λ f. rw (end-event c job cell (ltb-false c 3 f)) (marked-ends isCommit j (markBy c) job h ∙ ap (λ b. (same job j && b) || marked isCommit j h) (mark-commit c)))
+      (marked-does isCommit j (actionBy c job cell) h ∙ none-more (eqb job j) (eqb c 3) (marked isCommit j h) (ne-eqb c 3 (λ e. omega arith))))
+      (λ f. rw (end-event c job cell (ltb-false c 3 f)) (marked-ends isCommit j (markBy c) job h ∙ ap (λ b. (eqb job j && b) || marked isCommit j h) (mark-commit c)))
 
   -- a job has a k where this line is one of its, or where it has one later
-  pub back-line : marked isBack j (eventBy c job cell ∷ h) ≡ ((same job j && ltb 4 c) || marked isBack j h)
+  pub back-line : marked isBack j (eventBy c job cell ∷ h) ≡ ((eqb job j && ltb 4 c) || marked isBack j h)
   back-line =
       by-test (ltb c 3)
       (λ t.
       let less : c < 3 = ltb-true c 3 t in
       rw (act-event c job cell less)
-      (marked-does isBack j (actionBy c job cell) h ∙ none-more (same job j) (ltb 4 c) (marked isBack j h) (le-ltb 4 c (omega arith))))
+      (marked-does isBack j (actionBy c job cell) h ∙ none-more (eqb job j) (ltb 4 c) (marked isBack j h) (le-ltb 4 c (omega arith))))
       (λ f. rw (end-event c job cell (ltb-false c 3 f))
-      (marked-ends isBack j (markBy c) job h ∙ ap (λ b. (same job j && b) || marked isBack j h) (mark-back c (ltb-false c 3 f))))
+      (marked-ends isBack j (markBy c) job h ∙ ap (λ b. (eqb job j && b) || marked isBack j h) (mark-back c (ltb-false c 3 f))))
 
 -- the committed part has this line where it is an action of a job with a c, and no k of its follows
 pub part-line : (c job cell : ℕ) (whole h : History) → partOf whole (eventBy c job cell ∷ h) ≡ keep (ltb c 3 && (marked isCommit job whole && not (marked isBack job h))) (actionBy c job cell) (partOf whole h)

@@ -1,20 +1,19 @@
 -- The sets of cells and the table of last lines as a pass over the lines makes them, one line at a time.
 -- Assumes nothing.
-use Prim.Native.Nat.{ℕ, zero, suc, _+_, _-_, _*_, _≤_, _<_}
-use mathlib.Core.Path.{_≡_, refl, sym, ap, _∙_}
-use mathlib.Core.Bool.{Bool, true, false, _&&_, _||_}
+use Prim.Native.Nat.{ℕ, _+_, _-_, _<_}
+use mathlib.Core.Path.{_≡_, sym, ap, _∙_}
+use mathlib.Core.Bool.{_&&_, _||_}
 use mathlib.Core.List.{List}
 use native.Mathlib.Omega.{arith}
 use lib.Dec.{eqb, ltb}
-use lib.ListN.{length, getD, set, replicate, length-set, length-replicate, getD-replicate}
+use lib.ListN.{getD, set, replicate, length-set, length-replicate, getD-replicate}
 use lib.Seq.{getD-set-same, getD-set-other}
 use borrow.Author.Tests.{eqb-true, eqb-false, lt-ltb}
 use Rattle.laws.specs.Choice.{by-test}
-use Rattle.laws.specs.Lists.{same}
 use Rattle.laws.proofs.Lists.{same-refl}
 use Rattle.laws.proofs.Parts.{or-first, or-second, and-both}
 use Rattle.conflict.specs.Cells.{inSet}
-use Rattle.deciding.specs.Reaching.{Acting, Covered, lastKey, Lasts}
+use Rattle.deciding.specs.Reaching.{Covered, lastKey, Lasts}
 
 module _ (codes cells owners : List ℕ) (kind : ℕ) where
   -- nobody has a cell yet
@@ -33,7 +32,7 @@ module _ (codes cells owners : List ℕ) (kind : ℕ) where
         }
 
     -- one of this kind adds its cell to its job's
-    pub covered-more : (j cell v : ℕ) → j ≡ getD owners p 0 → j < 256 → cell ≡ getD cells p 0 → ((c : ℕ) → inSet v c ≡ ((same cell c && ltb cell 64) || inSet (getD sets j 0) c)) → Covered codes cells owners (p + 1) kind (set sets j v)
+    pub covered-more : (j cell v : ℕ) → j ≡ getD owners p 0 → j < 256 → cell ≡ getD cells p 0 → ((c : ℕ) → inSet v c ≡ ((eqb cell c && ltb cell 64) || inSet (getD sets j 0) c)) → Covered codes cells owners (p + 1) kind (set sets j v)
     covered-more j cell v q b i e =
         record {
           wide = length-set sets j v ∙ s .wide;
@@ -44,8 +43,8 @@ module _ (codes cells owners : List ℕ) (kind : ℕ) where
               ∙ by-test (eqb y p)
               (λ u.
               let q′ : cell ≡ getD cells y 0 = i ∙ ap (λ z. getD cells z 0) (sym (eqb-true y p u)) in
-              or-first (same cell (getD cells y 0) && ltb cell 64) (inSet (getD sets j 0) (getD cells y 0)) (and-both (same cell (getD cells y 0)) (ltb cell 64) (rw q′ (same-refl (getD cells y 0))) (lt-ltb cell 64 (omega arith))))
-              (λ u. or-second (same cell (getD cells y 0) && ltb cell 64) (inSet (getD sets j 0) (getD cells y 0))
+              or-first (eqb cell (getD cells y 0) && ltb cell 64) (inSet (getD sets j 0) (getD cells y 0)) (and-both (eqb cell (getD cells y 0)) (ltb cell 64) (rw q′ (same-refl (getD cells y 0))) (lt-ltb cell 64 (omega arith))))
+              (λ u. or-second (eqb cell (getD cells y 0) && ltb cell 64) (inSet (getD sets j 0) (getD cells y 0))
               (ap (λ o. inSet (getD sets o 0) (getD cells y 0)) (sym (eqb-true (getD owners y 0) j t)) ∙ s .has y (omega (arith, eqb-false y p u)) k l)))
               (λ g. ap (λ w. inSet w (getD cells y 0)) (getD-set-other sets j (getD owners y 0) v 0 (eqb-false (getD owners y 0) j g))
               ∙ s .has y (by-test (eqb y p) (λ u. absurd (eqb-false (getD owners y 0) j g (ap (λ z. getD owners z 0) (eqb-true y p u) ∙ sym q))) (λ u. omega (arith, eqb-false y p u))) k l);

@@ -1,26 +1,12 @@
 -- A history kept in arrays, from its front: its events line by line, and the marks among them.
 -- Assumes nothing.
-use Prim.Native.Nat.{ℕ, zero, suc, _+_, _≤_, _<_}
+use Prim.Native.Nat.{ℕ, zero, suc, _+_}
 use mathlib.Core.Path.{_≡_, refl, sym, ap, _∙_}
-use mathlib.Core.Bool.{Bool, true, false, not, _&&_, _||_}
 use mathlib.Core.List.{List, [], _∷_, _++_}
 use native.Mathlib.Nat.{add-zero, zero-add}
 use native.Mathlib.Omega.{arith}
-use lib.Dec.{eqb, ltb, leb}
-use lib.ListN.{getD}
-use borrow.Author.Tests.{eqb-true, eqb-false, ne-eqb, lt-ltb, le-ltb, ltb-true, ltb-false, lt-leb, le-leb}
-use Rattle.laws.specs.Choice.{pick, by-test, not-both}
-use Rattle.laws.specs.Lists.{same}
-use Rattle.conflict.specs.declared.action.Kind.{Kind}
-use Rattle.conflict.specs.declared.action.Kind.the-variants.{Read, Write, Increment}
-use Rattle.conflict.specs.declared.action.Action.{Action}
-use Rattle.conflict.specs.declared.action.Mark.{Mark}
-use Rattle.conflict.specs.declared.action.Mark.the-variants.{Commit, GiveUp, Back}
-use Rattle.conflict.specs.declared.action.Event.{Event}
-use Rattle.conflict.specs.declared.action.Event.the-variants.{Does, Ends}
-use Rattle.conflict.specs.History.{History, isCommit, isBack, marked}
-use Rattle.conflict.proofs.Appended.{marked-append}
-use Rattle.verdicts.specs.Arrays.{eventBy, historyBy}
+use Rattle.conflict.specs.History.{History}
+use Rattle.verdicts.specs.Arrays.{historyBy}
 use Rattle.deciding.specs.Kept.{eventAt}
 
 module _ (codes jobs cells : List ℕ) where

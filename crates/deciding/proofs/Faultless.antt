@@ -9,8 +9,8 @@ use native.Mathlib.Numerals.{add-one}
 use native.Mathlib.Omega.{arith}
 use lib.Dec.{eqb, ltb, leb}
 use lib.ListN.{getD, set}
-use borrow.Author.Tests.{eqb-true, eqb-false, le-ltb, lt-ltb, ltb-false, leb-true, leb-false, le-leb, not-false}
-use Rattle.laws.specs.Choice.{pick, by-test, not-both}
+use borrow.Author.Tests.{eqb-true, eqb-false, lt-ltb, ltb-false, leb-true, leb-false, not-false}
+use Rattle.laws.specs.Choice.{pick, by-test}
 use Rattle.laws.proofs.Parts.{and-first, and-second}
 use Rattle.terms.specs.declared.refusals.Refusal.{Refusal}
 use Rattle.terms.specs.declared.refusals.Refusal.the-variants.{CellAbove, TooManyLines, JobOutside, Ended}

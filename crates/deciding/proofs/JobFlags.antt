@@ -1,6 +1,6 @@
 -- The flags of the jobs with a c are the jobs of the history.
 -- Assumes nothing.
-use Prim.Native.Nat.{ℕ, suc, _≤_, _<_}
+use Prim.Native.Nat.{ℕ, _≤_, _<_}
 use mathlib.Core.Path.{_≡_, refl, sym, ap, _∙_}
 use mathlib.Core.Bool.{Bool, true, false}
 use mathlib.Core.List.{List}
@@ -10,7 +10,7 @@ use Rattle.laws.specs.Choice.{by-test, not-both}
 use Rattle.laws.specs.Lists.{member}
 use Rattle.conflict.specs.Schedule.{edge}
 use Rattle.conflict.specs.History.{isCommit, marked, committedPart}
-use Rattle.verdicts.specs.Order.{ascending, orderOf, stuck}
+use Rattle.verdicts.specs.Order.{orderOf, stuck}
 use Rattle.verdicts.specs.Arrays.{historyBy}
 use Rattle.verdicts.specs.Judged.{jobsOf}
 use Rattle.verdicts.proofs.Histories.{jobs-only}

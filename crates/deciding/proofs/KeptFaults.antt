@@ -1,21 +1,20 @@
 -- The fault of one kept line, from what the code looks at, and the flags of the jobs that have committed or given up, one line more.
 -- Assumes nothing.
-use Prim.Native.Nat.{ℕ, zero, suc, _+_, _≤_, _<_}
+use Prim.Native.Nat.{ℕ, suc, _+_, _≤_, _<_}
 use mathlib.Core.Path.{_≡_, refl, sym, ap, _∙_}
 use mathlib.Core.Bool.{Bool, true, false, not, _&&_, _||_, or-false}
-use mathlib.Core.List.{List, [], _∷_, _++_}
+use mathlib.Core.List.{List, [], _∷_}
 use mathlib.Core.Option.{Option, none, some}
 use native.Mathlib.Numerals.{add-one}
 use native.Mathlib.Omega.{arith}
 use lib.Dec.{eqb, ltb, leb}
-use lib.ListN.{length, getD, set, replicate, length-set, length-replicate, getD-replicate}
+use lib.ListN.{getD, set, replicate, length-set, length-replicate, getD-replicate}
 use lib.Seq.{getD-set-same, getD-set-other}
 use borrow.Author.Tests.{eqb-true, eqb-false, eq-eqb, ne-eqb, lt-ltb, le-ltb, ltb-true, ltb-false, le-leb, lt-leb}
-use Rattle.laws.specs.Choice.{pick, by-test, not-both}
-use Rattle.laws.specs.Lists.{same}
+use Rattle.laws.specs.Choice.{pick, by-test}
 use Rattle.terms.specs.declared.refusals.Refusal.{Refusal}
 use Rattle.terms.specs.declared.refusals.Refusal.the-variants.{CellAbove, TooManyLines, JobOutside, Ended}
-use Rattle.conflict.specs.History.{History, isBack, marked}
+use Rattle.conflict.specs.History.{History, marked}
 use Rattle.conflict.proofs.Appended.{marked-append}
 use Rattle.conflict.proofs.OneEvent.{marked-none, marked-does, marked-ends, commit-not-back, give-up-not-back, back-is-back}
 use Rattle.verdicts.specs.Arrays.{eventBy, historyBy}
@@ -51,24 +50,24 @@ and-none true b = refl
 and-none false b = refl
 
 -- a job has ended for good where this line ends it, or where it has before
-ends-line : (c job cell j : ℕ) (h : History) → marked endsJob j (eventBy c job cell ∷ h) ≡ ((same job j && (eqb c 3 || eqb c 4)) || marked endsJob j h)
+ends-line : (c job cell j : ℕ) (h : History) → marked endsJob j (eventBy c job cell ∷ h) ≡ ((eqb job j && (eqb c 3 || eqb c 4)) || marked endsJob j h)
 ends-line c job cell j h =
     by-test (ltb c 3)
     (λ t.
     let less : c < 3 = ltb-true c 3 t in
     rw (act-event c job cell less)
     (marked-does endsJob j (actionBy c job cell) h
-    ∙ sym (rw (ne-eqb c 3 (λ e. omega arith), ne-eqb c 4 (λ e. omega arith)) (and-none (same job j) (marked endsJob j h)))))
-    (λ f. rw (end-event c job cell (ltb-false c 3 f)) (marked-ends endsJob j (markBy c) job h ∙ ap (λ b. (same job j && b) || marked endsJob j h) (mark-ends c)))
+    ∙ sym (rw (ne-eqb c 3 (λ e. omega arith), ne-eqb c 4 (λ e. omega arith)) (and-none (eqb job j) (marked endsJob j h)))))
+    (λ f. rw (end-event c job cell (ltb-false c 3 f)) (marked-ends endsJob j (markBy c) job h ∙ ap (λ b. (eqb job j && b) || marked endsJob j h) (mark-ends c)))
 
 module _ (codes jobs cells : List ℕ) (p : ℕ) where
   -- who has ended, one line more
-  ended-more : (j : ℕ) → marked endsJob j (historyBy codes jobs cells (suc p)) ≡ (marked endsJob j (historyBy codes jobs cells p) || (same (getD jobs p 0) j && (eqb (getD codes p 0) 3 || eqb (getD codes p 0) 4)))
+  ended-more : (j : ℕ) → marked endsJob j (historyBy codes jobs cells (suc p)) ≡ (marked endsJob j (historyBy codes jobs cells p) || (eqb (getD jobs p 0) j && (eqb (getD codes p 0) 3 || eqb (getD codes p 0) 4)))
   unfolding historyBy
   ended-more j =
       marked-append endsJob j (historyBy codes jobs cells p) (eventBy (getD codes p 0) (getD jobs p 0) (getD cells p 0) ∷ [])
       ∙ ap (λ b. marked endsJob j (historyBy codes jobs cells p) || b)
-      (ends-line (getD codes p 0) (getD jobs p 0) (getD cells p 0) j [] ∙ rw (marked-none endsJob j) (or-false (same (getD jobs p 0) j && (eqb (getD codes p 0) 3 || eqb (getD codes p 0) 4))))
+      (ends-line (getD codes p 0) (getD jobs p 0) (getD cells p 0) j [] ∙ rw (marked-none endsJob j) (or-false (eqb (getD jobs p 0) j && (eqb (getD codes p 0) 3 || eqb (getD codes p 0) 4))))
 
   -- a line too many is refused whatever it is
   pub fault-many : (before : History) → 4096 ≤ p → some TooManyLines ≡ eventFault (p + 1) before (eventAt codes jobs cells p)

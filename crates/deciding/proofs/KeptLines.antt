@@ -3,14 +3,13 @@
 use Prim.Native.Nat.{ℕ, zero, suc, _+_}
 use mathlib.Core.Path.{_≡_, refl, sym, ap, ap₂, _∙_}
 use mathlib.Core.Bool.{Bool, true, false, not, _&&_, _||_}
-use mathlib.Core.List.{List, [], _∷_, map}
-use native.Mathlib.Nat.{add-zero, add-suc, zero-add}
+use mathlib.Core.List.{List, map}
+use native.Mathlib.Nat.{zero-add}
 use native.Mathlib.Omega.{arith}
-use lib.Dec.{ltb, leb}
+use lib.Dec.{ltb, leb, eqb}
 use lib.ListN.{getD}
 use borrow.Author.Tests.{ltb-true, le-ltb}
-use Rattle.laws.specs.Choice.{by-test}
-use Rattle.laws.specs.Lists.{same, put}
+use Rattle.laws.specs.Lists.{put}
 use Rattle.conflict.specs.declared.action.Action.{Action}
 use Rattle.conflict.specs.Schedule.{keep}
 use Rattle.conflict.specs.History.{isCommit, isBack, marked, partOf, committedPart}
@@ -52,8 +51,8 @@ module _ (codes jobs cells : List ℕ) where
   act-no-back j k m t =
       let low : ltb 4 (getD codes k 0) ≡ false = le-ltb 4 (getD codes k 0) (omega (arith, ltb-true (getD codes k 0) 3 t)) in
       back-line (getD codes k 0) (getD jobs k 0) (getD cells k 0) j (eventsFrom codes jobs cells (suc k) m)
-      ∙ ap (λ b. (same (getD jobs k 0) j && b) || marked isBack j (eventsFrom codes jobs cells (suc k) m)) low
-      ∙ and-none (same (getD jobs k 0) j) (marked isBack j (eventsFrom codes jobs cells (suc k) m))
+      ∙ ap (λ b. (eqb (getD jobs k 0) j && b) || marked isBack j (eventsFrom codes jobs cells (suc k) m)) low
+      ∙ and-none (eqb (getD jobs k 0) j) (marked isBack j (eventsFrom codes jobs cells (suc k) m))
 
   -- a line counts where it is an action of a job with a c and no k of that job follows
   counts-is : (k m : ℕ) → (ltb (getD codes k 0) 3 && (marked isCommit (getD jobs k 0) (historyBy codes jobs cells (k + suc m)) && not (marked isBack (getD jobs k 0) (eventsFrom codes jobs cells (suc k) m)))) ≡ counts (k + suc m) k

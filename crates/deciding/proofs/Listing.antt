@@ -2,16 +2,15 @@
 -- Assumes nothing.
 use Prim.Native.Nat.{ℕ, zero, suc, _+_, _≤_, _<_}
 use mathlib.Core.Path.{_≡_, refl, sym, ap, ap₂, _∙_}
-use mathlib.Core.Bool.{Bool, true, false, not, _&&_, _||_}
-use mathlib.Core.List.{List, [], _∷_, _++_}
-use native.Mathlib.Nat.{add-zero, add-suc}
+use mathlib.Core.Bool.{Bool, true, false, _&&_, _||_}
+use mathlib.Core.List.{List, [], _++_}
+use native.Mathlib.Nat.{add-zero}
 use native.Mathlib.Omega.{arith}
-use lib.Dec.{eqb, ltb, leb}
+use lib.Dec.{eqb}
 use lib.ListN.{length}
-use borrow.Author.Tests.{eqb-true, eqb-false, ne-eqb, eq-eqb, lt-ltb, ltb-true, leb-true, leb-false, le-leb, lt-leb, le-ltb, ltb-false}
+use borrow.Author.Tests.{eqb-true, eqb-false}
 use Rattle.laws.specs.Choice.{by-test, not-both}
-use Rattle.laws.specs.Lists.{same, member, put}
-use Rattle.laws.proofs.Lists.{same-refl, same-sym}
+use Rattle.laws.specs.Lists.{member, put}
 use Rattle.laws.proofs.Parts.{and-first, and-second, and-both, or-either, or-first, or-second}
 use Rattle.verdicts.specs.Order.{under, ascending}
 use Rattle.verdicts.proofs.Sorted.{under-all, ascending-only}
@@ -40,7 +39,7 @@ listed-same f g k (suc m) h =
     ap₂ (λ b l. put b k l) (h k (omega arith) (omega arith)) (listed-same f g (suc k) m (λ i a b. h i (omega arith) (omega arith)))
 
 -- who is put in front is there, and the others are
-put-member : (b : Bool) (k : ℕ) (js : List ℕ) (i : ℕ) → member i (put b k js) ≡ ((b && same k i) || member i js)
+put-member : (b : Bool) (k : ℕ) (js : List ℕ) (i : ℕ) → member i (put b k js) ≡ ((b && eqb k i) || member i js)
 unfolding put member
 put-member true k js i = refl
 put-member false k js i = refl
@@ -50,10 +49,10 @@ pub listed-is : (f : ℕ → Bool) (k m i : ℕ) → member i (listed f k m) ≡
 unfolding listed member
 listed-is f k zero i h = not-both h refl
 listed-is f k (suc m) i h =
-    or-either (f k && same k i) (member i (listed f (suc k) m)) (sym (put-member (f k) k (listed f (suc k) m) i) ∙ h)
+    or-either (f k && eqb k i) (member i (listed f (suc k) m)) (sym (put-member (f k) k (listed f (suc k) m) i) ∙ h)
     (λ t.
-    let e : k ≡ i = eqb-true k i (and-second (f k) (same k i) t) in
-    (omega arith, omega arith, sym (ap f e) ∙ and-first (f k) (same k i) t))
+    let e : k ≡ i = eqb-true k i (and-second (f k) (eqb k i) t) in
+    (omega arith, omega arith, sym (ap f e) ∙ and-first (f k) (eqb k i) t))
     (λ t. let r = listed-is f (suc k) m i t in (omega arith, omega arith, r .2))
 
 -- one of the m from k on that passes is listed
@@ -63,10 +62,10 @@ listed-has f k zero i a b p = absurd (omega arith)
 listed-has f k (suc m) i a b p =
     put-member (f k) k (listed f (suc k) m) i
     ∙ by-test (eqb k i)
-    (λ t. or-first (f k && same k i) (member i (listed f (suc k) m)) (and-both (f k) (same k i) (ap f (eqb-true k i t) ∙ p) t))
+    (λ t. or-first (f k && eqb k i) (member i (listed f (suc k) m)) (and-both (f k) (eqb k i) (ap f (eqb-true k i t) ∙ p) t))
     (λ g.
     let other′ : k ≡ i → ⊥ = eqb-false k i g in
-    or-second (f k && same k i) (member i (listed f (suc k) m)) (listed-has f (suc k) m i (omega arith) (omega arith) p))
+    or-second (f k && eqb k i) (member i (listed f (suc k) m)) (listed-has f (suc k) m i (omega arith) (omega arith) p))
 
 -- they ascend
 pub listed-ascending : (f : ℕ → Bool) (k m : ℕ) → ascending (listed f k m) ≡ true

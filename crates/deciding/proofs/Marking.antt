@@ -1,16 +1,15 @@
 -- Tables of jobs and lines as a pass over the lines makes them, one line at a time: who has a c, from where on each job's actions count, and whose each line is.
 -- Assumes nothing.
 use Prim.Native.Nat.{ℕ, suc, _+_, _≤_, _<_}
-use mathlib.Core.Path.{_≡_, refl, sym, ap, _∙_}
-use mathlib.Core.Bool.{Bool, true, false, _&&_, _||_}
+use mathlib.Core.Path.{_≡_, refl, sym, _∙_}
+use mathlib.Core.Bool.{Bool, true, false, _&&_}
 use mathlib.Core.List.{List}
 use native.Mathlib.Numerals.{add-one}
 use native.Mathlib.Omega.{arith}
-use lib.Dec.{eqb, ltb}
+use lib.Dec.{ltb, eqb}
 use lib.ListN.{getD, set, replicate}
 use borrow.Author.Tests.{eq-eqb, ne-eqb, ltb-true, ltb-false, lt-ltb, le-ltb, le-leb, lt-leb}
-use Rattle.laws.specs.Choice.{pick, by-test}
-use Rattle.laws.specs.Lists.{same}
+use Rattle.laws.specs.Choice.{by-test}
 use Rattle.deciding.specs.Lists.{tab}
 use Rattle.deciding.specs.Counted.{hasCommit, countedFrom, ownerAt, ownersBy}
 use Rattle.deciding.proofs.Tabled.{tab-same, tab-all, tab-set}
@@ -41,7 +40,7 @@ module _ (codes jobs : List ℕ) where
   commits-keep p done e c =
       rw (e, add-one p)
       (tab-same (hasCommit codes jobs p) (hasCommit codes jobs (suc p)) 256 false
-      (λ i l. rw (ne-eqb (getD codes p 0) 3 c, and-none (same (getD jobs p 0) i))))
+      (λ i l. rw (ne-eqb (getD codes p 0) 3 c, and-none (eqb (getD jobs p 0) i))))
 
   -- when all lines are passed the table is the one of all
   pub commits-all : (p n : ℕ) (done : List Bool) → done ≡ tab (hasCommit codes jobs p) 256 → p ≡ n → done ≡ tab (hasCommit codes jobs n) 256
@@ -67,7 +66,7 @@ module _ (codes jobs : List ℕ) where
   since-keep p since e c =
       rw (e, add-one p)
       (tab-same (countedFrom codes jobs p) (countedFrom codes jobs (suc p)) 256 0
-      (λ i l. rw (le-ltb 4 (getD codes p 0) c, and-none (same (getD jobs p 0) i))))
+      (λ i l. rw (le-ltb 4 (getD codes p 0) c, and-none (eqb (getD jobs p 0) i))))
 
   -- when all lines are passed the table is the one of all
   pub since-all : (p n : ℕ) (since : List ℕ) → since ≡ tab (countedFrom codes jobs p) 256 → p ≡ n → since ≡ tab (countedFrom codes jobs n) 256

@@ -1,12 +1,12 @@
 -- Parts put into a buffer: one byte at a time, and a cycle in two parts.
 -- Assumes nothing.
-use Prim.Native.Nat.{ℕ, suc, _+_, _-_, _≤_, _<_}
+use Prim.Native.Nat.{ℕ, _+_, _-_, _≤_, _<_}
 use mathlib.Core.Path.{_≡_, refl, sym, ap, ap₂, _∙_}
-use mathlib.Core.List.{List, [], _++_, append-assoc, append-nil}
+use mathlib.Core.List.{List, _++_}
 use native.Mathlib.Nat.{zero-add}
 use native.Mathlib.Numerals.{add-one}
 use native.Mathlib.Omega.{arith}
-use lib.ListN.{length, getD, set, take, drop, length-append, length-take, length-drop}
+use lib.ListN.{length, getD, set, take, drop, length-append, length-drop}
 use lib.Seq.{paste, paste-zero, paste-suc, length-paste, take-length, take-at, drop-at, drop-drop, length-take-le, take-all}
 use Rattle.verdicts.specs.Knot.{turn}
 use Rattle.verdicts.specs.Judgement.{filled}

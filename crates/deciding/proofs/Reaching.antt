@@ -1,16 +1,16 @@
 -- The search for a conflict between two jobs' lines, by the cells on which they meet and the last line of each kind on a cell.
 -- Assumes nothing.
-use Prim.Native.Nat.{ℕ, zero, suc, _+_, _-_, _≤_, _<_}
+use Prim.Native.Nat.{ℕ, suc, _+_, _-_, _≤_, _<_}
 use mathlib.Core.Path.{_≡_, refl, sym, ap, ap₂, _∙_}
-use mathlib.Core.Bool.{Bool, true, false, not, _&&_, _||_}
+use mathlib.Core.Bool.{Bool, true, false, not, _&&_}
 use mathlib.Core.List.{List, [], _∷_}
 use native.Mathlib.Omega.{arith}
-use lib.Dec.{eqb, ltb}
+use lib.Dec.{ltb, eqb}
 use lib.ListN.{length, getD, take}
 use lib.Seq.{take-length}
-use borrow.Author.Tests.{eqb-true, lt-ltb, le-ltb, ltb-true, leb-true, not-true, not-false}
+use borrow.Author.Tests.{eqb-true, lt-ltb, le-ltb, ltb-true, not-true, not-false}
 use Rattle.laws.specs.Choice.{by-test, not-both}
-use Rattle.laws.specs.Lists.{same, member}
+use Rattle.laws.specs.Lists.{member}
 use Rattle.laws.proofs.Lists.{same-refl, member-first, member-more}
 use Rattle.laws.proofs.Parts.{and-first, and-second, and-both, or-either, or-first, or-second}
 use Rattle.conflict.specs.declared.action.Kind.{Kind}
@@ -24,14 +24,14 @@ use Rattle.deciding.specs.Meeting.{kindBy, actionBy, actionAt, clashing,
 use Rattle.deciding.specs.Grouped.{Lined}
 use Rattle.deciding.specs.Reaching.{lastKey, Reach, lastMet, Masked}
 use Rattle.deciding.proofs.Meetings.{none-later}
-use Rattle.deciding.proofs.Searching.{member-at, up-to}
+use Rattle.deciding.proofs.Searching.{up-to}
 
 -- a line meets some where one of them stands later and conflicts
 later-has : (clash : ℕ → ℕ → Bool) (x y : ℕ) (ys : List ℕ) → member y ys ≡ true → x < y → clash x y ≡ true → meetsLater clash x ys ≡ true
 unfolding member meetsLater
 later-has clash x y [] m b t = not-both m refl
 later-has clash x y (z ∷ ys) m b t =
-    or-either (same z y) (member y ys) m
+    or-either (eqb z y) (member y ys) m
     (λ q. or-first (ltb x z && clash x z) (meetsLater clash x ys) (rw (eqb-true z y q) (and-both (ltb x y) (clash x y) (lt-ltb x y b) t)))
     (λ q. or-second (ltb x z && clash x z) (meetsLater clash x ys) (later-has clash x y ys q b t))
 
@@ -41,8 +41,8 @@ unfolding member meetsLater
 later-by clash x [] t = not-both t refl
 later-by clash x (z ∷ ys) t =
     or-either (ltb x z && clash x z) (meetsLater clash x ys) t
-    (λ q. (z, or-first (same z z) (member z ys) (same-refl z), ltb-true x z (and-first (ltb x z) (clash x z) q), and-second (ltb x z) (clash x z) q))
-    (λ q. let r = later-by clash x ys q in (r .0, or-second (same z (r .0)) (member (r .0) ys) (r .1), r .2, r .3))
+    (λ q. (z, or-first (eqb z z) (member z ys) (same-refl z), ltb-true x z (and-first (ltb x z) (clash x z) q), and-second (ltb x z) (clash x z) q))
+    (λ q. let r = later-by clash x ys q in (r .0, or-second (eqb z (r .0)) (member (r .0) ys) (r .1), r .2, r .3))
 
 -- where none of ys stands after one of xs, none is met
 pub apart-none : (clash : ℕ → ℕ → Bool) (xs ys : List ℕ) → ((x y : ℕ) → member x xs ≡ true → member y ys ≡ true → y ≤ x) → false ≡ meetings clash xs ys
@@ -65,7 +65,7 @@ from-first : (xs : List ℕ) → ascending xs ≡ true → (x : ℕ) → member 
 unfolding member ascending
 from-first [] a x m = not-both m refl
 from-first (z ∷ xs) a x m =
-    or-either (same z x) (member x xs) m (λ t. omega (arith, eqb-true z x t))
+    or-either (eqb z x) (member x xs) m (λ t. omega (arith, eqb-true z x t))
     (λ t. omega (arith, under-each z xs (and-first (under z xs) (ascending xs) a) x t))
 
 -- nothing is in an empty list

@@ -1,17 +1,16 @@
 -- The verdict said: an order where no job remains, else the knot, with the jobs that fill the buffer.
 -- Assumes nothing.
-use Prim.Native.Nat.{ℕ, zero, suc, _+_, _-_, _≤_, _<_, min}
+use Prim.Native.Nat.{ℕ, _+_, _-_, _≤_, _<_, min}
 use mathlib.Core.Path.{_≡_, refl, sym, ap, ap₂, _∙_, subst}
-use mathlib.Core.Bool.{Bool, true, false}
-use mathlib.Core.List.{List, [], _∷_, _++_}
+use mathlib.Core.Bool.{Bool, true}
+use mathlib.Core.List.{List, [], _∷_}
 use mathlib.Core.Option.{Option, none, some}
 use native.Mathlib.Nat.{zero-add}
 use native.Mathlib.Omega.{arith}
-use lib.ListN.{length, getD, take, drop, length-append, length-take, length-drop}
-use Rattle.laws.specs.Choice.{by-test, not-both}
-use Rattle.laws.specs.Lists.{same, member}
+use lib.ListN.{length, take, drop, length-append, length-take, length-drop}
+use Rattle.laws.specs.Lists.{member}
 use Rattle.conflict.specs.Schedule.{edge}
-use Rattle.conflict.specs.History.{History, isCommit, marked, committedPart}
+use Rattle.conflict.specs.History.{History, committedPart}
 use Rattle.verdicts.specs.declared.verdict.Verdict.{Verdict}
 use Rattle.verdicts.specs.declared.verdict.Verdict.the-variants.{Orderly, Knot}
 use Rattle.verdicts.specs.Order.{Edges, first, preceded, ascending, orderOf, stuck}

@@ -8,8 +8,9 @@ use native.Mathlib.Omega.{arith}
 use lib.ListN.{length, getD, take}
 use lib.Seq.{take-suc, take-length}
 use borrow.Author.Tests.{eqb-true}
+use lib.Dec.{eqb}
 use Rattle.laws.specs.Choice.{not-both}
-use Rattle.laws.specs.Lists.{same, member}
+use Rattle.laws.specs.Lists.{member}
 use Rattle.laws.proofs.Lists.{same-refl}
 use Rattle.laws.proofs.Parts.{and-first, and-second, or-either, or-first, or-second}
 use Rattle.verdicts.specs.Order.{under, ascending}
@@ -20,16 +21,16 @@ use Rattle.deciding.specs.Meeting.{meetsLater, meetings}
 pub member-at : (ys : List ℕ) (k : ℕ) → k < length ys → member (getD ys k 0) ys ≡ true
 unfolding member
 member-at [] k h = absurd (omega arith)
-member-at (y ∷ ys) zero h = or-first (same y y) (member y ys) (same-refl y)
-member-at (y ∷ ys) (suc k) h = or-second (same y (getD ys k 0)) (member (getD ys k 0) ys) (member-at ys k (omega arith))
+member-at (y ∷ ys) zero h = or-first (eqb y y) (member y ys) (same-refl y)
+member-at (y ∷ ys) (suc k) h = or-second (eqb y (getD ys k 0)) (member (getD ys k 0) ys) (member-at ys k (omega arith))
 
 -- in ascending order nothing before a place is larger than what stands there
 pub up-to : (ys : List ℕ) (k : ℕ) → ascending ys ≡ true → k < length ys → (y : ℕ) → member y (take (suc k) ys) ≡ true → y ≤ getD ys k 0
 unfolding member ascending
 up-to [] k a h y m = absurd (omega arith)
-up-to (z ∷ ys) zero a h y m = or-either (same z y) false m (λ t. omega (arith, eqb-true z y t)) (λ t. not-both t refl)
+up-to (z ∷ ys) zero a h y m = or-either (eqb z y) false m (λ t. omega (arith, eqb-true z y t)) (λ t. not-both t refl)
 up-to (z ∷ ys) (suc k) a h y m =
-    or-either (same z y) (member y (take (suc k) ys)) m
+    or-either (eqb z y) (member y (take (suc k) ys)) m
     (λ t. omega (arith, eqb-true z y t, under-each z ys (and-first (under z ys) (ascending ys) a) (getD ys k 0) (member-at ys k (omega arith))))
     (λ t. up-to ys k (and-second (under z ys) (ascending ys) a) (omega arith) y t)
 

@@ -1,19 +1,18 @@
 -- The smallest job that is left and passes a test, looked for from the smallest number on.
 -- Assumes nothing.
-use Prim.Native.Nat.{ℕ, zero, suc, _+_, _-_, _*_, _≤_, _<_}
+use Prim.Native.Nat.{ℕ, suc, _+_, _-_, _*_, _≤_, _<_}
 use mathlib.Core.Path.{_≡_, refl, sym, ap, _∙_}
-use mathlib.Core.Bool.{Bool, true, false, not, _&&_, _||_}
-use mathlib.Core.List.{List, [], _∷_}
+use mathlib.Core.Bool.{Bool, true, false}
+use mathlib.Core.List.{List}
 use mathlib.Core.Option.{Option, none, some}
 use native.Mathlib.Numerals.{add-one}
 use native.Mathlib.Omega.{arith}
-use lib.Dec.{ltb}
 use lib.ListN.{length, getD}
 use borrow.Author.Tests.{lt-ltb}
 use Rattle.laws.specs.Choice.{by-test}
 use Rattle.laws.specs.Lists.{member, put}
 use Rattle.verdicts.specs.Order.{first}
-use Rattle.verdicts.proofs.Firsts.{by-one, first-is, first-none}
+use Rattle.verdicts.proofs.Firsts.{by-one, first-is}
 use Rattle.deciding.specs.Lists.{listed}
 use Rattle.deciding.specs.Grouped.{edgesIn}
 use Rattle.deciding.specs.Left.{leftOf, orNobody}

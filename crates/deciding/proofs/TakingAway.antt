@@ -1,6 +1,6 @@
 -- Jobs taken away one at a time, their flags struck and their numbers put down in order, come to the judge's order and to what remains.
 -- Assumes nothing.
-use Prim.Native.Nat.{ℕ, zero, suc, _+_, _-_, _≤_, _<_}
+use Prim.Native.Nat.{ℕ, suc, _+_, _-_, _≤_, _<_}
 use mathlib.Core.Path.{_≡_, refl, sym, ap, _∙_}
 use mathlib.Core.Bool.{Bool, true, false, not}
 use mathlib.Core.List.{List, [], _∷_, _++_, append-assoc, append-nil}
@@ -8,12 +8,11 @@ use mathlib.Core.Option.{none, some}
 use native.Mathlib.Numerals.{add-one}
 use native.Mathlib.Omega.{arith}
 use lib.Dec.{eqb}
-use lib.ListN.{length, getD, set, take, length-set, length-append, length-take}
+use lib.ListN.{length, getD, set, take, length-set}
 use lib.Seq.{getD-set-same, getD-set-other, take-suc-set, length-take-le}
 use borrow.Author.Tests.{eqb-true, eqb-false}
 use Rattle.laws.specs.Choice.{by-test, not-both}
-use Rattle.laws.specs.Lists.{same, member}
-use Rattle.verdicts.specs.Order.{Edges, ready, preceded, without, Taken, ends, leads, taken, orderOf, stuck}
+use Rattle.verdicts.specs.Order.{Edges, ready, preceded, without, ends, leads, taken, orderOf, stuck}
 use Rattle.verdicts.proofs.Without.{stays, left-other, left-before, shorter, ascending-left}
 use Rattle.verdicts.proofs.Preceded.{ready-is}
 use Rattle.verdicts.proofs.Taking.{times-enough}

@@ -10,8 +10,7 @@ use lib.Dec.{eqb}
 use lib.ListN.{length, getD, set, replicate, length-set, length-replicate, getD-replicate}
 use lib.Seq.{getD-set-same, getD-set-other}
 use borrow.Author.Tests.{eqb-true, eqb-false}
-use Rattle.laws.specs.Choice.{by-test, not-both}
-use Rattle.laws.specs.Lists.{member}
+use Rattle.laws.specs.Choice.{by-test}
 use Rattle.laws.proofs.Parts.{and-first, and-second, and-both}
 use Rattle.verdicts.specs.Order.{preceded}
 use Rattle.verdicts.proofs.Preceded.{preceded-by, precedes as precedes-left}

@@ -1,18 +1,18 @@
 -- The walk back along smallest predecessors, its jobs put down from the end of a trail to its front.
 -- Assumes nothing.
-use Prim.Native.Nat.{ℕ, zero, suc, _+_, _-_, _≤_, _<_}
+use Prim.Native.Nat.{ℕ, suc, _+_, _-_, _≤_, _<_}
 use mathlib.Core.Path.{_≡_, refl, sym, ap, _∙_, subst}
-use mathlib.Core.Bool.{Bool, true, false, cond}
+use mathlib.Core.Bool.{Bool, true, false}
 use mathlib.Core.List.{List, [], _∷_}
-use mathlib.Core.Option.{none, some}
 use native.Mathlib.Nat.{add-zero}
 use native.Mathlib.Numerals.{add-one}
 use native.Mathlib.Omega.{arith}
 use lib.ListN.{length, getD, set, take, drop, length-set, length-drop, drop-of-length-le}
 use lib.Seq.{drop-cons, drop-set-lt, getD-set-same}
-use borrow.Author.Tests.{eqb-true, eq-eqb, ne-eqb}
-use Rattle.laws.specs.Choice.{by-test, not-both}
-use Rattle.laws.specs.Lists.{same, member, pos}
+use borrow.Author.Tests.{eq-eqb, ne-eqb}
+use lib.Dec.{eqb}
+use Rattle.laws.specs.Choice.{by-test}
+use Rattle.laws.specs.Lists.{member, pos}
 use Rattle.laws.proofs.Lists.{pos-later}
 use Rattle.verdicts.specs.Order.{Edges}
 use Rattle.verdicts.specs.Knot.{predecessor, upTo, walk}
@@ -39,21 +39,21 @@ place-end trail p j h = rw (drop-of-length-le trail h) (sym (add-zero p))
 take-pos : (j : ℕ) (ks : List ℕ) → take (pos ks j) ks ≡ upTo j ks
 unfolding pos upTo
 take-pos j [] = refl
-take-pos j (k ∷ ks) = by-test (same k j) (λ t. rw t) (λ f. rw f (ap (λ l. k ∷ l) (take-pos j ks)))
+take-pos j (k ∷ ks) = by-test (eqb k j) (λ t. rw t) (λ f. rw f (ap (λ l. k ∷ l) (take-pos j ks)))
 
 -- a job that stands before the list's end is in it
 pos-member : (j : ℕ) (ks : List ℕ) → pos ks j < length ks → member j ks ≡ true
 unfolding member
 pos-member j [] h = absurd (omega arith)
 pos-member j (k ∷ ks) h =
-    by-test (same k j) (λ t. rw t) (λ f. rw f (pos-member j ks (omega (arith, pos-later k ks j f))))
+    by-test (eqb k j) (λ t. rw t) (λ f. rw f (pos-member j ks (omega (arith, pos-later k ks j f))))
 
 -- and one that does not is not
 pos-none : (j : ℕ) (ks : List ℕ) → length ks ≤ pos ks j → member j ks ≡ false
 unfolding member pos
 pos-none j [] h = refl
 pos-none j (k ∷ ks) h =
-    by-test (same k j)
+    by-test (eqb k j)
     (λ t.
     let here′ : pos (k ∷ ks) j ≡ 0 = rw t in
     absurd (omega arith))
@@ -75,13 +75,13 @@ pub record Walked (e : Edges) (jobs : List ℕ) (start : ℕ) (trail : List ℕ)
   pub wide : length trail ≡ 257
   pub low : at ≤ 257
   pub small : j < 256
-  pub same : walk e jobs at (drop at trail) j ≡ walk e jobs 257 [] start
+  pub eqb : walk e jobs at (drop at trail) j ≡ walk e jobs 257 [] start
 
 -- the walk starts
 pub walked-none : (e : Edges) (jobs : List ℕ) (start : ℕ) (trail : List ℕ) → length trail ≡ 257 → start < 256 → Walked e jobs start trail 257 start
 walked-none e jobs start trail w b =
     let all : length trail ≤ 257 = omega arith in
-    record { wide = w; low = omega arith; small = b; same = rw (drop-of-length-le trail all) }
+    record { wide = w; low = omega arith; small = b; eqb = rw (drop-of-length-le trail all) }
 
 module _ (e : Edges) (left : List Bool) (start : ℕ) (trail : List ℕ) (m j p : ℕ) where
   module _ (walked : Walked e (leftOf left) start trail (suc m) j) (placed : p ≡ suc m + pos (drop (suc m) trail) j) where
@@ -115,7 +115,7 @@ module _ (e : Edges) (left : List Bool) (start : ℕ) (trail : List ℕ) (m j p 
             wide = length-set trail m j ∙ walked .wide;
             low = omega (arith, walked .low);
             small = by .1;
-            same = rw (put-front trail m j (omega (arith, walked .wide, walked .low))) (sym (sym (walked .same) ∙ rw (fresh, by .0)));
+            eqb = rw (put-front trail m j (omega (arith, walked .wide, walked .low))) (sym (sym (walked .same) ∙ rw (fresh, by .0)));
           }
 
       -- and if it had none there would be no cycle

@@ -1,17 +1,16 @@
 -- The place of a cycle's smallest job, and the cycle from there on.
 -- Assumes nothing.
 use Prim.Native.Nat.{ℕ, zero, suc, _+_, _-_, _≤_, _<_}
-use mathlib.Core.Path.{_≡_, refl, sym, ap, ap₂, _∙_}
-use mathlib.Core.Bool.{Bool, true, false}
+use mathlib.Core.Path.{_≡_, refl, sym, ap, _∙_}
+use mathlib.Core.Bool.{true, false}
 use mathlib.Core.List.{List, [], _∷_, _++_}
-use native.Mathlib.Numerals.{add-one}
 use native.Mathlib.Omega.{arith}
 use lib.Dec.{eqb}
 use lib.ListN.{length, getD, take, drop}
 use lib.Seq.{drop-cons, split-at}
 use borrow.Author.Tests.{eqb-true, eqb-false, ne-eqb}
 use Rattle.laws.specs.Choice.{by-test, not-both}
-use Rattle.laws.specs.Lists.{same, member}
+use Rattle.laws.specs.Lists.{member}
 use Rattle.laws.proofs.Parts.{or-either}
 use Rattle.verdicts.specs.Knot.{least, turnTo, turn}
 use Rattle.verdicts.proofs.Turns.{upTo-mid, from-mid, least-is, least-low}
@@ -61,7 +60,7 @@ member-place : {P : Type 0} (ks : List ℕ) (m : ℕ) → member m ks ≡ true �
 unfolding member
 member-place [] m h f = not-both h refl
 member-place (k ∷ ks) m h f =
-    or-either (same k m) (member m ks) h (λ t. f 0 (omega arith) (eqb-true k m t)) (λ t. member-place ks m t (λ i b e. f (suc i) (omega arith) e))
+    or-either (eqb k m) (member m ks) h (λ t. f 0 (omega arith) (eqb-true k m t)) (λ t. member-place ks m t (λ i b e. f (suc i) (omega arith) e))
 
 -- the cycle turned to a job that does not stand before
 turn-cut : (k : ℕ) (ks ahead rest : List ℕ) (m : ℕ) → k ∷ ks ≡ ahead ++ m ∷ rest → least k ks ≡ m → member m ahead ≡ false → turn (k ∷ ks) ≡ (m ∷ rest) ++ ahead

@@ -1,6 +1,6 @@
 -- What the edges are worked out from, as the passes over the lines leave it.
 -- Assumes nothing.
-use Prim.Native.Nat.{ℕ, _+_, _-_, _≤_, _<_}
+use Prim.Native.Nat.{ℕ, _-_, _≤_, _<_}
 use mathlib.Core.Path.{_≡_, refl, sym, ap, _∙_, subst}
 use mathlib.Core.Bool.{Bool, true, false}
 use mathlib.Core.List.{List}
@@ -8,10 +8,8 @@ use native.Mathlib.Omega.{arith}
 use lib.Dec.{eqb, ltb, leb}
 use lib.ListN.{getD}
 use borrow.Author.Tests.{eqb-true, eqb-false, eq-eqb, ltb-true}
-use Rattle.laws.specs.Choice.{pick, by-test, not-both}
-use Rattle.laws.specs.Lists.{same, member}
-use Rattle.conflict.specs.declared.action.Kind.{Kind}
-use Rattle.conflict.specs.declared.action.Kind.the-variants.{Read, Write, Increment}
+use Rattle.laws.specs.Choice.{by-test}
+use Rattle.laws.specs.Lists.{member}
 use Rattle.conflict.specs.Schedule.{agree}
 use Rattle.conflict.specs.Cells.{inSet, actsOn, canConflict}
 use Rattle.conflict.proofs.Conflicting.{conflict-kinds}
@@ -55,7 +53,7 @@ module _ (codes jobs cells owners : List ℕ) (n : ℕ) (act : Acting codes jobs
   -- a line of job j is one of the n, and it owns it
   its-line : (j y : ℕ) → member y (linesOf owners n j) ≡ true → (y < n) × (getD owners y 0 ≡ j)
   unfolding linesOf
-  its-line j y m = let r = listed-is (λ p. same (getD owners p 0) j) 0 n y m in (omega (arith, r .1), eqb-true (getD owners y 0) j (r .2))
+  its-line j y m = let r = listed-is (λ p. eqb (getD owners p 0) j) 0 n y m in (omega (arith, r .1), eqb-true (getD owners y 0) j (r .2))
 
   -- the last lines of job j stand in the table
   reaches : (lasts : List ℕ) → Lasts codes cells owners n lasts → (j : ℕ) → j < 256 → (j ≡ 0 → ⊥) → Reach codes jobs cells lasts j (linesOf owners n j)
@@ -66,7 +64,7 @@ module _ (codes jobs cells owners : List ℕ) (n : ℕ) (act : Acting codes jobs
         code = λ y m. let r = its-line j y m in act .code y (r .0) (λ q. z (sym (r .1) ∙ q));
         cell = λ y m. let r = its-line j y m in act .cell y (r .0) (λ q. z (sym (r .1) ∙ q));
         far = λ y m. let r = its-line j y m in subst (λ o. y < getD lasts (lastKey o (getD codes y 0) (getD cells y 0)) 0) (r .1) (s .far y (r .0) (λ q. z (sym (r .1) ∙ q)));
-        there = λ k c l d h. listed-has (λ p. same (getD owners p 0) j) 0 n (getD lasts (lastKey j k c) 0 - 1) (omega arith) (omega (arith, s .line j k c b l d h)) (eq-eqb (getD owners (getD lasts (lastKey j k c) 0 - 1) 0) j (s .owner j k c b l d h));
+        there = λ k c l d h. listed-has (λ p. eqb (getD owners p 0) j) 0 n (getD lasts (lastKey j k c) 0 - 1) (omega arith) (omega (arith, s .line j k c b l d h)) (eq-eqb (getD owners (getD lasts (lastKey j k c) 0 - 1) 0) j (s .owner j k c b l d h));
         there-code = λ k c l d h. s .code j k c b l d h;
         there-cell = λ k c l d h. s .cell j k c b l d h;
       }

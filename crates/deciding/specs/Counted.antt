@@ -1,22 +1,21 @@
 -- What of a history's lines counts, said of the arrays that keep it: which jobs have a c, from which line on each job's actions count, and whose action each line is (01, The judge's rules).
 use Prim.Native.Nat.{ℕ, zero, suc, _<_}
 use mathlib.Core.Path.{_≡_}
-use mathlib.Core.Bool.{Bool, true, false, _&&_, _||_}
+use mathlib.Core.Bool.{Bool, false, _&&_, _||_}
 use mathlib.Core.List.{List}
 use lib.Dec.{eqb, ltb, leb}
 use lib.ListN.{getD}
 use Rattle.laws.specs.Choice.{pick}
-use Rattle.laws.specs.Lists.{same}
 
 -- whether job j has a c among the first n lines
 unfoldable pub hasCommit : List ℕ → List ℕ → ℕ → ℕ → Bool
 hasCommit codes jobs zero j = false
-hasCommit codes jobs (suc p) j = (same (getD jobs p 0) j && eqb (getD codes p 0) 3) || hasCommit codes jobs p j
+hasCommit codes jobs (suc p) j = (eqb (getD jobs p 0) j && eqb (getD codes p 0) 3) || hasCommit codes jobs p j
 
 -- the line from which job j's actions count: the one after its last k among the first n lines, or the first
 unfoldable pub countedFrom : List ℕ → List ℕ → ℕ → ℕ → ℕ
 countedFrom codes jobs zero j = 0
-countedFrom codes jobs (suc p) j = pick (same (getD jobs p 0) j && ltb 4 (getD codes p 0)) (suc p) (countedFrom codes jobs p j)
+countedFrom codes jobs (suc p) j = pick (eqb (getD jobs p 0) j && ltb 4 (getD codes p 0)) (suc p) (countedFrom codes jobs p j)
 
 -- the job whose action line p is, if it is an action and stands where that job's count, and else 0
 unfoldable pub ownerAt : List ℕ → List ℕ → List ℕ → ℕ → ℕ

@@ -4,7 +4,6 @@ use crate::sets::touched;
 use conflict::action::Action;
 use conflict::action::Kind;
 use conflict::action::actions_conflict;
-use conflict::cells::has_cell;
 use conflict::cells::meeting_cells;
 use terms::limits::JUDGED_LINES;
 ghost use mathlib.Core.Path.{_≡_};

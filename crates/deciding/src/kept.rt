@@ -11,7 +11,7 @@ ghost use mathlib.Core.Path.{_≡_};
 ghost use mathlib.Core.Bool.{_&&_, _||_};
 ghost use mathlib.Core.List.{[]};
 ghost use lib.Dec.{eqb, ltb, leb};
-ghost use Prim.Native.Nat.{_+_, _≤_, _<_};
+ghost use Prim.Native.Nat.{_+_, _<_};
 ghost use Rattle.terms.specs.Limits.{cells};
 ghost use Rattle.verdicts.specs.Arrays.{historyBy};
 ghost use Rattle.deciding.specs.Kept.{eventAt, eventFault, firstFault, keptJudgement, dueOf, Flagged};

@@ -1,7 +1,7 @@
 -- Rule 4 as the code comes along it: a grant, one cell more, and a cell that nobody waits for passed over; with the places woken laid over a list.
 -- Assumes nothing.
 use Prim.Native.Nat.{ℕ, _+_, _≤_, _<_}
-use mathlib.Core.Path.{_≡_, refl, sym, ap, subst, _∙_}
+use mathlib.Core.Path.{_≡_, sym, ap, subst, _∙_}
 use mathlib.Core.Bool.{Bool, true, false}
 use mathlib.Core.List.{List, [], _∷_}
 use native.Mathlib.Numerals.{add-one}
@@ -13,7 +13,7 @@ use Rattle.conflict.specs.declared.modes.Mode.{Mode}
 use Rattle.conflict.specs.Modes.{codeOf}
 use Rattle.board.specs.Codes.{runningCode, askOf}
 use Rattle.board.specs.Places.{spot, waitsAt, waiters}
-use Rattle.board.specs.Settling.{Settling, granted, grantFront, settleCell, settleAll}
+use Rattle.board.specs.Settling.{Settling, granted, settleCell, settleAll}
 use Rattle.board.proofs.Front.{no-youngest}
 use Rattle.board.proofs.EveryGrant.{waits-code}
 use Rattle.moves.specs.declared.grants.Grant.{Grant}
@@ -23,7 +23,7 @@ use Rattle.moves.proofs.Wanted.{unwanted}
 use Rattle.desk.specs.InPlace.{laid, Reached}
 use Rattle.desk.proofs.Laid.{laid-take, laid-length, laid-more, laid-again}
 use Rattle.desk.proofs.Grants.{Picked, front, fronts, mayGrant, grant-grants, stands-empty, none-granted, who-granted, granted-place, settle-more, settle-stop}
-use Rattle.desk.proofs.Room.{room, NoNewWaiter, cell-room, cell-grows, all-room, all-waiting, wake-fits}
+use Rattle.desk.proofs.Room.{room, NoNewWaiter, cell-grows, all-room, all-waiting, wake-fits}
 
 -- the state that arrays hold, with the first so many of a list as the places woken
 abbrev pub holds : List ℕ → List ℕ → List ℕ → ℕ → Settling

@@ -1,12 +1,11 @@
 -- A move carried out in place, way by way: what the code leaves in the fields, with what it tells, is what the definition makes of the move.
 -- Assumes nothing.
 use Prim.Native.Nat.{ℕ, _<_, _+_}
-use mathlib.Core.Path.{_≡_, refl, sym, ap, _∙_}
-use mathlib.Core.List.{List, []}
+use mathlib.Core.Path.{_≡_, ap, _∙_}
+use mathlib.Core.List.{List}
 use lib.Dec.{eqb}
 use lib.ListN.{length, set}
-use Rattle.laws.specs.Choice.{pick, by-test}
-use Rattle.laws.specs.Lists.{pos}
+use Rattle.laws.specs.Choice.{by-test}
 use Rattle.terms.specs.declared.letters.Ask.{Ask}
 use Rattle.terms.specs.declared.refusals.Refusal.{Refusal}
 use Rattle.terms.specs.Letters.{letterOf}

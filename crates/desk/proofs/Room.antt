@@ -2,7 +2,6 @@
 -- Assumes nothing.
 use Prim.Native.Nat.{ℕ, suc, _+_, _≤_, _<_}
 use mathlib.Core.Path.{_≡_, refl, sym, ap, _∙_}
-use mathlib.Core.Bool.{true}
 use mathlib.Core.List.{List, [], _∷_}
 use native.Mathlib.Omega.{arith}
 use lib.Dec.{eqb, ltb}
@@ -12,7 +11,7 @@ use borrow.Author.Tests.{eqb-true, eqb-false, ltb-true, ltb-false}
 use Rattle.laws.specs.Choice.{by-test}
 use Rattle.terms.specs.Limits.{places}
 use Rattle.board.specs.Codes.{runningCode, waitingCode}
-use Rattle.board.specs.Places.{waitsAt, waiters}
+use Rattle.board.specs.Places.{waiters}
 use Rattle.board.specs.Settling.{Settling, granted, settleCell, settleAll}
 use Rattle.board.proofs.WaitingCount.{waiters-woken}
 use Rattle.board.proofs.Front.{front-waits}

@@ -1,6 +1,6 @@
 -- No second result, and no second content of a field or of the list, meets the contract of the step in place; no second result that of the step by value and of the wakes.
 -- Assumes nothing.
-use mathlib.Core.Path.{_≡_, sym, ap₂, _∙_}
+use mathlib.Core.Path.{_≡_, sym, _∙_}
 use mathlib.Core.List.{List}
 use Prim.Native.Nat.{ℕ}
 use denote.Ref.{now}

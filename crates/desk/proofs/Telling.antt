@@ -15,8 +15,8 @@ use Rattle.board.specs.declared.state.Desk.{Desk}
 use Rattle.board.specs.declared.state.Outcome.{Outcome}
 use Rattle.board.specs.declared.state.Told.{Told}
 use Rattle.board.specs.Codes.{askOf}
-use Rattle.board.specs.Steps.{noAction, wakeAt, listed, saying, carried, answerTo, performed, moveOf, stepOf}
-use Rattle.desk.specs.InPlace.{laid, wokenBy, StepsTo}
+use Rattle.board.specs.Steps.{noAction, wakeAt, listed, saying, performed, stepOf}
+use Rattle.desk.specs.InPlace.{wokenBy, StepsTo}
 use Rattle.desk.proofs.Laid.{laid-take}
 
 -- a place that there is not says nothing

@@ -6,7 +6,7 @@ use lib.ListN.{length, drop}
 use Rattle.board.specs.declared.state.Desk.{Desk}
 use Rattle.board.specs.declared.state.Told.{Told}
 use Rattle.board.specs.Settling.{Settling}
-use Rattle.board.specs.Steps.{carried, answerTo, moveOf, stepOf}
+use Rattle.board.specs.Steps.{carried, moveOf, stepOf}
 
 -- a list with others in its first places; the rest stays as it was
 unfoldable pub laid : List ℕ → List ℕ → List ℕ

@@ -1,22 +1,20 @@
 -- A good line is short, so the first bytes of a line, as many as the longest good one has, decide it.
 -- Assumes nothing.
-use Prim.Native.Nat.{ℕ, suc, _<_, _≤_}
+use Prim.Native.Nat.{ℕ, _≤_}
 use mathlib.Core.Path.{_≡_, refl, sym, ap, _∙_}
-use mathlib.Core.Bool.{Bool, true, false, not, _&&_}
+use mathlib.Core.Bool.{Bool, true}
 use mathlib.Core.List.{List, [], _∷_, _++_, append-assoc, append-nil, map}
-use native.Mathlib.Omega.{arith}
 use lib.Dec.{eqb}
-use lib.ListN.{length, take, drop, length-append, take-append-drop}
+use lib.ListN.{length, take, drop, take-append-drop}
 use lib.Seq.{take-all}
 use Rattle.laws.specs.Choice.{by-test, not-both}
 use Rattle.terms.specs.declared.letters.Letter.{Letter}
 use Rattle.terms.specs.Letters.{byteOf, hasJob, hasCell}
 use Rattle.terms.specs.Words.{newline}
-use Rattle.terms.specs.Limits.{lastNumber}
 use Rattle.formats.specs.declared.Reading.{Reading}
 use Rattle.formats.specs.declared.Reading.the-variants.{Good, Bad}
 use Rattle.formats.specs.Records.{field, lineRecord}
-use Rattle.formats.specs.Lines.{lastCell, readLine}
+use Rattle.formats.specs.Lines.{readLine}
 use Rattle.formats.specs.Split.{kept, linesOf, oneLine, every}
 use Rattle.formats.proofs.Length.{line-at-most-16}
 use Rattle.formats.proofs.GoodLine.{good-is-record}

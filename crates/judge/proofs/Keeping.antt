@@ -10,7 +10,7 @@ use lib.Dec.{eqb, ltb, leb}
 use lib.ListN.{length, getD, set}
 use lib.Seq.{getD-set-same, getD-set-other}
 use Rattle.laws.specs.Choice.{pick, by-test, not-both}
-use Rattle.laws.specs.Lists.{same, member}
+use Rattle.laws.specs.Lists.{member}
 use Rattle.terms.specs.declared.letters.Ask.the-variants.{Read, Write, Increment}
 use Rattle.terms.specs.declared.letters.Letter.{Letter}
 use Rattle.terms.specs.declared.letters.Letter.the-variants.{Begin, Commit, GiveUp, Retry, Back, Asks}
@@ -76,7 +76,7 @@ letter-event (Asks Write) job cell h = rw records-write
 letter-event (Asks Increment) job cell h = rw records-increment
 
 -- who has ended after a letter, by its number
-letter-ends : (l : Letter) (ended : List ℕ) (job cell j : ℕ) → member j (endedAfter ended (Good l job cell)) ≡ pick (endsJob (codeOf l)) (same job j || member j ended) (member j ended)
+letter-ends : (l : Letter) (ended : List ℕ) (job cell j : ℕ) → member j (endedAfter ended (Good l job cell)) ≡ pick (endsJob (codeOf l)) (eqb job j || member j ended) (member j ended)
 unfolding endedAfter endsJob member
 letter-ends Begin ended job cell j = refl
 letter-ends Commit ended job cell j = refl
@@ -89,9 +89,9 @@ letter-ends (Asks Increment) ended job cell j = refl
 
 -- a flag that is put where none was says who has ended
 flag-put : (flags : List Bool) (job : ℕ) (b : Bool) (ended : List ℕ) → length flags ≡ 256 → job < 256 → getD flags job false ≡ false → Flagged flags ended →
-    (j : ℕ) → j < 256 → getD (set flags job b) j false ≡ pick b (same job j || member j ended) (member j ended)
+    (j : ℕ) → j < 256 → getD (set flags job b) j false ≡ pick b (eqb job j || member j ended) (member j ended)
 flag-put flags job b ended long small free a j h =
-    by-test (same job j)
+    by-test (eqb job j)
     (λ t.
     let e : job ≡ j = eqb-true job j t in
     let within : job < length flags = omega arith in

@@ -8,9 +8,8 @@ use mathlib.Core.Option.{Option, none, some}
 use native.Mathlib.Omega.{arith}
 use lib.Dec.{eqb, ltb, leb}
 use borrow.Author.Tests.{eqb-true, eqb-false, ltb-true, ltb-false, le-ltb, le-leb, lt-leb}
-use Rattle.laws.specs.Choice.{pick, by-test, not-both}
-use Rattle.laws.specs.Lists.{same, member}
-use Rattle.terms.specs.declared.letters.Ask.{Ask}
+use Rattle.laws.specs.Choice.{by-test}
+use Rattle.laws.specs.Lists.{member}
 use Rattle.terms.specs.declared.letters.Letter.{Letter}
 use Rattle.terms.specs.declared.letters.Letter.the-variants.{Begin, Commit, GiveUp, Retry, Back, Asks}
 use Rattle.terms.specs.declared.refusals.Refusal.{Refusal}
@@ -23,14 +22,12 @@ use Rattle.conflict.specs.declared.action.Mark.the-variants.{Commit as commits,
 use Rattle.conflict.specs.declared.action.Event.{Event}
 use Rattle.conflict.specs.declared.action.Event.the-variants.{Does, Ends}
 use Rattle.conflict.specs.Modes.{recorded}
-use Rattle.conflict.specs.History.{History, isBack, marked}
+use Rattle.conflict.specs.History.{History, marked}
 use Rattle.conflict.proofs.Appended.{marked-append}
 use Rattle.conflict.proofs.OneEvent.{marked-none, marked-does, marked-ends, commit-not-back, give-up-not-back, back-is-back}
 use Rattle.formats.specs.declared.Reading.{Reading}
 use Rattle.formats.specs.declared.Reading.the-variants.{Good, Bad}
-use Rattle.formats.specs.Lines.{refusalOf}
 use Rattle.verdicts.specs.HistoryText.{faultOfGood, faultOf, lineFault, endedAfter, Faulty, orLater, firstFaulty, eventOf, eventsIn}
-use Rattle.deciding.specs.declared.kept.Found.{Found}
 use Rattle.deciding.specs.declared.kept.Found.the-variants.{Faultless}
 use Rattle.deciding.specs.Kept.{jobOf, above, endsJob, eventFault, firstFault}
 use Rattle.deciding.specs.Kept as kept
@@ -57,19 +54,19 @@ module _ (ended : List ℕ) (before : History) (k : Known ended before) where
   event-table n l job cell e few j a = rw (le-ltb judgedLines n few, j, a, k job, outside-is job)
 
   -- who has ended after a mark
-  ended-mark : (m : Mark) (job j : ℕ) (b : Bool) → endsJob m ≡ b → marked endsJob j (before ++ Ends m job ∷ []) ≡ (member j ended || (same job j && b))
+  ended-mark : (m : Mark) (job j : ℕ) (b : Bool) → endsJob m ≡ b → marked endsJob j (before ++ Ends m job ∷ []) ≡ (member j ended || (eqb job j && b))
   ended-mark m job j b e =
       marked-append endsJob j before (Ends m job ∷ [])
-      ∙ rw (marked-ends endsJob j m job [], marked-none endsJob j, e, or-false (same job j && b), k j)
+      ∙ rw (marked-ends endsJob j m job [], marked-none endsJob j, e, or-false (eqb job j && b), k j)
 
   -- a mark that ends its job
   known-end : (m : Mark) (job : ℕ) → endsJob m ≡ true → Known (job ∷ ended) (before ++ Ends m job ∷ [])
   unfolding member
-  known-end m job e j = sym (ended-mark m job j true e ∙ rw (and-true (same job j)) (or-comm (member j ended) (same job j)))
+  known-end m job e j = sym (ended-mark m job j true e ∙ rw (and-true (eqb job j)) (or-comm (member j ended) (eqb job j)))
 
   -- one that does not
   known-back : (m : Mark) (job : ℕ) → endsJob m ≡ false → Known ended (before ++ Ends m job ∷ [])
-  known-back m job e j = sym (ended-mark m job j false e ∙ rw (and-false (same job j)) (or-false (member j ended)))
+  known-back m job e j = sym (ended-mark m job j false e ∙ rw (and-false (eqb job j)) (or-false (member j ended)))
 
   -- an action ends nobody
   known-does : (e : Event) → ((j : ℕ) → marked endsJob j (e ∷ []) ≡ marked endsJob j []) → Known ended (before ++ e ∷ [])

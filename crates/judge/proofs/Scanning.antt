@@ -19,7 +19,7 @@ use Rattle.formats.specs.Lines.{readLine}
 use Rattle.formats.specs.Split.{linesOf, used, part}
 use Rattle.formats.proofs.Cutting.{used-within, used-some}
 use Rattle.formats.proofs.TextLines.{next-line}
-use Rattle.verdicts.specs.HistoryText.{readingsOf, lineAt, lineFault, orLater, endedAfter, firstFaulty, eventOf, eventsIn, bare}
+use Rattle.verdicts.specs.HistoryText.{readingsOf, lineFault, orLater, endedAfter, firstFaulty, eventOf, eventsIn, bare}
 use Rattle.verdicts.specs.Arrays.{eventBy, historyBy}
 use Rattle.verdicts.proofs.Readings.{readings-next}
 use Rattle.judge.specs.declared.scan.Looked.{Looked}

@@ -6,10 +6,10 @@ use mathlib.Core.Bool.{Bool, true, false}
 use mathlib.Core.List.{List, [], _∷_}
 use mathlib.Core.Option.{Option, none, some}
 use native.Mathlib.Omega.{arith}
-use lib.Dec.{ltb}
+use lib.Dec.{ltb, eqb}
 use lib.ListN.{length}
 use Rattle.laws.specs.Choice.{by-test}
-use Rattle.laws.specs.Lists.{same, put}
+use Rattle.laws.specs.Lists.{put}
 use Rattle.terms.specs.Limits.{judgedJobs, judgedLines}
 use Rattle.conflict.specs.declared.action.Event.the-variants.{Does, Ends}
 use Rattle.conflict.specs.History.{History, isCommit, commitOrder}
@@ -29,7 +29,7 @@ unfolding insert
 insert-few j [] = omega arith
 insert-few j (k ∷ ks) =
     by-test (ltb j k) (λ t. rw t (omega arith))
-    (λ f. by-test (same j k) (λ t. rw (f, t) (omega arith)) (λ g. rw (f, g) (omega (arith, insert-few j ks))))
+    (λ f. by-test (eqb j k) (λ t. rw (f, t) (omega arith)) (λ g. rw (f, g) (omega (arith, insert-few j ks))))
 
 -- the jobs in order are at most as many as were named
 sorted-few : (js : List ℕ) → length (sorted js) ≤ length js

@@ -7,18 +7,19 @@ use mathlib.Core.List.{List, [], _∷_}
 use mathlib.Core.Option.{some}
 use native.Mathlib.Omega.{arith}
 use borrow.Author.Tests.{eqb-true, eqb-false, eq-eqb, ne-eqb, not-true}
+use lib.Dec.{eqb}
 use Rattle.laws.specs.Choice.{by-test, not-both}
-use Rattle.laws.specs.Lists.{same, member, distinct, pos, put, firstOf}
+use Rattle.laws.specs.Lists.{member, distinct, pos, put, firstOf}
 use Rattle.laws.proofs.Parts.{and-first, and-second}
 
 -- a number is the same as itself
-pub same-refl : (j : ℕ) → same j j ≡ true
+pub same-refl : (j : ℕ) → eqb j j ≡ true
 same-refl j = eq-eqb j j refl
 
 -- being the same does not depend on which of the two comes first
-pub same-sym : (i j : ℕ) → same i j ≡ same j i
+pub same-sym : (i j : ℕ) → eqb i j ≡ eqb j i
 same-sym i j =
-    by-test (same i j) (λ t. t ∙ sym (eq-eqb j i (sym (eqb-true i j t))))
+    by-test (eqb i j) (λ t. t ∙ sym (eq-eqb j i (sym (eqb-true i j t))))
     (λ f. f ∙ sym (ne-eqb j i (λ e. eqb-false i j f (sym e))))
 
 -- the first of a list stands at 0
@@ -27,18 +28,18 @@ unfolding pos
 pos-first k ks = rw (same-refl k)
 
 -- any other stands one place further than in the rest
-pub pos-later : (k : ℕ) (ks : List ℕ) (j : ℕ) → same k j ≡ false → pos (k ∷ ks) j ≡ suc (pos ks j)
+pub pos-later : (k : ℕ) (ks : List ℕ) (j : ℕ) → eqb k j ≡ false → pos (k ∷ ks) j ≡ suc (pos ks j)
 unfolding pos
 pos-later k ks j f = rw f
 
 -- who stands behind another is not the first, and stands there behind it in the rest too
-pub pos-rest : (k : ℕ) (ks : List ℕ) (i j : ℕ) → same k i ≡ false → pos (k ∷ ks) i < pos (k ∷ ks) j → pos ks i < pos ks j
+pub pos-rest : (k : ℕ) (ks : List ℕ) (i j : ℕ) → eqb k i ≡ false → pos (k ∷ ks) i < pos (k ∷ ks) j → pos ks i < pos ks j
 pos-rest k ks i j f h =
-    by-test (same k j) (λ t. let e : k ≡ j = eqb-true k j t in absurd (omega (arith, pos-first k ks, ap (pos (k ∷ ks)) e)))
+    by-test (eqb k j) (λ t. let e : k ≡ j = eqb-true k j t in absurd (omega (arith, pos-first k ks, ap (pos (k ∷ ks)) e)))
     (λ g. omega (arith, pos-later k ks i f, pos-later k ks j g))
 
 -- the first stands ahead of every other
-pub first-ahead : (k : ℕ) (ks : List ℕ) (i j : ℕ) → same k i ≡ true → same k j ≡ false → pos (k ∷ ks) i < pos (k ∷ ks) j
+pub first-ahead : (k : ℕ) (ks : List ℕ) (i j : ℕ) → eqb k i ≡ true → eqb k j ≡ false → pos (k ∷ ks) i < pos (k ∷ ks) j
 first-ahead k ks i j t f = omega (arith, pos-first k ks, ap (pos (k ∷ ks)) (eqb-true k i t), pos-later k ks j f)
 
 -- nobody stands ahead of the first
@@ -46,7 +47,7 @@ pub none-ahead : {P : Type 0} (k : ℕ) (ks : List ℕ) (i : ℕ) → pos (k ∷
 none-ahead k ks i h = absurd (omega (arith, pos-first k ks))
 
 -- two others stand in the whole as in the rest
-pub pos-both : (k : ℕ) (ks : List ℕ) (i j : ℕ) → same k i ≡ false → same k j ≡ false → pos ks i < pos ks j → pos (k ∷ ks) i < pos (k ∷ ks) j
+pub pos-both : (k : ℕ) (ks : List ℕ) (i j : ℕ) → eqb k i ≡ false → eqb k j ≡ false → pos ks i < pos ks j → pos (k ∷ ks) i < pos (k ∷ ks) j
 pos-both k ks i j f g h = omega (arith, pos-later k ks i f, pos-later k ks j g)
 
 -- the first of a list is in it
@@ -55,14 +56,14 @@ unfolding member
 member-first k ks = rw (same-refl k)
 
 -- another is in a list where it is in the rest
-pub member-later : (k : ℕ) (ks : List ℕ) (j : ℕ) → same k j ≡ false → member j (k ∷ ks) ≡ member j ks
+pub member-later : (k : ℕ) (ks : List ℕ) (j : ℕ) → eqb k j ≡ false → member j (k ∷ ks) ≡ member j ks
 unfolding member
 member-later k ks j f = rw f
 
 -- who is in the rest is in the list
 pub member-more : (k : ℕ) (ks : List ℕ) (j : ℕ) → member j ks ≡ true → member j (k ∷ ks) ≡ true
 unfolding member
-member-more k ks j h = by-test (same k j) (λ t. rw t) (λ f. rw f h)
+member-more k ks j h = by-test (eqb k j) (λ t. rw t) (λ f. rw f h)
 
 -- a list that names none twice does not name its first again
 pub once-first : (k : ℕ) (ks : List ℕ) → distinct (k ∷ ks) ≡ true → member k ks ≡ false
@@ -75,12 +76,12 @@ unfolding distinct
 once-rest k ks h = and-second (not (member k ks)) (distinct ks) h
 
 -- who is in a list is not one that is not in it
-pub member-other : (k j : ℕ) (ks : List ℕ) → member k ks ≡ false → member j ks ≡ true → same k j ≡ false
+pub member-other : (k j : ℕ) (ks : List ℕ) → member k ks ≡ false → member j ks ≡ true → eqb k j ≡ false
 member-other k j ks f h =
-    by-test (same k j) (λ t. not-both (ap (λ i. member i ks) (eqb-true k j t) ∙ h) f) (λ g. g)
+    by-test (eqb k j) (λ t. not-both (ap (λ i. member i ks) (eqb-true k j t) ∙ h) f) (λ g. g)
 
 -- who is in a list with one more where it is listed
-pub member-put : (b : Bool) (i j : ℕ) (js : List ℕ) → member j (put b i js) ≡ ((same i j && b) || member j js)
+pub member-put : (b : Bool) (i j : ℕ) (js : List ℕ) → member j (put b i js) ≡ ((eqb i j && b) || member j js)
 unfolding member put
 member-put true i j js = rw and-true
 member-put false i j js = rw and-false

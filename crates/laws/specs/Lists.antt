@@ -1,20 +1,16 @@
 -- Lists of numbers, such as jobs: who is in one, whether it names each once, where one stands in it, and one more in front; and the first of any list of which a test holds.
 -- Nothing here is of the paper; the definitions are open to every crate.
-use Prim.Native.Nat.{ℕ, zero, suc}
-use mathlib.Core.Bool.{Bool, true, false, not, _&&_, _||_, cond}
+use Prim.Native.Nat.{ℕ, suc}
+use mathlib.Core.Bool.{Bool, true, false, not, _&&_, _||_}
 use mathlib.Core.List.{List, [], _∷_}
 use mathlib.Core.Option.{Option, none, some}
 use lib.Dec.{eqb}
 use Rattle.laws.specs.Choice.{pick}
 
--- whether two numbers are the same
-abbrev pub same : ℕ → ℕ → Bool
-same m n = eqb m n
-
 -- whether the list names the number
 unfoldable pub member : ℕ → List ℕ → Bool
 member j [] = false
-member j (k ∷ ks) = same k j || member j ks
+member j (k ∷ ks) = eqb k j || member j ks
 
 -- whether the list names none twice
 unfoldable pub distinct : List ℕ → Bool
@@ -24,7 +20,7 @@ distinct (k ∷ ks) = not (member k ks) && distinct ks
 -- how many stand before the first place of this one
 unfoldable pub pos : List ℕ → ℕ → ℕ
 pos [] j = 0
-pos (k ∷ ks) j = cond (same k j) 0 (suc (pos ks j))
+pos (k ∷ ks) j = pick (eqb k j) 0 (suc (pos ks j))
 
 -- one more in front where it is to be listed
 unfoldable pub put : Bool → ℕ → List ℕ → List ℕ

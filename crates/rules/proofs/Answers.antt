@@ -3,8 +3,8 @@
 use Prim.Native.Nat.{ℕ}
 use mathlib.Core.Path.{_≡_}
 use mathlib.Core.Bool.{false}
+use lib.Dec.{eqb}
 use Rattle.laws.specs.Choice.{not-both}
-use Rattle.laws.specs.Lists.{same}
 use Rattle.laws.proofs.Lists.{same-refl}
 use Rattle.rules.specs.declared.Answer.{Answer}
 use Rattle.rules.specs.declared.Answer.the-variants.{Go, Wait, Back, No}
@@ -17,5 +17,5 @@ caseOf (Back j) = 2
 caseOf (No why) = 3
 
 -- an answer has one word
-pub other-answer : {P : Type 0} {x y : Answer} → x ≡ y → same (caseOf x) (caseOf y) ≡ false → P
+pub other-answer : {P : Type 0} {x y : Answer} → x ≡ y → eqb (caseOf x) (caseOf y) ≡ false → P
 other-answer {y = y} e n = not-both (rw e (same-refl (caseOf y))) n

@@ -6,8 +6,9 @@ use mathlib.Core.Bool.{true, false}
 use mathlib.Core.List.{List, _∷_}
 use native.Mathlib.Omega.{arith}
 use borrow.Author.Tests.{eqb-true}
+use lib.Dec.{eqb}
 use Rattle.laws.specs.Choice.{by-test}
-use Rattle.laws.specs.Lists.{same, member, distinct}
+use Rattle.laws.specs.Lists.{member, distinct}
 use Rattle.laws.proofs.Lists.{member-later}
 use Rattle.rules.specs.Desk.{Waiter, Desk}
 use Rattle.rules.specs.Waiting.{InWay, IsWaiting}
@@ -29,5 +30,5 @@ module _ {d : Desk} (v : Inv d) (c : ℕ) (w : Waiter) (k : IsWaiting d c w) (is
   -- and have places
   pub all-seated : (i : ℕ) → member i (w .job ∷ is) ≡ true → member i (d .jobs) ≡ true
   all-seated i m =
-      by-test (same (w .job) i) (λ t. subst (λ x. member x (d .jobs) ≡ true) (eqb-true (w .job) i t) (v .seats (w .job) (waiting-open k)))
+      by-test (eqb (w .job) i) (λ t. subst (λ x. member x (d .jobs) ≡ true) (eqb-true (w .job) i t) (v .seats (w .job) (waiting-open k)))
       (λ f. v .seats i (live-open (d .stat i) (way-live v c w k i (ways i (sym (member-later (w .job) is i f) ∙ m)))))

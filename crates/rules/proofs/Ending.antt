@@ -5,11 +5,12 @@ use mathlib.Core.Path.{_≡_, refl, sym, _∙_}
 use mathlib.Core.Logic.{_⊎_, inl, inr}
 use mathlib.Core.Bool.{true}
 use mathlib.Core.List.{List, [], _∷_}
+use lib.Dec.{eqb}
 use Rattle.laws.specs.Choice.{by-test}
 use Rattle.terms.specs.declared.letters.Letter.the-variants.{Commit, GiveUp}
 use Rattle.terms.specs.declared.letters.Lettered.the-variants.{Known}
 use Rattle.terms.specs.Letters.{letterOf}
-use Rattle.laws.specs.Lists.{same, member}
+use Rattle.laws.specs.Lists.{member}
 use Rattle.laws.proofs.Lists.{member-first, member-later, member-more}
 use Rattle.rules.specs.declared.Answer.the-variants.{Go, Back}
 use Rattle.rules.specs.Desk.{closed, sentback, Desk, Request, isOpen, vacated}
@@ -28,7 +29,7 @@ vacated-free : (j : ℕ) (ks : List ℕ) → member j ks ≡ true → member 0 (
 unfolding vacated
 vacated-free j [] m = unfold member in m
 vacated-free j (k ∷ ks) m =
-    by-test (same k j) (λ t. rw t (member-first 0 (vacated j ks)))
+    by-test (eqb k j) (λ t. rw t (member-first 0 (vacated j ks)))
     (λ f. rw f (member-more k (vacated j ks) 0 (vacated-free j ks (sym (member-later k ks j f) ∙ m))))
 
 -- closing an open job

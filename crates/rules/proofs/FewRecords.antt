@@ -7,6 +7,7 @@ use mathlib.Core.List.{List, [], _∷_}
 use native.Mathlib.Omega.{arith}
 use lib.ListN.{length, length-append}
 use borrow.Author.Tests.{eqb-true, eqb-false}
+use lib.Dec.{eqb}
 use Rattle.laws.specs.Choice.{by-test}
 use Rattle.terms.specs.declared.letters.Ask.{Ask}
 use Rattle.terms.specs.declared.letters.Letter.the-variants.{Begin, Commit, GiveUp, Retry, Back as no-request, Asks}
@@ -17,7 +18,6 @@ use Rattle.terms.specs.Limits.{cells}
 use Rattle.conflict.specs.declared.modes.Mode.{Mode}
 use Rattle.conflict.specs.declared.modes.Mode.the-variants.{Free}
 use Rattle.conflict.specs.declared.action.Action.{Action}
-use Rattle.laws.specs.Lists.{same}
 use Rattle.rules.specs.declared.Answer.{Answer}
 use Rattle.rules.specs.declared.Answer.the-variants.{Go, Wait, Back, No}
 use Rattle.rules.specs.Desk.{Status, Waiter, Row, Desk, Request, at, idle, freshDesk}
@@ -46,7 +46,7 @@ at-most-more : (k : ℕ) (rows : ℕ → Row) (c : ℕ) (x : Row) → length (x 
 unfolding standingIn
 at-most-more k rows c x h zero = omega arith
 at-most-more k rows c x h (suc n) =
-    by-test (same n c)
+    by-test (eqb n c)
     (λ t. let e : n ≡ c = eqb-true n c t in rw (e, at-same rows c x, before-cell rows c x c (omega arith)) (omega arith))
     (λ f. let o : n ≢ c = eqb-false n c f in let m : standingIn (at rows c x) n ≤ k + standingIn rows n = at-most-more k rows c x h n in rw (at-other rows c x n o) (omega arith))
 
@@ -54,7 +54,7 @@ at-most-more k rows c x h (suc n) =
 without-size : (j : ℕ) (q : List Waiter) → length (without j q) ≤ length q
 unfolding without
 without-size j [] = omega arith
-without-size j (w ∷ q) = let m : length (without j q) ≤ length q = without-size j q in by-test (same (w .job) j) (λ t. rw t (omega arith)) (λ f. rw f (omega arith))
+without-size j (w ∷ q) = let m : length (without j q) ≤ length q = without-size j q in by-test (eqb (w .job) j) (λ t. rw t (omega arith)) (λ f. rw f (omega arith))
 
 -- who stood in a queue is granted or stands in it still
 settle-size : (js : List ℕ) (held : ℕ → Mode) (q : List Waiter) → length (settle js held q .woken) + length (settle js held q .row .queue) ≡ length q

@@ -6,6 +6,7 @@ use mathlib.Core.Logic.{_≢_, _⊎_, inl, inr}
 use mathlib.Core.Bool.{true}
 use mathlib.Core.List.{List, _∷_}
 use borrow.Author.Tests.{eqb-false}
+use lib.Dec.{eqb}
 use Rattle.laws.specs.Choice.{by-test}
 use Rattle.terms.specs.declared.letters.Ask.{Ask}
 use Rattle.conflict.specs.declared.modes.Mode.{Mode}
@@ -13,7 +14,6 @@ use Rattle.conflict.specs.declared.action.Mark.{Mark}
 use Rattle.conflict.specs.declared.action.Mark.the-variants.{Commit, GiveUp, Back}
 use Rattle.conflict.specs.declared.action.Event.the-variants.{Ends}
 use Rattle.conflict.specs.Modes.{needed, covers}
-use Rattle.laws.specs.Lists.{same}
 use Rattle.conflict.specs.History.{History}
 use Rattle.conflict.proofs.ModeLaws.{covers-refl, asked-grows}
 use Rattle.conflict.proofs.OneEvent.{marked-ends, any-ends, ended-is}
@@ -32,7 +32,7 @@ use Rattle.rules.proofs.Records.{recorded}
 use Rattle.rules.proofs.AnswerTells.{covers-none}
 
 -- a history that begins with a mark of a job ends a run of it
-first-ends : (m : Mark) (j i : ℕ) (h : History) → same i j ≡ true → ended i (Ends m j ∷ h) ≡ true
+first-ends : (m : Mark) (j i : ℕ) (h : History) → eqb i j ≡ true → ended i (Ends m j ∷ h) ≡ true
 first-ends m j i h t = ended-is i (Ends m j ∷ h) ∙ marked-ends isEnd i m j h ∙ rw (same-sym j i ∙ t, any-ends m)
 
 -- the end of another job's run
@@ -59,7 +59,7 @@ queued-keeps d j b a q i c =
 -- a job's own run ends, or another's does
 either-way : (d e : Desk) (h rest : History) (m : Mark) (j i c : ℕ) → h ≡ Ends m j ∷ rest → (i ≢ j → Keeps d e i c) → Keeps d e i c ⊎ (ended i h ≡ true)
 either-way d e h rest m j i c q f =
-    by-test (same i j) (λ t. inr (rw q (first-ends m j i rest t))) (λ n. inl (f (eqb-false i j n)))
+    by-test (eqb i j) (λ t. inr (rw q (first-ends m j i rest t))) (λ n. inl (f (eqb-false i j n)))
 
 module _ {d : Desk} (v : Inv d) (r : Request) (i c : ℕ) where
   -- the answer at the end of a run

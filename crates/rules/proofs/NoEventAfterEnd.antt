@@ -6,10 +6,10 @@ use mathlib.Core.Bool.{Bool, true, false, not, _&&_, _||_}
 use mathlib.Core.List.{List, [], _∷_, _++_}
 use native.Mathlib.Omega.{arith}
 use borrow.Author.Tests.{eqb-true}
+use lib.Dec.{eqb}
 use Rattle.laws.specs.Choice.{by-test, not-both}
 use Rattle.conflict.specs.declared.action.Action.{Action}
 use Rattle.conflict.specs.declared.action.Mark.{Mark}
-use Rattle.laws.specs.Lists.{same}
 use Rattle.conflict.specs.History.{History, isBack, marked, lineOf, endsForGood}
 use Rattle.laws.proofs.Parts.{and-first, and-second, and-both, or-either, or-second}
 use Rattle.conflict.proofs.Marks.{unmarked}
@@ -46,9 +46,9 @@ module _ {d : Desk} (v : Inv d) {r : Request} where
   unfolding asking
   line-open (nothing w) j h = not-both h (line-none j)
   line-open (action a k w c) j h =
-      or-either (same (r .job) j) (lineOf j []) (sym (line-does j (asking r a) []) ∙ h) (λ t. rw (← eqb-true (r .job) j t) (running-open (k .runs))) (λ t. not-both t (line-none j))
+      or-either (eqb (r .job) j) (lineOf j []) (sym (line-does j (asking r a) []) ∙ h) (λ t. rw (← eqb-true (r .job) j t) (running-open (k .runs))) (λ t. not-both t (line-none j))
   line-open (mark m s js said o l _) j h =
-      or-either (same (r .job) j) (lineOf j (wakeRecords (wakesAfter d (r .job)))) (sym (line-ends j m (r .job) (wakeRecords (wakesAfter d (r .job)))) ∙ h) (λ t. rw (← eqb-true (r .job) j t) o)
+      or-either (eqb (r .job) j) (lineOf j (wakeRecords (wakesAfter d (r .job)))) (sym (line-ends j m (r .job) (wakeRecords (wakesAfter d (r .job)))) ∙ h) (λ t. rw (← eqb-true (r .job) j t) o)
       (λ t. let (c, a, e, g) = woken-waited v (r .job) j (sym (line-woken j (wakesAfter d (r .job))) ∙ t) in waiting-open e)
 
   -- who has a c or an a in a step is closed after it
@@ -57,9 +57,9 @@ module _ {d : Desk} (v : Inv d) {r : Request} where
   last-closed (nothing w) j h = not-both h (marked-none isLast j)
   last-closed (action a k w c) j h = not-both h (marked-does isLast j (asking r a) [] ∙ marked-none isLast j)
   last-closed (mark m s js said o l _) j h =
-      or-either (same (r .job) j && isLast m) (marked isLast j (wakeRecords (wakesAfter d (r .job)))) (sym (marked-ends isLast j m (r .job) (wakeRecords (wakesAfter d (r .job)))) ∙ h)
-      (λ t. rw (← eqb-true (r .job) j (and-first (same (r .job) j) (isLast m) t))
-      (self-after v (r .job) s ∙ l (and-second (same (r .job) j) (isLast m) t)))
+      or-either (eqb (r .job) j && isLast m) (marked isLast j (wakeRecords (wakesAfter d (r .job)))) (sym (marked-ends isLast j m (r .job) (wakeRecords (wakesAfter d (r .job)))) ∙ h)
+      (λ t. rw (← eqb-true (r .job) j (and-first (eqb (r .job) j) (isLast m) t))
+      (self-after v (r .job) s ∙ l (and-second (eqb (r .job) j) (isLast m) t)))
       (λ t. not-both t (wakes-unmarked isLast j (wakesAfter d (r .job))))
 
   -- in a step's own events nothing of a job follows its c or a

@@ -6,13 +6,14 @@ use mathlib.Core.Bool.{true, false, not}
 use mathlib.Core.List.{List, [], _∷_, _++_}
 use native.Mathlib.Omega.{arith}
 use borrow.Author.Tests.{eqb-true, eqb-false}
+use lib.Dec.{eqb}
 use Rattle.laws.specs.Choice.{by-test, not-both}
 use Rattle.terms.specs.declared.letters.Letter.{Letter}
 use Rattle.terms.specs.declared.letters.Lettered.the-variants.{Known}
 use Rattle.terms.specs.declared.refusals.Refusal.{Refusal}
 use Rattle.terms.specs.Letters.{letterOf}
 use Rattle.terms.specs.Limits.{lastNumber}
-use Rattle.laws.specs.Lists.{same, member, distinct}
+use Rattle.laws.specs.Lists.{member, distinct}
 use Rattle.laws.proofs.Parts.{or-either, and-both}
 use Rattle.laws.proofs.Lists.{member-first, member-more}
 use Rattle.rules.specs.declared.Answer.{Answer}
@@ -92,7 +93,7 @@ given-within d (r ∷ rs) m h = by-gives (step-gives d r) (given-within (step d 
     by-gives : Gives d (givenBy r (step d r .said)) (step d r .desk) → (member m (given (step d r .desk) rs) ≡ true → Within (step d r .desk)) → Within d
     by-gives (none-given q e) f = let w = f (rw q at h) in (omega (arith, e, w .0), w .1, w .2)
     by-gives (one-given q l e) f =
-        unfold member in or-either (same (d .next) m) (member m (given (step d r .desk) rs)) (rw q at h)
+        unfold member in or-either (eqb (d .next) m) (member m (given (step d r .desk) rs)) (rw q at h)
         (λ t. let p : d .next ≡ m = eqb-true (d .next) m t in let b : step d r .desk .next ≤ deskAfter (step d r .desk) rs .next = next-rises-on (step d r .desk) rs in (omega arith, omega (arith, e), omega arith))
         (λ k. let w = f k in (omega (arith, e, w .0), w .1, w .2))
 
@@ -108,7 +109,7 @@ given-all d (r ∷ rs) m l u = by-gives (step-gives d r) (λ k. given-all (step 
     by-gives : Gives d (givenBy r (step d r .said)) (step d r .desk) → (step d r .desk .next ≤ m → member m (given (step d r .desk) rs) ≡ true) → member m (givenBy r (step d r .said) ++ given (step d r .desk) rs) ≡ true
     by-gives (none-given q e) f = rw q (f (omega (arith, e)))
     by-gives (one-given q l′ e) f =
-        rw q (by-test (same (d .next) m) (λ t. subst (λ x. member x (d .next ∷ given (step d r .desk) rs) ≡ true) (eqb-true (d .next) m t) (member-first (d .next) (given (step d r .desk) rs)))
+        rw q (by-test (eqb (d .next) m) (λ t. subst (λ x. member x (d .next ∷ given (step d r .desk) rs) ≡ true) (eqb-true (d .next) m t) (member-first (d .next) (given (step d r .desk) rs)))
         (λ n. member-more (d .next) (given (step d r .desk) rs) m (f (above (eqb-false (d .next) m n) e))))
 
 -- over any list of requests the numbers given rise

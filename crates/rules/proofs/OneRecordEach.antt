@@ -7,8 +7,8 @@ use mathlib.Core.Bool.{true, false}
 use mathlib.Core.List.{List, [], _∷_}
 use native.Mathlib.Omega.{arith}
 use borrow.Author.Tests.{eqb-true}
+use lib.Dec.{eqb}
 use Rattle.laws.specs.Choice.{by-test, not-both}
-use Rattle.laws.specs.Lists.{same}
 use Rattle.laws.proofs.Parts.{nor-first, nor-second}
 use Rattle.conflict.specs.declared.action.Action.{Action}
 use Rattle.conflict.specs.History.{History}
@@ -28,25 +28,25 @@ use Rattle.rules.proofs.Written.{asking, Wrote, nothing, action, mark}
 none-of : (j : ℕ) (xs : List Action) → isWoken j xs ≡ false → recordsFor j (wakeRecords xs) ≡ 0
 unfolding recordsFor wakeRecords isWoken
 none-of j [] f = refl
-none-of j (a ∷ xs) f = rw (nor-first (same (a .job) j) (isWoken j xs) f) (omega (arith, none-of j xs (nor-second (same (a .job) j) (isWoken j xs) f)))
+none-of j (a ∷ xs) f = rw (nor-first (eqb (a .job) j) (isWoken j xs) f) (omega (arith, none-of j xs (nor-second (eqb (a .job) j) (isWoken j xs) f)))
 
 -- where no job is told twice, each has one at most
 one-of : (j : ℕ) (xs : List Action) → ((x y : Action) → Before x y xs → x .job ≢ y .job) → recordsFor j (wakeRecords xs) ≤ 1
 unfolding recordsFor wakeRecords
 one-of j [] n = omega arith
 one-of j (a ∷ xs) n =
-    by-test (same (a .job) j) (λ t. rw t (omega (arith, none-of j xs (alone t)))) (λ f. rw f (omega (arith, one-of j xs (λ x y b. n x y (further b)))))
+    by-test (eqb (a .job) j) (λ t. rw t (omega (arith, none-of j xs (alone t)))) (λ f. rw f (omega (arith, one-of j xs (λ x y b. n x y (further b)))))
   where
-    alone : same (a .job) j ≡ true → isWoken j xs ≡ false
+    alone : eqb (a .job) j ≡ true → isWoken j xs ≡ false
     alone t = by-test (isWoken j xs) (λ w. let (x, i, e) = woken-in j xs w in absurd (n a x (next i) (eqb-true (a .job) j t ∙ sym e))) (λ f. f)
 
 -- so of all that a step writes
 pub wrote-one : {d : Desk} (v : Inv d) {r : Request} {o : Outcome} {g : History} → Wrote d r o g → ((x y : Action) → Before x y (wakesAfter d (r .job)) → x .job ≢ y .job) → (j : ℕ) → recordsFor j g ≤ 1
 unfolding recordsFor asking
 wrote-one v (nothing w) n j = omega arith
-wrote-one v {r} (action a k w c) n j = by-test (same (r .job) j) (λ t. rw t (omega arith)) (λ f. rw f (omega arith))
+wrote-one v {r} (action a k w c) n j = by-test (eqb (r .job) j) (λ t. rw t (omega arith)) (λ f. rw f (omega arith))
 wrote-one {d} v {r} (mark m s js said o l _) n j =
-    by-test (same (r .job) j)
+    by-test (eqb (r .job) j)
     (λ t. rw t (omega (arith, none-of j (wakesAfter d (r .job)) (ap (λ i. isWoken i (wakesAfter d (r .job))) (sym (eqb-true (r .job) j t)) ∙ self-not-woken v (r .job)))))
     (λ f. rw f (omega (arith, one-of j (wakesAfter d (r .job)) n)))
 
@@ -60,8 +60,8 @@ pub wrote-none : {d : Desk} (v : Inv d) {r : Request} {o : Outcome} {g : History
 unfolding recordsFor asking rule4
 wrote-none v (nothing w) j c a e f = refl
 wrote-none {d} v {r} (action b k w _) j c a e f =
-    by-test (same (r .job) j) (λ t. absurd (running-not-waiting (ap (d .stat) (sym (eqb-true (r .job) j t)) ∙ k .runs) e)) (λ n. rw n (omega arith))
+    by-test (eqb (r .job) j) (λ t. absurd (running-not-waiting (ap (d .stat) (sym (eqb-true (r .job) j t)) ∙ k .runs) e)) (λ n. rw n (omega arith))
 wrote-none {d} v {r} (mark m s js said o l n) j c a e f =
-    by-test (same (r .job) j)
+    by-test (eqb (r .job) j)
     (λ t. not-both (ap isLive (sym (self-after v (r .job) s) ∙ ap (statusAfter d (r .job) s) (eqb-true (r .job) j t) ∙ f) ∙ waiting-is-live c a) n)
     (λ g. rw g (omega (arith, none-of j (wakesAfter d (r .job)) (by-test (isWoken j (wakesAfter d (r .job))) (λ w. absurd (running-not-waiting (woken-after v (r .job) s j w) f)) (λ w. w)))))

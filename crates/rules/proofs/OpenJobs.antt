@@ -8,9 +8,10 @@ use mathlib.Core.List.{List, [], _∷_}
 use lib.ListN.{length}
 use native.Mathlib.Omega.{arith}
 use borrow.Author.Tests.{eqb-true}
+use lib.Dec.{eqb}
 use Rattle.laws.specs.Choice.{by-test, not-both}
 use Rattle.terms.specs.Limits.{places}
-use Rattle.laws.specs.Lists.{same, member, distinct}
+use Rattle.laws.specs.Lists.{member, distinct}
 use Rattle.laws.proofs.Parts.{and-both, or-either, or-first, or-second}
 use Rattle.laws.proofs.Lists.{member-first, member-more}
 use Rattle.rules.specs.Desk.{Status, isOpen, Desk}
@@ -23,7 +24,7 @@ unfolding openAmong member
 only-open stat [] j h = not-both h refl
 only-open stat (k ∷ ks) j h =
     by-test (isOpen (stat k))
-    (λ t. or-either (same k j) (member j (openAmong stat ks)) (rw t at h) (λ e. subst (λ i. isOpen (stat i) ≡ true) (eqb-true k j e) t) (only-open stat ks j))
+    (λ t. or-either (eqb k j) (member j (openAmong stat ks)) (rw t at h) (λ e. subst (λ i. isOpen (stat i) ≡ true) (eqb-true k j e) t) (only-open stat ks j))
     (λ f. only-open stat ks j (rw f at h))
 
 -- and only jobs of the places
@@ -32,17 +33,17 @@ unfolding openAmong member
 only-seated stat [] j h = h
 only-seated stat (k ∷ ks) j h =
     by-test (isOpen (stat k))
-    (λ t. or-either (same k j) (member j (openAmong stat ks)) (rw t at h) (or-first (same k j) (member j ks)) (λ m. or-second (same k j) (member j ks) (only-seated stat ks j m)))
-    (λ f. or-second (same k j) (member j ks) (only-seated stat ks j (rw f at h)))
+    (λ t. or-either (eqb k j) (member j (openAmong stat ks)) (rw t at h) (or-first (eqb k j) (member j ks)) (λ m. or-second (eqb k j) (member j ks) (only-seated stat ks j m)))
+    (λ f. or-second (eqb k j) (member j ks) (only-seated stat ks j (rw f at h)))
 
 -- every open job of the places is taken
 pub all-open : (stat : ℕ → Status) (ks : List ℕ) (j : ℕ) → member j ks ≡ true → isOpen (stat j) ≡ true → member j (openAmong stat ks) ≡ true
 unfolding openAmong member
 all-open stat [] j h o = h
 all-open stat (k ∷ ks) j h o =
-    or-either (same k j) (member j ks) h
-    (λ e. let t : isOpen (stat k) ≡ true = rw (eqb-true k j e) o in rw t (or-first (same k j) (member j (openAmong stat ks)) e))
-    (λ m. by-test (isOpen (stat k)) (λ t. rw t (or-second (same k j) (member j (openAmong stat ks)) (all-open stat ks j m o))) (λ f. rw f (all-open stat ks j m o)))
+    or-either (eqb k j) (member j ks) h
+    (λ e. let t : isOpen (stat k) ≡ true = rw (eqb-true k j e) o in rw t (or-first (eqb k j) (member j (openAmong stat ks)) e))
+    (λ m. by-test (isOpen (stat k)) (λ t. rw t (or-second (eqb k j) (member j (openAmong stat ks)) (all-open stat ks j m o))) (λ f. rw f (all-open stat ks j m o)))
 
 -- none is taken twice, where 0 is not open
 pub none-twice : (stat : ℕ → Status) (ks : List ℕ) → isOpen (stat 0) ≡ false → Once ks → distinct (openAmong stat ks) ≡ true
@@ -72,7 +73,7 @@ fewer : (stat : ℕ → Status) (ks : List ℕ) → isOpen (stat 0) ≡ false �
 unfolding openAmong member
 fewer stat [] z h = not-both h refl
 fewer stat (k ∷ ks) z h =
-    or-either (same k 0) (member 0 ks) h
+    or-either (eqb k 0) (member 0 ks) h
     (λ e. let f : isOpen (stat k) ≡ false = rw (eqb-true k 0 e) z in let g : length (openAmong stat ks) ≤ length ks = no-more stat ks in rw f (omega arith))
     (λ m. let g : length (openAmong stat ks) < length ks = fewer stat ks z m in by-test (isOpen (stat k)) (λ t. rw t (omega arith)) (λ f. rw f (omega arith)))
 

@@ -6,8 +6,8 @@ use mathlib.Core.Logic.{_≢_}
 use mathlib.Core.Bool.{false}
 use mathlib.Core.List.{List, [], _∷_, _++_}
 use borrow.Author.Tests.{eqb-true, eqb-false, ne-eqb}
+use lib.Dec.{eqb}
 use Rattle.laws.specs.Choice.{by-test}
-use Rattle.laws.specs.Lists.{same}
 use Rattle.rules.specs.Desk.{Waiter, In, first, later}
 use Rattle.rules.specs.Locks.{without}
 use Rattle.rules.specs.Invariant.{Falling}
@@ -66,9 +66,9 @@ falling-join (u ∷ p) q f g h =
 pub without-in : (j : ℕ) (q : List Waiter) {w : Waiter} → In w (without j q) → In w q
 unfolding without
 without-in j [] h = h
-without-in j (v ∷ q) {w} h = by-test (same (v .job) j) (λ t. later (without-in j q (rw t at h))) (λ f. in-split (kept f) is-first (λ l. later (without-in j q l)))
+without-in j (v ∷ q) {w} h = by-test (eqb (v .job) j) (λ t. later (without-in j q (rw t at h))) (λ f. in-split (kept f) is-first (λ l. later (without-in j q l)))
   where
-    kept : same (v .job) j ≡ false → In w (v ∷ without j q)
+    kept : eqb (v .job) j ≡ false → In w (v ∷ without j q)
     kept f = rw f at h
 
 -- and is another job
@@ -76,29 +76,29 @@ pub without-other : (j : ℕ) (q : List Waiter) {w : Waiter} → In w (without j
 unfolding without
 without-other j [] h e = in-none h
 without-other j (v ∷ q) {w} h e =
-    by-test (same (v .job) j) (λ t. without-other j q (rw t at h) e)
+    by-test (eqb (v .job) j) (λ t. without-other j q (rw t at h) e)
     (λ f. in-split (kept f) (λ p. eqb-false (v .job) j f (sym (ap (λ x. x .job) p) ∙ e)) (λ l. without-other j q l e))
   where
-    kept : same (v .job) j ≡ false → In w (v ∷ without j q)
+    kept : eqb (v .job) j ≡ false → In w (v ∷ without j q)
     kept f = rw f at h
 
 -- every other job keeps its place
 pub in-without : (j : ℕ) {q : List Waiter} {w : Waiter} → In w q → w .job ≢ j → In w (without j q)
 unfolding without
 in-without j {w = w} first n = rw (ne-eqb (w .job) j n) first
-in-without j (later {v = v} h) n = by-test (same (v .job) j) (λ t. rw t (in-without j h n)) (λ f. rw f (later (in-without j h n)))
+in-without j (later {v = v} h) n = by-test (eqb (v .job) j) (λ t. rw t (in-without j h n)) (λ f. rw f (later (in-without j h n)))
 
 -- a queue that falls does so without a job's place
 pub without-falling : (j : ℕ) (q : List Waiter) → Falling q → Falling (without j q)
 unfolding without
 without-falling j [] f = tt
 without-falling j (v ∷ q) f =
-    by-test (same (v .job) j) (λ t. rw t (without-falling j q (f .1)))
+    by-test (eqb (v .job) j) (λ t. rw t (without-falling j q (f .1)))
     (λ n. rw n (λ w h. f .0 w (without-in j q h), without-falling j q (f .1)))
 
 -- a job has a place in a queue or has none
 pub by-place : {P : Type 0} (j : ℕ) (q : List Waiter) → ((w : Waiter) → In w q → w .job ≡ j → P) → (((w : Waiter) → In w q → w .job ≢ j) → P) → P
 by-place j [] f g = g (λ w h. in-none h)
 by-place j (v ∷ q) f g =
-    by-test (same (v .job) j) (λ t. f v first (eqb-true (v .job) j t))
+    by-test (eqb (v .job) j) (λ t. f v first (eqb-true (v .job) j t))
     (λ n. by-place j q (λ w h. f w (later h)) (λ k. g (λ w h. in-split h (λ e p. eqb-false (v .job) j n (sym (ap (λ x. x .job) e) ∙ p)) (k w))))

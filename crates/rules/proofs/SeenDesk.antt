@@ -5,8 +5,8 @@ use mathlib.Core.Path.{_≡_, refl, sym, ap, ap₂, subst, _∙_}
 use mathlib.Core.List.{List, [], _∷_}
 use native.Mathlib.Omega.{arith}
 use borrow.Author.Tests.{eqb-true, eqb-false, eq-eqb}
+use lib.Dec.{eqb}
 use Rattle.laws.specs.Choice.{by-test}
-use Rattle.laws.specs.Lists.{same}
 use Rattle.terms.specs.declared.letters.Ask.{Ask}
 use Rattle.rules.specs.Desk.{Status, closed, running, waiting, sentback, Waiter, Desk, In, first, later}
 use Rattle.rules.specs.Invariant.{Falling, Inv}
@@ -36,7 +36,7 @@ unfolding inFront
 front-split c j closed q w h f g = g h
 front-split c j running q w h f g = g h
 front-split {P} c j (waiting b a) q w h f g =
-    by-test (same b c) (λ t. in-split (rw t at h) (λ e. f (ap (λ x. x .job) e) (ap₂ waiting (eqb-true b c t) (sym (ap (λ x. x .ask) e)))) g) (λ n. g (rw n at h))
+    by-test (eqb b c) (λ t. in-split (rw t at h) (λ e. f (ap (λ x. x .job) e) (ap₂ waiting (eqb-true b c t) (sym (ap (λ x. x .ask) e)))) g) (λ n. g (rw n at h))
 front-split c j sentback q w h f g = g h
 
 -- who stood in it still does
@@ -44,7 +44,7 @@ front-keeps : (c j : ℕ) (s : Status) (q : List Waiter) (w : Waiter) → In w q
 unfolding inFront
 front-keeps c j closed q w h = h
 front-keeps c j running q w h = h
-front-keeps c j (waiting b a) q w h = by-test (same b c) (λ t. rw t (later h)) (λ n. rw n h)
+front-keeps c j (waiting b a) q w h = by-test (eqb b c) (λ t. rw t (later h)) (λ n. rw n h)
 front-keeps c j sentback q w h = h
 
 -- and a job that waits for the cell stands in front
@@ -57,7 +57,7 @@ front-falls : (c j : ℕ) (s : Status) (q : List Waiter) → ((w : Waiter) → I
 unfolding inFront
 front-falls c j closed q l f = f
 front-falls c j running q l f = f
-front-falls c j (waiting b a) q l f = by-test (same b c) (λ t. rw t (l, f)) (λ n. rw n f)
+front-falls c j (waiting b a) q l f = by-test (eqb b c) (λ t. rw t (l, f)) (λ n. rw n f)
 front-falls c j sentback q l f = f
 
 module _ (stat : ℕ → Status) (c : ℕ) where
@@ -74,7 +74,7 @@ module _ (stat : ℕ → Status) (c : ℕ) where
   unfolding waitersBelow
   waiters-all zero j a l e = absurd (omega arith)
   waiters-all (suc n) j a l e =
-      by-test (same j n)
+      by-test (eqb j n)
       (λ t. subst (λ i. In (record { job = i; ask = a }) (inFront c n (stat n) (waitersBelow stat c n))) (sym (eqb-true j n t)) (front-stands c n (stat n) (waitersBelow stat c n) a (ap stat (sym (eqb-true j n t)) ∙ e)))
       (λ d. let k = eqb-false j n d in front-keeps c n (stat n) (waitersBelow stat c n) (record { job = j; ask = a }) (waiters-all n j a (omega arith) e))
 

@@ -6,7 +6,7 @@ use mathlib.Core.Logic.{_≢_}
 use mathlib.Core.List.{[]}
 use native.Mathlib.Omega.{arith}
 use borrow.Author.Tests.{eqb-true, eqb-false, ne-eqb}
-use Rattle.laws.specs.Lists.{same}
+use lib.Dec.{eqb}
 use Rattle.laws.specs.Choice.{by-test}
 use Rattle.terms.specs.declared.refusals.Refusal.{Refusal}
 use Rattle.terms.specs.declared.refusals.Refusal.the-variants.{StartedAtZero}
@@ -30,14 +30,14 @@ start-else n h = rw (ne-eqb n 0 h)
 pub start-refused-when : (n : ℕ) (why : Refusal) → startAt n ≡ refusing why → (n ≡ 0) × (why ≡ StartedAtZero)
 unfolding startAt
 start-refused-when n why e =
-    by-test (same n 0) (λ t. (eqb-true n 0 t, let q : refusing StartedAtZero ≡ refusing why = rw t at e in cc))
+    by-test (eqb n 0) (λ t. (eqb-true n 0 t, let q : refusing StartedAtZero ≡ refusing why = rw t at e in cc))
     (λ f. let q : ready (freshDesk n) ≡ refusing why = rw f at e in let z : _≡_ {A = ℕ} 0 1 = cc in absurd (omega arith))
 
 -- a desk that a start at a number up to 4,294,967,295 gives is a started desk with an empty history
 pub start-started : (n : ℕ) (d : Desk) → n ≤ lastNumber → startAt n ≡ ready d → Started d []
 unfolding startAt
 start-started n d le e =
-    by-test (same n 0) (λ t. let q : refusing StartedAtZero ≡ ready d = rw t at e in let z : _≡_ {A = ℕ} 0 1 = cc in absurd (omega arith))
+    by-test (eqb n 0) (λ t. let q : refusing StartedAtZero ≡ ready d = rw t at e in let z : _≡_ {A = ℕ} 0 1 = cc in absurd (omega arith))
     (λ f. let q : freshDesk n ≡ d = same-desk (freshDesk n) d (rw f at e) in subst (λ x. Started x []) q (fresh n (above n (eqb-false n 0 f)) le))
   where
     same-desk : (x y : Desk) → ready x ≡ ready y → x ≡ y

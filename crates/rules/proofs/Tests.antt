@@ -5,13 +5,13 @@ use mathlib.Core.Path.{_≡_, refl, sym, ap, subst, _∙_}
 use mathlib.Core.Logic.{_≢_}
 use mathlib.Core.Bool.{Bool, true, false, _||_}
 use mathlib.Core.List.{List, [], _∷_}
-use lib.Dec.{ltb}
+use lib.Dec.{ltb, eqb}
 use native.Mathlib.Omega.{arith}
 use borrow.Author.Tests.{eqb-true, eqb-false, eq-eqb, ne-eqb, ltb-true, ltb-false}
 use Rattle.laws.specs.Choice.{by-test, not-both}
 use Rattle.conflict.specs.declared.modes.Mode.{Mode}
 use Rattle.conflict.specs.Modes.{grants, isFree}
-use Rattle.laws.specs.Lists.{same, member}
+use Rattle.laws.specs.Lists.{member}
 use Rattle.laws.proofs.Lists.{member-first, member-more}
 use Rattle.conflict.proofs.ModeLaws.{is-free, grants-free}
 use Rattle.laws.proofs.Parts.{and-first, and-second, or-either, nor-first, nor-second}
@@ -34,7 +34,7 @@ at-other f i x j n = rw (ne-eqb j i n)
 pub at-each : {A : Type 0} (P : A → Type 0) (f : ℕ → A) (i : ℕ) (x : A) (j : ℕ) → (j ≡ i → P x) → (j ≢ i → P (f j)) → P (at f i x j)
 unfolding at
 at-each P f i x j here′ there =
-    by-test (same j i) (λ t. rw t (here′ (eqb-true j i t))) (λ n. rw n (there (eqb-false j i n)))
+    by-test (eqb j i) (λ t. rw t (here′ (eqb-true j i t))) (λ n. rw n (there (eqb-false j i n)))
 
 -- and what holds of the new value there, and of every old one elsewhere, holds everywhere
 pub at-all : {A : Type 0} (P : ℕ → A → Type 0) (f : ℕ → A) (i : ℕ) (x : A) → P i x → ((j : ℕ) → j ≢ i → P j (f j)) → (j : ℕ) → P j (at f i x j)
@@ -45,7 +45,7 @@ pub every-each : (f : ℕ → Bool) (js : List ℕ) → every f js ≡ true → 
 unfolding every member
 every-each f [] h i m = not-both m refl
 every-each f (j ∷ js) h i m =
-    or-either (same j i) (member i js) m (λ t. ap f (sym (eqb-true j i t)) ∙ and-first (f j) (every f js) h)
+    or-either (eqb j i) (member i js) m (λ t. ap f (sym (eqb-true j i t)) ∙ and-first (f j) (every f js) h)
     (λ k. every-each f js (and-second (f j) (every f js) h) i k)
 
 -- a test that does not hold of every job of a list fails for one of them
@@ -107,17 +107,17 @@ each-older-waiters q j h =
 
 module _ (f : Mode → ℕ → Bool) (js : List ℕ) (held : ℕ → Mode) (j : ℕ) where
   -- a test over all other holders, which nothing held passes, says so of every other job
-  others-each : ((i : ℕ) → isFree (held i) ≡ true → f (held i) i ≡ true) → Seated js held → every (λ i. same i j || f (held i) i) js ≡ true → (i : ℕ) → i ≢ j → f (held i) i ≡ true
+  others-each : ((i : ℕ) → isFree (held i) ≡ true → f (held i) i ≡ true) → Seated js held → every (λ i. eqb i j || f (held i) i) js ≡ true → (i : ℕ) → i ≢ j → f (held i) i ≡ true
   others-each free seats h i n =
       by-test (isFree (held i)) (free i)
-      (λ k. rw (ne-eqb i j n) at (every-each (λ i. same i j || f (held i) i) js h i (seats i k)))
+      (λ k. rw (ne-eqb i j n) at (every-each (λ i. eqb i j || f (held i) i) js h i (seats i k)))
 
   -- where it fails, it fails for another job
-  others-not : every (λ i. same i j || f (held i) i) js ≡ false → (i : ℕ) × (i ≢ j) × (f (held i) i ≡ false)
-  others-not h = told (every-not (λ i. same i j || f (held i) i) js h)
+  others-not : every (λ i. eqb i j || f (held i) i) js ≡ false → (i : ℕ) × (i ≢ j) × (f (held i) i ≡ false)
+  others-not h = told (every-not (λ i. eqb i j || f (held i) i) js h)
     where
-      told : (i : ℕ) × (member i js ≡ true) × ((same i j || f (held i) i) ≡ false) → (i : ℕ) × (i ≢ j) × (f (held i) i ≡ false)
-      told (i, m, n) = (i, eqb-false i j (nor-first (same i j) (f (held i) i) n), nor-second (same i j) (f (held i) i) n)
+      told : (i : ℕ) × (member i js ≡ true) × ((eqb i j || f (held i) i) ≡ false) → (i : ℕ) × (i ≢ j) × (f (held i) i ≡ false)
+      told (i, m, n) = (i, eqb-false i j (nor-first (eqb i j) (f (held i) i) n), nor-second (eqb i j) (f (held i) i) n)
 
 module _ (js : List ℕ) (held : ℕ → Mode) (j : ℕ) where
   -- a mode that agrees with every other holder is granted next to every other job

@@ -5,7 +5,7 @@ use mathlib.Core.Path.{_≡_, refl, ap, subst}
 use mathlib.Core.List.{List, [], _∷_, _++_}
 use native.Mathlib.Omega.{arith}
 use borrow.Author.Tests.{eqb-true, eqb-false}
-use Rattle.laws.specs.Lists.{same}
+use lib.Dec.{eqb}
 use Rattle.laws.specs.Choice.{by-test}
 use Rattle.conflict.specs.declared.action.Action.{Action}
 use Rattle.rules.specs.Desk.{Waiter, In, first, later}
@@ -109,7 +109,7 @@ search-order s (suc n) =
     record {
       granted = λ h. in-either (wakesOf s n) (wakesAt n (s n .woken)) h (λ i. one-more (k .granted i))
           (λ i. let (w, m, e) = in-at n (s n .woken) i in record { cell = n; below = omega arith; waiter = w; granted = m; is = e });
-      reached = λ c w l h. by-test (same c n)
+      reached = λ c w l h. by-test (eqb c n)
           (λ t. in-right (wakesOf s n) (subst (λ b. In (wake c w) (wakesAt b (s b .woken))) (eqb-true c n t) (at-in c h)))
           (λ f. in-left (wakesAt n (s n .woken)) (k .reached c w (lower c l (eqb-false c n f)) h));
       ordered = λ b. before-either (wakesOf s n) (wakesAt n (s n .woken)) b (k .ordered)

@@ -4,7 +4,7 @@ use Prim.Native.Nat.{ℕ}
 use mathlib.Core.Path.{_≡_, ap, _∙_}
 use mathlib.Core.Bool.{_||_}
 use mathlib.Core.List.{List, [], _∷_}
-use Rattle.laws.specs.Lists.{same}
+use lib.Dec.{eqb}
 use Rattle.conflict.specs.declared.action.Action.{Action}
 use Rattle.conflict.specs.declared.action.Event.the-variants.{Does}
 use Rattle.conflict.specs.History.{lineOf}
@@ -28,4 +28,4 @@ recorded-wake {a} (x ∷ xs) h = in-split h (λ e. is-first (same-action e)) (λ
 pub line-woken : (j : ℕ) (xs : List Action) → lineOf j (wakeRecords xs) ≡ isWoken j xs
 unfolding wakeRecords isWoken
 line-woken j [] = line-none j
-line-woken j (a ∷ xs) = line-does j a (wakeRecords xs) ∙ ap (λ b. same (a .job) j || b) (line-woken j xs)
+line-woken j (a ∷ xs) = line-does j a (wakeRecords xs) ∙ ap (λ b. eqb (a .job) j || b) (line-woken j xs)

@@ -5,9 +5,9 @@ use mathlib.Core.Path.{_≡_, refl, sym, ap, _∙_}
 use mathlib.Core.Bool.{true, false, _||_}
 use mathlib.Core.List.{List, [], _∷_, _++_}
 use borrow.Author.Tests.{eqb-true}
+use lib.Dec.{eqb}
 use Rattle.laws.specs.Choice.{by-test, not-both}
 use Rattle.conflict.specs.declared.action.Action.{Action}
-use Rattle.laws.specs.Lists.{same}
 use Rattle.laws.proofs.Lists.{same-refl}
 use Rattle.laws.proofs.Parts.{or-either, or-second}
 use Rattle.rules.specs.Desk.{Status, running, Waiter, In, first, later}
@@ -27,13 +27,13 @@ pub record WokenAt (s : ℕ → Settled) (n j : ℕ) : Type 0 where
 pub woken-either : (j : ℕ) (a b : List Action) → isWoken j (a ++ b) ≡ (isWoken j a || isWoken j b)
 unfolding isWoken
 woken-either j [] b = refl
-woken-either j (x ∷ a) b = by-test (same (x .job) j) (λ t. rw t) (λ f. rw f (woken-either j a b))
+woken-either j (x ∷ a) b = by-test (eqb (x .job) j) (λ t. rw t) (λ f. rw f (woken-either j a b))
 
 -- who is among the wakes has one
 pub woken-in : (j : ℕ) (xs : List Action) → isWoken j xs ≡ true → (x : Action) × In x xs × (x .job ≡ j)
 unfolding isWoken
 woken-in j [] h = not-both h refl
-woken-in j (v ∷ xs) h = or-either (same (v .job) j) (isWoken j xs) h (λ t. (v, first, eqb-true (v .job) j t)) (λ k. more (woken-in j xs k))
+woken-in j (v ∷ xs) h = or-either (eqb (v .job) j) (isWoken j xs) h (λ t. (v, first, eqb-true (v .job) j t)) (λ k. more (woken-in j xs k))
   where
     more : (x : Action) × In x xs × (x .job ≡ j) → (x : Action) × In x (v ∷ xs) × (x .job ≡ j)
     more (x, i, e) = (x, later i, e)
@@ -42,7 +42,7 @@ woken-in j (v ∷ xs) h = or-either (same (v .job) j) (isWoken j xs) h (λ t. (v
 in-woken : {x : Action} {xs : List Action} → In x xs → isWoken (x .job) xs ≡ true
 unfolding isWoken
 in-woken {x} first = rw (same-refl (x .job))
-in-woken {x} (later {v = v} {q = xs} h) = or-second (same (v .job) (x .job)) (isWoken (x .job) xs) (in-woken h)
+in-woken {x} (later {v = v} {q = xs} h) = or-second (eqb (v .job) (x .job)) (isWoken (x .job) xs) (in-woken h)
 
 -- who is among the wakes is granted at a cell that is searched
 pub woken-at : (s : ℕ → Settled) (n j : ℕ) → isWoken j (wakesOf s n) ≡ true → WokenAt s n j

@@ -3,12 +3,12 @@ use Prim.Native.Nat.{ℕ}
 use mathlib.Core.Bool.{Bool, true, false}
 use mathlib.Core.List.{List, [], _∷_, map}
 use lib.ListN.{replicate}
+use lib.Dec.{eqb}
 use Rattle.laws.specs.Choice.{pick}
 use Rattle.terms.specs.declared.letters.Ask.{Ask}
 use Rattle.terms.specs.Limits.{places}
 use Rattle.conflict.specs.declared.modes.Mode.{Mode}
 use Rattle.conflict.specs.declared.modes.Mode.the-variants.{Free}
-use Rattle.laws.specs.Lists.{same}
 
 -- a job is running, waiting for one cell with what it asked, or sent back while it is open, and closed else (01, Jobs and their numbers)
 pub data Status : Type 0 where
@@ -61,7 +61,7 @@ pub record Request : Type 0 where
 
 -- a function as before but at one number
 unfoldable pub at : {A : Type 0} → (ℕ → A) → ℕ → A → ℕ → A
-at f i x j = pick (same j i) x (f j)
+at f i x j = pick (eqb j i) x (f j)
 
 -- nobody holds the cell and nobody waits for it
 unfoldable pub idle : Row
@@ -74,8 +74,8 @@ freshDesk n = record { next = n; jobs = replicate places 0; stat = λ j. closed;
 -- a new job takes the first free place
 unfoldable pub seated : ℕ → List ℕ → List ℕ
 seated j [] = []
-seated j (k ∷ ks) = pick (same k 0) (j ∷ ks) (k ∷ seated j ks)
+seated j (k ∷ ks) = pick (eqb k 0) (j ∷ ks) (k ∷ seated j ks)
 
 -- a job that is closed frees its place
 unfoldable pub vacated : ℕ → List ℕ → List ℕ
-vacated j ks = map (λ k. pick (same k j) 0 k) ks
+vacated j ks = map (λ k. pick (eqb k j) 0 k) ks

@@ -4,8 +4,8 @@ use mathlib.Core.Path.{_≡_}
 use mathlib.Core.Logic.{_≢_}
 use mathlib.Core.Bool.{Bool, true, false}
 use mathlib.Core.List.{[], _∷_}
+use lib.Dec.{eqb}
 use Rattle.laws.specs.Choice.{pick}
-use Rattle.laws.specs.Lists.{same}
 use Rattle.terms.specs.declared.letters.Ask.{Ask}
 use Rattle.terms.specs.declared.letters.Letter.the-variants.{Asks}
 use Rattle.terms.specs.declared.letters.Lettered.the-variants.{Known}
@@ -43,5 +43,5 @@ pub data MarkFirst : History → Type 0 where
 -- how many records of a job stand in a history
 unfoldable pub recordsFor : ℕ → History → ℕ
 recordsFor j [] = 0
-recordsFor j (Does x ∷ h) = pick (same (x .job) j) 1 0 + recordsFor j h
-recordsFor j (Ends m i ∷ h) = pick (same i j) 1 0 + recordsFor j h
+recordsFor j (Does x ∷ h) = pick (eqb (x .job) j) 1 0 + recordsFor j h
+recordsFor j (Ends m i ∷ h) = pick (eqb i j) 1 0 + recordsFor j h

@@ -2,12 +2,11 @@
 use Prim.Native.Nat.{ℕ}
 use mathlib.Core.Bool.{Bool, true, false, _&&_, _||_}
 use mathlib.Core.List.{List, [], _∷_}
-use lib.Dec.{ltb}
+use lib.Dec.{ltb, eqb}
 use Rattle.laws.specs.Choice.{pick}
 use Rattle.conflict.specs.declared.modes.Mode.{Mode}
 use Rattle.conflict.specs.declared.modes.Mode.the-variants.{Free}
 use Rattle.conflict.specs.Modes.{needed, grants, asked, isFree}
-use Rattle.laws.specs.Lists.{same}
 use Rattle.rules.specs.Desk.{Waiter, Row, at}
 
 -- the test holds of every job of the list
@@ -27,15 +26,15 @@ isEmpty (w ∷ q) = false
 
 -- the mode agrees with every other holder (01, rules 3 and 4)
 unfoldable pub agrees : List ℕ → (ℕ → Mode) → ℕ → Mode → Bool
-agrees js held j m = every (λ i. same i j || grants (held i) m) js
+agrees js held j m = every (λ i. eqb i j || grants (held i) m) js
 
 -- no other job holds the cell (01, rule 2)
 unfoldable pub alone : List ℕ → (ℕ → Mode) → ℕ → Bool
-alone js held j = every (λ i. same i j || isFree (held i)) js
+alone js held j = every (λ i. eqb i j || isFree (held i)) js
 
 -- older than every other holder: smaller is older (01, rules 2 and 3)
 unfoldable pub olderThanHolders : List ℕ → (ℕ → Mode) → ℕ → Bool
-olderThanHolders js held j = every (λ i. same i j || (isFree (held i) || ltb j i)) js
+olderThanHolders js held j = every (λ i. eqb i j || (isFree (held i) || ltb j i)) js
 
 -- older than every waiter (01, rule 3)
 unfoldable pub olderThanWaiters : List Waiter → ℕ → Bool
@@ -44,7 +43,7 @@ olderThanWaiters q j = everyWaiter (λ w. ltb j (w .job)) q
 -- the queue without a job's place in it (01, rule 4)
 unfoldable pub without : ℕ → List Waiter → List Waiter
 without j [] = []
-without j (w ∷ q) = pick (same (w .job) j) (without j q) (w ∷ without j q)
+without j (w ∷ q) = pick (eqb (w .job) j) (without j q) (w ∷ without j q)
 
 -- a row whose waiters have been granted from the front, and who was granted, in order
 pub record Settled : Type 0 where

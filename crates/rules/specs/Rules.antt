@@ -2,6 +2,7 @@
 use Prim.Native.Nat.{ℕ, zero, suc}
 use mathlib.Core.Bool.{Bool, false, _&&_, _||_}
 use mathlib.Core.List.{List, [], _∷_, _++_}
+use lib.Dec.{eqb}
 use Rattle.laws.specs.Choice.{pick}
 use Rattle.terms.specs.declared.letters.Ask.{Ask}
 use Rattle.terms.specs.declared.refusals.Refusal.{Refusal}
@@ -9,7 +10,6 @@ use Rattle.terms.specs.Limits.{cells}
 use Rattle.conflict.specs.declared.modes.Mode.{Mode}
 use Rattle.conflict.specs.declared.action.Action.{Action}
 use Rattle.conflict.specs.Modes.{needed, recorded, covers, asked, isFree}
-use Rattle.laws.specs.Lists.{same}
 use Rattle.rules.specs.declared.Answer.{Answer}
 use Rattle.rules.specs.declared.Answer.the-variants.{Go, Wait, Back, No}
 use Rattle.rules.specs.Desk.{Status, running, waiting, sentback, closed, Waiter, Row, Desk, at, seated, vacated}
@@ -49,7 +49,7 @@ wakesOf s (suc c) = wakesOf s c ++ wakesAt c (s c .woken)
 -- whether a job is among the wakes
 unfoldable pub isWoken : ℕ → List Action → Bool
 isWoken j [] = false
-isWoken j (a ∷ rest) = same (a .job) j || isWoken j rest
+isWoken j (a ∷ rest) = eqb (a .job) j || isWoken j rest
 
 -- the statuses once the woken jobs run again
 unfoldable pub runAgain : (ℕ → Status) → List Action → ℕ → Status

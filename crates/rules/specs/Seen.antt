@@ -1,8 +1,8 @@
 -- The paper's desk as it is seen from a desk that is kept in any other way: such a desk keeps the next number, the places, what each job is doing and what each holds, and a cell's queue is who waits for it, the youngest first.
 use Prim.Native.Nat.{ℕ, zero, suc}
 use mathlib.Core.List.{List, [], _∷_}
+use lib.Dec.{eqb}
 use Rattle.laws.specs.Choice.{pick}
-use Rattle.laws.specs.Lists.{same}
 use Rattle.conflict.specs.declared.modes.Mode.{Mode}
 use Rattle.rules.specs.Desk.{Status, closed, running, waiting, sentback, Waiter, Desk}
 
@@ -10,7 +10,7 @@ use Rattle.rules.specs.Desk.{Status, closed, running, waiting, sentback,
 unfoldable pub inFront : ℕ → ℕ → Status → List Waiter → List Waiter
 inFront c j closed q = q
 inFront c j running q = q
-inFront c j (waiting b a) q = pick (same b c) (record { job = j; ask = a } ∷ q) q
+inFront c j (waiting b a) q = pick (eqb b c) (record { job = j; ask = a } ∷ q) q
 inFront c j sentback q = q
 
 -- who of the jobs below n waits for the cell, the youngest first

@@ -4,14 +4,12 @@ use Prim.Native.Nat.{ℕ}
 use mathlib.Core.Path.{_≡_, refl, ap, ap₂, _∙_}
 use mathlib.Core.List.{List, [], _∷_, _++_, map}
 use Rattle.terms.specs.declared.refusals.Refusal.{Refusal}
-use Rattle.terms.specs.declared.words.Word.the-variants.{Wake}
 use Rattle.terms.specs.Refusals.{numberOf}
 use Rattle.conflict.specs.declared.action.Action.{Action}
 use Rattle.formats.specs.Decimal.{decimal}
 use Rattle.formats.specs.Records.{answerRecord}
 use Rattle.formats.specs.Split.{joined}
 use Rattle.formats.proofs.RecordBytes.{go-bytes, wait-bytes, back-bytes, no-bytes, wake-bytes}
-use Rattle.rules.specs.declared.Answer.{Answer}
 use Rattle.rules.specs.declared.Answer.the-variants.{Go, Wait, Back, No}
 use Rattle.rules.specs.AnswerWords.{wordOf, numberBeside}
 use Rattle.runs.specs.Run.{Told, wakeLines, answerLines, written}

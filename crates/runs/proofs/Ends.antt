@@ -1,11 +1,10 @@
 -- The end of the input, case by case: no line is owed, there is no room, or its record is written.
 -- Assumes nothing.
-use Prim.Native.Nat.{ℕ, _+_, _≤_}
-use mathlib.Core.Path.{_≡_, refl, sym, ap, _∙_}
-use mathlib.Core.Bool.{Bool, true, false, not, _&&_}
+use Prim.Native.Nat.{ℕ, _≤_}
+use mathlib.Core.Path.{_≡_, ap, _∙_}
+use mathlib.Core.Bool.{true, false}
 use mathlib.Core.List.{List}
 use lib.Dec.{leb}
-use lib.ListN.{length}
 use borrow.Author.Tests.{leb-true}
 use Rattle.laws.specs.Choice.{by-test, not-both}
 use Rattle.terms.specs.Limits.{requestLines}
@@ -14,7 +13,7 @@ use Rattle.formats.specs.Wrote.{Wrote}
 use Rattle.runs.specs.declared.Clerk.{Clerk}
 use Rattle.runs.specs.declared.View.{View}
 use Rattle.runs.specs.declared.Finished.{Finished}
-use Rattle.runs.specs.Work.{viewed, roomy, unended, owing, Finishing, finishOf}
+use Rattle.runs.specs.Work.{viewed, roomy, unended, owing, finishOf}
 
 -- what the end of the input leaves
 abbrev pub Ends : View → Clerk → List ℕ → ℕ → Finished → List ℕ → Type 0

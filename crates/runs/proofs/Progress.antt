@@ -1,8 +1,8 @@
 -- A call that is not full has used up the chunk; a full one with room for a line at first has moved on.
 -- Assumes nothing.
 use Prim.Native.Nat.{ℕ, zero, suc, _+_, _≤_, _<_}
-use mathlib.Core.Path.{_≡_, refl, sym, ap, _∙_}
-use mathlib.Core.Bool.{Bool, true, false}
+use mathlib.Core.Path.{_≡_, refl}
+use mathlib.Core.Bool.{true, false}
 use mathlib.Core.List.{List}
 use native.Mathlib.Omega.{arith}
 use lib.Dec.{ltb}
@@ -13,7 +13,7 @@ use Rattle.formats.specs.Split.{cutOf}
 use Rattle.formats.proofs.Cuts.{cut-ahead}
 use Rattle.runs.specs.declared.Clerk.{Clerk}
 use Rattle.runs.specs.declared.View.{View}
-use Rattle.runs.specs.Work.{roomy, turning, cutting, Working, stopped, workBy, workOf}
+use Rattle.runs.specs.Work.{roomy, turning, cutting, stopped, workBy, workOf}
 use Rattle.runs.proofs.OneCall.{turn-did, called}
 
 -- a call that is not full has used up the chunk

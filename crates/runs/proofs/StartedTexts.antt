@@ -6,10 +6,11 @@ use mathlib.Core.Bool.{true}
 use mathlib.Core.List.{List, [], _∷_}
 use native.Mathlib.Omega.{arith}
 use lib.ListN.{length}
+use lib.Dec.{eqb}
 use Rattle.terms.specs.Limits.{cells, lastNumber, judgedJobs, judgedBytes}
 use Rattle.conflict.specs.declared.action.Action.{Action}
 use Rattle.conflict.specs.declared.action.Event.the-variants.{Does, Ends}
-use Rattle.laws.specs.Lists.{same, member, distinct}
+use Rattle.laws.specs.Lists.{member, distinct}
 use Rattle.conflict.specs.History.{History, commitOrder, lineOf}
 use Rattle.laws.proofs.Parts.{and-both, or-first, or-second}
 use Rattle.laws.proofs.Lists.{same-refl}
@@ -37,13 +38,13 @@ all-within : (last : ℕ) (h : History) → ((j : ℕ) → lineOf j h ≡ true �
 unfolding allWithin
 all-within last [] jobs at = refl
 all-within last (Does a ∷ h) jobs at =
-    let b = jobs (a .job) (line-does (a .job) a h ∙ or-first (same (a .job) (a .job)) (lineOf (a .job) h) (same-refl (a .job))) in
+    let b = jobs (a .job) (line-does (a .job) a h ∙ or-first (eqb (a .job) (a .job)) (lineOf (a .job) h) (same-refl (a .job))) in
     and-both (within last (Does a)) (allWithin last h) (within-action last a (b .0) (b .1) (at a first))
-    (all-within last h (λ j l. jobs j (line-does j a h ∙ or-second (same (a .job) j) (lineOf j h) l)) (λ x k. at x (later k)))
+    (all-within last h (λ j l. jobs j (line-does j a h ∙ or-second (eqb (a .job) j) (lineOf j h) l)) (λ x k. at x (later k)))
 all-within last (Ends m i ∷ h) jobs at =
-    let b = jobs i (line-ends i m i h ∙ or-first (same i i) (lineOf i h) (same-refl i)) in
+    let b = jobs i (line-ends i m i h ∙ or-first (eqb i i) (lineOf i h) (same-refl i)) in
     and-both (within last (Ends m i)) (allWithin last h) (within-mark last m i (b .0) (b .1))
-    (all-within last h (λ j l. jobs j (line-ends j m i h ∙ or-second (same i j) (lineOf j h) l)) (λ x k. at x (later k)))
+    (all-within last h (λ j l. jobs j (line-ends j m i h ∙ or-second (eqb i j) (lineOf j h) l)) (λ x k. at x (later k)))
 
 -- two lists of the same jobs, none twice, are of one length
 same-size : (js ks : List ℕ) → distinct js ≡ true → distinct ks ≡ true → ((j : ℕ) → member j js ≡ member j ks) → length js ≡ length ks

@@ -1,6 +1,6 @@
 -- No second result meets the contract of the function that starts a clerk.
 -- Assumes nothing.
-use mathlib.Core.Path.{_≡_, sym, _∙_}
+use mathlib.Core.Path.{sym, _∙_}
 use Rattle.laws.specs.Unique.{Unique}
 use Rattle.runs.proofs.Clerk.started.Reads as started
 use Rattle.runs.proofs.Clerk.started.Kinds as startedK

@@ -1,7 +1,6 @@
 -- The two desk programs as definitions from text to text (01, What is delivered).
 use Prim.Native.Nat.{ℕ}
 use mathlib.Core.List.{List}
-use lib.ListN.{take}
 use Rattle.formats.specs.Split.{linesOf}
 use Rattle.rules.specs.Desk.{freshDesk}
 use Rattle.rules.specs.Step.{step}

@@ -7,7 +7,7 @@ use native.Mathlib.Omega.{arith}
 use lib.ListN.{length, drop, length-drop}
 use Rattle.formats.specs.declared.splitter.Splitter.{Splitter}
 use Rattle.formats.specs.declared.splitter.Cut.{Cut}
-use Rattle.formats.specs.Split.{used, cutOf, Sized}
+use Rattle.formats.specs.Split.{cutOf, Sized}
 use Rattle.formats.proofs.Cutting.{used-some}
 use Rattle.formats.proofs.Held.{cut-sized}
 

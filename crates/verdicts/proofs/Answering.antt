@@ -1,7 +1,7 @@
 -- The judge's answer is one of the paper's three: 14, the refusal of the first faulty line, or a verdict on a faultless text; and there is no second answer (01, Refusals by number; 01, The judge's rules).
 -- Assumes nothing.
 use Prim.Native.Nat.{ℕ, _≤_}
-use mathlib.Core.Path.{_≡_, refl, sym, _∙_, subst}
+use mathlib.Core.Path.{_≡_, refl, sym, _∙_}
 use mathlib.Core.List.{List, []}
 use mathlib.Core.Option.{Option, none, some}
 use native.Mathlib.Omega.{arith}

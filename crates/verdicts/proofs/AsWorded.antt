@@ -1,18 +1,17 @@
 -- The judge in the paper's words and numbers: which texts are faultless, which line is refused and with which number, and of which texts orderly and a knot are said; each both ways (01, Refusals by number; 01, The judge's rules).
 -- Assumes nothing.
 use Prim.Native.Nat.{ℕ, _-_, _≤_, _<_}
-use mathlib.Core.Path.{_≡_, refl, sym, ap, _∙_, subst}
+use mathlib.Core.Path.{_≡_, refl, ap, _∙_}
 use mathlib.Core.Logic.{_↔_, _⊎_, inl, inr, ⊎-elim}
 use mathlib.Core.List.{List, [], _∷_}
 use native.Mathlib.Omega.{arith}
 use lib.Dec.{leb}
 use lib.ListN.{length}
-use borrow.Author.Tests.{leb-true, leb-false, eq-eqb}
+use borrow.Author.Tests.{leb-true, leb-false}
 use Rattle.laws.specs.Choice.{by-test, not-both}
 use Rattle.terms.specs.declared.refusals.Refusal.{Refusal}
 use Rattle.terms.specs.declared.refusals.Refusal.the-variants.{TooManyLines, ShortOrder}
 use Rattle.terms.specs.Refusals.{numberOf}
-use Rattle.terms.proofs.Numbers.{same-number}
 use Rattle.conflict.specs.Schedule.{ConflictSerializable}
 use Rattle.conflict.specs.History.{committedPart}
 use Rattle.formats.specs.Split.{linesOf}
@@ -20,7 +19,7 @@ use Rattle.verdicts.specs.declared.verdict.Verdict.{Verdict}
 use Rattle.verdicts.specs.declared.verdict.Verdict.the-variants.{Orderly, Knot, No}
 use Rattle.verdicts.specs.HistoryText.{readingsOf, eventsIn}
 use Rattle.verdicts.specs.Judgement.{judgementOf, inNumbers}
-use Rattle.verdicts.specs.LineTable.{readingAt, linesBefore, tooMany, Faultless, FirstFault, AllFaultless}
+use Rattle.verdicts.specs.LineTable.{readingAt, linesBefore, Faultless, FirstFault, AllFaultless}
 use Rattle.verdicts.specs.AsWorded.{SoundTo, SoundText, RefusedAs}
 use Rattle.verdicts.specs.AsWorded.RefusedAs.{too-many}
 use Rattle.verdicts.proofs.Readings.{readings-length}

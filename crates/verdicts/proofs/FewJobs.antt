@@ -6,11 +6,11 @@ use mathlib.Core.Logic.{_≢_}
 use mathlib.Core.Bool.{true, false, not, _&&_}
 use mathlib.Core.List.{List, [], _∷_, _++_}
 use native.Mathlib.Omega.{arith}
-use lib.Dec.{leb}
+use lib.Dec.{leb, eqb}
 use lib.ListN.{length, getD}
 use borrow.Author.Tests.{eqb-true, eqb-false, leb-true, not-false}
 use Rattle.laws.specs.Choice.{by-test, not-both}
-use Rattle.laws.specs.Lists.{same, member, distinct}
+use Rattle.laws.specs.Lists.{member, distinct}
 use Rattle.laws.proofs.Parts.{and-first, and-second, or-either}
 use Rattle.terms.specs.declared.letters.Letter.the-variants.{Begin, Commit, GiveUp, Retry, Back, Asks}
 use Rattle.terms.specs.Limits.{judgedJobs}
@@ -42,7 +42,7 @@ counted : (n j : ℕ) → 1 ≤ j → j ≤ n → member j (countdown n) ≡ tru
 unfolding countdown member
 counted zero j a b = absurd (omega arith)
 counted (suc n) j a b =
-    by-test (same (suc n) j) (λ t. rw t) (λ f. let other′ : suc n ≢ j = eqb-false (suc n) j f in rw f (counted n j a (omega arith)))
+    by-test (eqb (suc n) j) (λ t. rw t) (λ f. let other′ : suc n ≢ j = eqb-false (suc n) j f in rw f (counted n j a (omega arith)))
 
 -- jobs from 1 to 255, none twice, are at most 255
 pub at-most-255 : (js : List ℕ) → distinct js ≡ true → ((j : ℕ) → member j js ≡ true → (1 ≤ j) × (j ≤ judgedJobs)) → length js ≤ judgedJobs
@@ -58,8 +58,8 @@ not-outside job e =
 -- a job with a c has it on this line, and then is 1 to 255, or after it
 marked-here : {P : Type 0} (m : Mark) (job j : ℕ) (h : History) → marked isCommit j (Ends m job ∷ h) ≡ true → (job ≡ j → P) → (marked isCommit j h ≡ true → P) → P
 marked-here m job j h e one′ two′ =
-    or-either (same job j && isCommit m) (marked isCommit j h) (sym (marked-ends isCommit j m job h) ∙ e)
-    (λ t. one′ (eqb-true job j (and-first (same job j) (isCommit m) t))) two′
+    or-either (eqb job j && isCommit m) (marked isCommit j h) (sym (marked-ends isCommit j m job h) ∙ e)
+    (λ t. one′ (eqb-true job j (and-first (eqb job j) (isCommit m) t))) two′
 
 -- the same by what the line reads
 marked-line : {P : Type 0} (r : Reading) (h : History) (j : ℕ) → outside r ≡ false → marked isCommit j (eventOf r ++ h) ≡ true →

@@ -6,10 +6,10 @@ use mathlib.Core.Bool.{Bool, true, false}
 use mathlib.Core.List.{List, [], _∷_}
 use mathlib.Core.Option.{Option, none, some}
 use native.Mathlib.Omega.{arith}
-use lib.Dec.{ltb}
+use lib.Dec.{ltb, eqb}
 use borrow.Author.Tests.{eqb-true, ltb-true}
 use Rattle.laws.specs.Choice.{by-test, not-both}
-use Rattle.laws.specs.Lists.{same, member}
+use Rattle.laws.specs.Lists.{member}
 use Rattle.laws.proofs.Lists.{member-first, member-more}
 use Rattle.laws.proofs.Parts.{and-first, and-second, or-either}
 use Rattle.verdicts.specs.Order.{under, ascending, first}
@@ -42,21 +42,21 @@ unfolding first member
 first-none f [] h j m = not-both m refl
 first-none f (k ∷ ks) h j m =
     by-test (f k) (λ t. some-none (rw t at h))
-    (λ g. or-either (same k j) (member j ks) m (λ e. rw (← eqb-true k j e) g) (λ l. first-none f ks (rw g at h) j l))
+    (λ g. or-either (eqb k j) (member j ks) m (λ e. rw (← eqb-true k j e) g) (λ l. first-none f ks (rw g at h) j l))
 
 -- who is smaller than all is smaller than each
 pub under-each : (j : ℕ) (ks : List ℕ) → under j ks ≡ true → (k : ℕ) → member k ks ≡ true → j < k
 unfolding under member
 under-each j [] h k m = not-both m refl
 under-each j (i ∷ ks) h k m =
-    or-either (same i k) (member k ks) m (λ e. rw (← eqb-true i k e) (ltb-true j i (and-first (ltb j i) (under j ks) h)))
+    or-either (eqb i k) (member k ks) m (λ e. rw (← eqb-true i k e) (ltb-true j i (and-first (ltb j i) (under j ks) h)))
     (λ l. under-each j ks (and-second (ltb j i) (under j ks) h) k l)
 
 -- the first of an ascending list is the smallest
 pub head-least : (j : ℕ) (js : List ℕ) → ascending (j ∷ js) ≡ true → (k : ℕ) → member k (j ∷ js) ≡ true → j ≤ k
 unfolding ascending member
 head-least j js h k m =
-    or-either (same j k) (member k js) m (λ e. let q : j ≡ k = eqb-true j k e in omega arith)
+    or-either (eqb j k) (member k js) m (λ e. let q : j ≡ k = eqb-true j k e in omega arith)
     (λ l. let q : j < k = under-each j js (and-first (under j js) (ascending js) h) k l in omega arith)
 
 -- in an ascending list the one found is the smallest that passes
@@ -66,7 +66,7 @@ first-least f [] a j h k m p = not-both m refl
 first-least f (i ∷ js) a j h k m p =
     by-test (f i) (λ t. let e : i ≡ j = some-same (rw t at h) in rw (← e) (head-least i js a k m))
     (λ g. first-least f js (and-second (under i js) (ascending js) a) j (rw g at h) k
-    (or-either (same i k) (member k js) m (λ e. not-both p (rw (← eqb-true i k e) g)) (λ l. l)) p)
+    (or-either (eqb i k) (member k js) m (λ e. not-both p (rw (← eqb-true i k e) g)) (λ l. l)) p)
 
 -- as the paper words it
 pub first-smallest : (f : ℕ → Bool) (js : List ℕ) → ascending js ≡ true → (j : ℕ) → first f js ≡ some j → Smallest f js j

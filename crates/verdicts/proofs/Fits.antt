@@ -5,8 +5,9 @@ use mathlib.Core.Path.{_≡_, refl, sym, _∙_}
 use mathlib.Core.Bool.{true, false}
 use mathlib.Core.List.{List, [], _∷_}
 use borrow.Author.Tests.{eqb-true}
+use lib.Dec.{eqb}
 use Rattle.laws.specs.Choice.{by-test, not-both}
-use Rattle.laws.specs.Lists.{same, member}
+use Rattle.laws.specs.Lists.{member}
 use Rattle.laws.proofs.Lists.{member-first, member-later, member-more}
 use Rattle.laws.proofs.Parts.{nor-first, nor-second}
 use Rattle.verdicts.specs.Order.{Edges, preceded, without}
@@ -16,9 +17,9 @@ use Rattle.verdicts.proofs.Preceded.{preceded-by, precedes}
 use Rattle.verdicts.proofs.Orders.{still}
 
 -- a job that is none of a list with one more is not that one
-member-none : (j k : ℕ) (ks : List ℕ) → member k (j ∷ ks) ≡ false → (same j k ≡ false) × (member k ks ≡ false)
+member-none : (j k : ℕ) (ks : List ℕ) → member k (j ∷ ks) ≡ false → (eqb j k ≡ false) × (member k ks ≡ false)
 unfolding member
-member-none j k ks h = (nor-first (same j k) (member k ks) h, nor-second (same j k) (member k ks) h)
+member-none j k ks h = (nor-first (eqb j k) (member k ks) h, nor-second (eqb j k) (member k ks) h)
 
 module _ (e : Edges) where
   -- a job that may stand first has no predecessor left
@@ -39,7 +40,7 @@ module _ (e : Edges) where
       record {
         job = left-before j left k (f .job);
         free = member-later j placed k (left-other j left k (f .job)) ∙ f .free;
-        behind = λ i m h. by-test (same j i) (λ s. rw (← eqb-true j i s) (member-first j placed))
+        behind = λ i m h. by-test (eqb j i) (λ s. rw (← eqb-true j i s) (member-first j placed))
             (λ g. member-more j placed i (f .behind i (still j left i m g) h));
       }
 

@@ -5,14 +5,15 @@ use mathlib.Core.Path.{_≡_, refl, sym, ap, _∙_}
 use mathlib.Core.Bool.{true, _||_, or-assoc}
 use mathlib.Core.List.{List, [], _∷_, _++_}
 use native.Mathlib.Omega.{arith}
-use Rattle.laws.specs.Lists.{same, member}
+use lib.Dec.{eqb}
+use Rattle.laws.specs.Lists.{member}
 use Rattle.laws.proofs.Lists.{member-first}
 
 -- a job is in the whole if it is in a part
 pub member-append : (j : ℕ) (js ks : List ℕ) → member j (js ++ ks) ≡ (member j js || member j ks)
 unfolding member
 member-append j [] ks = refl
-member-append j (i ∷ js) ks = ap (λ b. same i j || b) (member-append j js ks) ∙ sym (or-assoc (same i j) (member j js) (member j ks))
+member-append j (i ∷ js) ks = ap (λ b. eqb i j || b) (member-append j js ks) ∙ sym (or-assoc (eqb i j) (member j js) (member j ks))
 
 -- equal lists have the same first
 pub head-same : {j k : ℕ} {js ks : List ℕ} → _≡_ {A = List ℕ} (j ∷ js) (k ∷ ks) → j ≡ k

@@ -5,8 +5,9 @@ use mathlib.Core.Path.{_≡_, refl, ap, _∙_}
 use mathlib.Core.Bool.{true, false, not}
 use mathlib.Core.List.{List, []}
 use borrow.Author.Tests.{eqb-true}
+use lib.Dec.{eqb}
 use Rattle.laws.specs.Choice.{by-test, not-both}
-use Rattle.laws.specs.Lists.{same, member, distinct, pos}
+use Rattle.laws.specs.Lists.{member, distinct, pos}
 use Rattle.laws.proofs.Lists.{first-ahead, pos-both, member-first, member-more}
 use Rattle.laws.proofs.Parts.{and-both, or-either}
 use Rattle.verdicts.specs.Order.{Edges, without, ascending}
@@ -16,7 +17,7 @@ use Rattle.verdicts.proofs.Without.{gone, stays, left-before, left-othe
 use Rattle.verdicts.proofs.Preceded.{precedes}
 
 -- a job of the list that is not the one taken is still left
-pub still : (j : ℕ) (left : List ℕ) (i : ℕ) → member i left ≡ true → same j i ≡ false → member i (without j left) ≡ true
+pub still : (j : ℕ) (left : List ℕ) (i : ℕ) → member i left ≡ true → eqb j i ≡ false → member i (without j left) ≡ true
 still j left i m f = stays j left i f ∙ m
 
 module _ (e : Edges) where
@@ -25,7 +26,7 @@ module _ (e : Edges) where
   unfolding member
   taken-only (stops end) j m = not-both m refl
   taken-only (takes {j = k} {left = left} {order = order} here′ free t) j m =
-      or-either (same k j) (member j order) m (λ s. rw (← eqb-true k j s) here′) (λ l. left-before k left j (taken-only t j l))
+      or-either (eqb k j) (member j order) m (λ s. rw (← eqb-true k j s) here′) (λ l. left-before k left j (taken-only t j l))
 
   -- no job is taken twice
   pub taken-once : {left order rest : List ℕ} → Takes e left order rest → distinct order ≡ true
@@ -39,7 +40,7 @@ module _ (e : Edges) where
   pub taken-all : {left order rest : List ℕ} → Takes e left order rest → (j : ℕ) → member j left ≡ true → member j rest ≡ false → member j order ≡ true
   taken-all (stops end) j m f = not-both m f
   taken-all (takes {j = k} {left = left} {order = order} here′ free t) j m f =
-      by-test (same k j) (λ s. rw (← eqb-true k j s) (member-first k order))
+      by-test (eqb k j) (λ s. rw (← eqb-true k j s) (member-first k order))
       (λ g. member-more k order j (taken-all t j (still k left j m g) f))
 
   -- what remains was there
@@ -52,7 +53,7 @@ module _ (e : Edges) where
   unfolding member
   taken-gone (stops end) j m = not-both m refl
   taken-gone (takes {j = k} {left = left} {order = order} {rest = rest} here′ free t) j m =
-      or-either (same k j) (member j order) m
+      or-either (eqb k j) (member j order) m
       (λ s. by-test (member j rest) (λ r. not-both s (left-other k left j (rest-only t j r))) (λ f. f))
       (λ l. taken-gone t j l)
 
@@ -66,8 +67,8 @@ module _ (e : Edges) where
   unfolding member
   taken-ahead (stops end) i j mi mj h = not-both mj refl
   taken-ahead (takes {j = k} {left = left} {order = order} here′ free t) i j mi mj h =
-      by-test (same k j) (λ s. not-both (precedes e left i k mi (rw (eqb-true k j s) h)) free)
-      (λ f. by-test (same k i) (λ s. first-ahead k order i j s f)
+      by-test (eqb k j) (λ s. not-both (precedes e left i k mi (rw (eqb-true k j s) h)) free)
+      (λ f. by-test (eqb k i) (λ s. first-ahead k order i j s f)
       (λ g. pos-both k order i j g f (taken-ahead t i j (still k left i mi g) (rw f at mj) h)))
 
   -- where none remains, the jobs taken are an order of all jobs in which every edge goes forward

@@ -1,12 +1,11 @@
 -- A job is over before a line by the table exactly where a line before it is a c or an a of that job (01, refusal 13).
 -- Assumes nothing.
-use Prim.Native.Nat.{ℕ, zero, suc, _-_, _≤_, _<_}
+use Prim.Native.Nat.{ℕ, zero, suc, _-_, _<_}
 use mathlib.Core.Path.{_≡_, refl, sym, ap, _∙_, subst}
 use mathlib.Core.Logic.{_⊎_, inl, inr, ⊎-elim}
-use mathlib.Core.Bool.{true, false, _||_}
+use mathlib.Core.Bool.{true}
 use mathlib.Core.List.{List, [], _∷_}
 use native.Mathlib.Omega.{arith}
-use lib.Dec.{eqb}
 use lib.ListN.{getD, take}
 use borrow.Author.Tests.{eqb-true, eq-eqb}
 use Rattle.laws.specs.Choice.{not-both}
@@ -16,7 +15,6 @@ use Rattle.terms.specs.declared.letters.Letter.the-variants.{Begin, Commit, Giv
 use Rattle.terms.specs.Letters.{ofHistories}
 use Rattle.formats.specs.declared.Reading.{Reading}
 use Rattle.formats.specs.declared.Reading.the-variants.{Good, Bad}
-use Rattle.formats.specs.Lines.{readLine}
 use Rattle.formats.specs.Split.{linesOf}
 use Rattle.formats.proofs.GoodLine.{good-is-record, good-exactly}
 use Rattle.verdicts.specs.HistoryText.{readingsOf, lineAt}

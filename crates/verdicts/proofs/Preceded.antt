@@ -6,8 +6,9 @@ use mathlib.Core.Bool.{true, false, not}
 use mathlib.Core.List.{List, [], _∷_}
 use mathlib.Core.Option.{none, some}
 use borrow.Author.Tests.{eqb-true, not-true, not-false}
+use lib.Dec.{eqb}
 use Rattle.laws.specs.Choice.{not-both}
-use Rattle.laws.specs.Lists.{same, member}
+use Rattle.laws.specs.Lists.{member}
 use Rattle.laws.proofs.Lists.{member-first, member-more}
 use Rattle.laws.proofs.Parts.{or-either, or-first, or-second}
 use Rattle.verdicts.specs.Order.{Edges, preceded, ready, ascending}
@@ -27,7 +28,7 @@ pub precedes : (e : Edges) (left : List ℕ) (i j : ℕ) → member i left ≡ t
 unfolding preceded member
 precedes e [] i j m h = m
 precedes e (k ∷ left) i j m h =
-    or-either (same k i) (member i left) m (λ t. or-first (e k j) (preceded e left j) (rw (eqb-true k i t) h))
+    or-either (eqb k i) (member i left) m (λ t. or-first (e k j) (preceded e left j) (rw (eqb-true k i t) h))
     (λ l. or-second (e k j) (preceded e left j) (precedes e left i j l h))
 
 -- the job that is ready is one of those left, and none of them precedes it

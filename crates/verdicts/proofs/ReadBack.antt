@@ -19,7 +19,6 @@ use Rattle.conflict.specs.declared.action.Mark.{Mark}
 use Rattle.conflict.specs.declared.action.Mark.the-variants.{Commit as commits, GiveUp as gives-up, Back as goes-back}
 use Rattle.conflict.specs.declared.action.Event.{Event}
 use Rattle.conflict.specs.declared.action.Event.the-variants.{Does, Ends}
-use Rattle.laws.specs.Lists.{same}
 use Rattle.conflict.specs.History.{History, lineOf, endsForGood}
 use Rattle.laws.proofs.Parts.{and-first, and-second, or-either, or-first, nor-second}
 use Rattle.laws.proofs.Lists.{same-refl}
@@ -94,14 +93,14 @@ record-rows h (Does a) k w g =
     rw (reads-action a own) (
       refl,
       le-ltb 63 (a .cell) (omega (arith, action-within lastNumber a own .2)),
-      not-ended h (Does a ∷ k) (a .job) (p .0) g (line-does (a .job) a k ∙ or-first (same (a .job) (a .job)) (lineOf (a .job) k) (same-refl (a .job))),
+      not-ended h (Does a ∷ k) (a .job) (p .0) g (line-does (a .job) a k ∙ or-first (eqb (a .job) (a .job)) (lineOf (a .job) k) (same-refl (a .job))),
     )
 record-rows h (Ends m i) k w g =
     let p = parts-within lastNumber h (Ends m i ∷ k) w in
     rw (reads-mark m i (and-first (within lastNumber (Ends m i)) (allWithin lastNumber k) (p .1))) (
       refl,
       rw (mark-no-cell m),
-      not-ended h (Ends m i ∷ k) i (p .0) g (line-ends i m i k ∙ or-first (same i i) (lineOf i k) (same-refl i)),
+      not-ended h (Ends m i ∷ k) i (p .0) g (line-ends i m i k ∙ or-first (eqb i i) (lineOf i k) (same-refl i)),
     )
 
 -- line n of a history's text reads as the record of an event, and the lines before it as the records of the events before

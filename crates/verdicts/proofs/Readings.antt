@@ -1,11 +1,10 @@
 -- How the lines of a text read: a reading for each line, in order, as the reader has it of that line's bytes (01, Lines).
 -- Assumes nothing.
 use Prim.Native.Nat.{ℕ, _-_, _+_, _<_}
-use mathlib.Core.Path.{_≡_, ap, _∙_}
+use mathlib.Core.Path.{_≡_, ap}
 use mathlib.Core.List.{List, [], _∷_, map}
 use lib.ListN.{length, drop, length-map, List·getD-map}
 use Rattle.terms.specs.Letters.{ofHistories}
-use Rattle.formats.specs.declared.Reading.the-variants.{Bad}
 use Rattle.formats.specs.Lines.{readLine}
 use Rattle.formats.specs.Split.{linesOf, part, used}
 use Rattle.formats.proofs.TextLines.{next-line}

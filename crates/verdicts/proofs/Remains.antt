@@ -2,11 +2,12 @@
 -- Assumes nothing.
 use Prim.Native.Nat.{ℕ}
 use mathlib.Core.Path.{_≡_, refl, sym, ap, _∙_}
-use mathlib.Core.Bool.{Bool, true, false, cond}
+use mathlib.Core.Bool.{Bool, true, false}
 use mathlib.Core.List.{List, [], _∷_}
 use borrow.Author.Tests.{eqb-true}
-use Rattle.laws.specs.Choice.{by-test, not-both}
-use Rattle.laws.specs.Lists.{same, member}
+use lib.Dec.{eqb}
+use Rattle.laws.specs.Choice.{by-test, not-both, pick}
+use Rattle.laws.specs.Lists.{member}
 use Rattle.laws.proofs.Lists.{member-first, member-more}
 use Rattle.verdicts.specs.Order.{Edges, preceded, without, stuck}
 use Rattle.verdicts.specs.Meant.{Takes}
@@ -19,7 +20,7 @@ use Rattle.verdicts.proofs.Taking.{order-taken}
 -- the jobs of a list that pass a test
 passing : (ℕ → Bool) → List ℕ → List ℕ
 passing f [] = []
-passing f (k ∷ ks) = cond (f k) (k ∷ passing f ks) (passing f ks)
+passing f (k ∷ ks) = pick (f k) (k ∷ passing f ks) (passing f ks)
 
 -- where all pass, that is the list
 passing-all : (f : ℕ → Bool) (ks : List ℕ) → ((k : ℕ) → member k ks ≡ true → f k ≡ true) → passing f ks ≡ ks
@@ -32,14 +33,14 @@ passing-without : (f : ℕ → Bool) (j : ℕ) (ks : List ℕ) → f j ≡ false
 unfolding passing without
 passing-without f j [] h = refl
 passing-without f j (k ∷ ks) h =
-    by-test (same k j) (λ t. let g : f k ≡ false = rw (eqb-true k j t) h in rw (t, g) (passing-without f j ks h))
-    (λ n. rw n (ap (λ js. cond (f k) (k ∷ js) js) (passing-without f j ks h)))
+    by-test (eqb k j) (λ t. let g : f k ≡ false = rw (eqb-true k j t) h in rw (t, g) (passing-without f j ks h))
+    (λ n. rw n (ap (λ js. pick (f k) (k ∷ js) js) (passing-without f j ks h)))
 
 -- equal tests pass the same jobs
 passing-alike : (f g : ℕ → Bool) (ks : List ℕ) → ((k : ℕ) → f k ≡ g k) → passing f ks ≡ passing g ks
 unfolding passing
 passing-alike f g [] h = refl
-passing-alike f g (k ∷ ks) h = rw (h k) (ap (λ js. cond (g k) (k ∷ js) js) (passing-alike f g ks h))
+passing-alike f g (k ∷ ks) h = rw (h k) (ap (λ js. pick (g k) (k ∷ js) js) (passing-alike f g ks h))
 
 module _ (e : Edges) where
   -- each job that remains has a predecessor that remains
@@ -53,7 +54,7 @@ module _ (e : Edges) where
   never-taken (takes {j = k} {left = left} here′ free t) part each within j m =
       never-taken t part each
       (λ i mi. still k left i (within i mi)
-      (by-test (same k i)
+      (by-test (eqb k i)
       (λ s.
       let by = preceded-by e part i (each i mi) in
       not-both (precedes e left (by .0) k (within (by .0) (by .1)) (rw (eqb-true k i s) (by .2))) free)

@@ -7,8 +7,9 @@ use mathlib.Core.List.{List, [], _∷_, _++_, append-nil, append-assoc}
 use native.Mathlib.Omega.{arith}
 use lib.ListN.{length}
 use borrow.Author.Tests.{eqb-true, not-true}
+use lib.Dec.{eqb}
 use Rattle.laws.specs.Choice.{by-test, not-both}
-use Rattle.laws.specs.Lists.{same, member}
+use Rattle.laws.specs.Lists.{member}
 use Rattle.laws.proofs.Lists.{member-first, member-later, member-more}
 use Rattle.verdicts.specs.Order.{Edges, preceded, ready, without, ascending, ends, leads, taken, orderOf, stuck}
 use Rattle.verdicts.specs.Meant.{Fits, SmallestFirst, Smallest, Takes}
@@ -36,7 +37,7 @@ module _ (e : Edges) where
   one-more j left order s o = record { all = every; fits = fits′; smallest = smallest′ }
     where
       every : (k : ℕ) → member k left ≡ true → member k (j ∷ order) ≡ true
-      every k m = by-test (same j k) (λ t. rw (← eqb-true j k t) (member-first j order)) (λ f. member-more j order k (o .all k (still j left k m f)))
+      every k m = by-test (eqb j k) (λ t. rw (← eqb-true j k t) (member-first j order)) (λ f. member-more j order k (o .all k (still j left k m f)))
 
       fits′ : (placed : List ℕ) (k : ℕ) (rest : List ℕ) → j ∷ order ≡ placed ++ k ∷ rest → Fits e left placed k
       fits′ [] k rest q = subst (Fits e left []) (head-same q) (first-fits e left j (s .job) (not-true (preceded e left j) (s .passes)))

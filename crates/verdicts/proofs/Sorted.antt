@@ -6,10 +6,10 @@ use mathlib.Core.Logic.{_≢_}
 use mathlib.Core.Bool.{Bool, true, false, not, _&&_, _||_}
 use mathlib.Core.List.{List, [], _∷_}
 use native.Mathlib.Omega.{arith}
-use lib.Dec.{ltb}
+use lib.Dec.{ltb, eqb}
 use borrow.Author.Tests.{eqb-true, eqb-false, ltb-true, ltb-false, lt-ltb}
 use Rattle.laws.specs.Choice.{by-test, not-both}
-use Rattle.laws.specs.Lists.{same, member, distinct}
+use Rattle.laws.specs.Lists.{member, distinct}
 use Rattle.laws.proofs.Lists.{member-first, member-later, member-more, once-first}
 use Rattle.laws.proofs.Parts.{and-first, and-second, and-both, or-either, or-swap}
 use Rattle.verdicts.specs.Order.{under, ascending}
@@ -22,13 +22,13 @@ or-again true b = refl
 or-again false b = refl
 
 -- one more job is there, and the others are
-insert-member : (i : ℕ) (ks : List ℕ) (j : ℕ) → member j (insert i ks) ≡ (same i j || member j ks)
+insert-member : (i : ℕ) (ks : List ℕ) (j : ℕ) → member j (insert i ks) ≡ (eqb i j || member j ks)
 unfolding insert member
 insert-member i [] j = refl
 insert-member i (k ∷ ks) j =
     by-test (ltb i k) (λ t. rw t)
-    (λ f. by-test (same i k) (λ t. rw (f, t) (rw (eqb-true i k t) (or-again (same k j) (member j ks))))
-    (λ g. rw (f, g) (ap (λ b. same k j || b) (insert-member i ks j) ∙ or-swap (same k j) (same i j) (member j ks))))
+    (λ f. by-test (eqb i k) (λ t. rw (f, t) (rw (eqb-true i k t) (or-again (eqb k j) (member j ks))))
+    (λ g. rw (f, g) (ap (λ b. eqb k j || b) (insert-member i ks j) ∙ or-swap (eqb k j) (eqb i j) (member j ks))))
 
 -- who is smaller than each is smaller than all
 pub under-all : (j : ℕ) (ks : List ℕ) → ((k : ℕ) → member k ks ≡ true → j < k) → under j ks ≡ true
@@ -48,21 +48,21 @@ insert-ascending i (k ∷ ks) a =
     let less : i < k = ltb-true i k t in
     rw t (and-both (ltb i k && under i ks) (under k ks && ascending ks)
     (and-both (ltb i k) (under i ks) t (under-all i ks (λ j m. omega (arith, under-each k ks over j m)))) a))
-    (λ f. by-test (same i k) (λ t. rw (f, t) a)
+    (λ f. by-test (eqb i k) (λ t. rw (f, t) a)
     (λ g.
     let most : k ≤ i = ltb-false i k f in
     let other′ : i ≢ k = eqb-false i k g in
     let less : k < i = omega arith in
     rw (f, g) (and-both (under k (insert i ks)) (ascending (insert i ks))
     (under-all k (insert i ks)
-    (λ j m. or-either (same i j) (member j ks) (sym (insert-member i ks j) ∙ m) (λ t. rw (← eqb-true i j t) less) (λ l. under-each k ks over j l)))
+    (λ j m. or-either (eqb i j) (member j ks) (sym (insert-member i ks j) ∙ m) (λ t. rw (← eqb-true i j t) less) (λ l. under-each k ks over j l)))
     (insert-ascending i ks (and-second (under k ks) (ascending ks) a)))))
 
 -- the jobs in order are the jobs
 pub sorted-member : (js : List ℕ) (j : ℕ) → member j (sorted js) ≡ member j js
 unfolding sorted member
 sorted-member [] j = refl
-sorted-member (i ∷ js) j = insert-member i (sorted js) j ∙ ap (λ b. same i j || b) (sorted-member js j)
+sorted-member (i ∷ js) j = insert-member i (sorted js) j ∙ ap (λ b. eqb i j || b) (sorted-member js j)
 
 -- and they ascend
 pub sorted-ascending : (js : List ℕ) → ascending (sorted js) ≡ true
@@ -91,7 +91,7 @@ ascending-only (j ∷ js) (k ∷ ks) a b h =
     let e : j ≡ k = omega arith in
     ap₂ (λ i l. i ∷ l) e
     (ascending-only js ks (and-second (under j js) (ascending js) a) (and-second (under k ks) (ascending ks) b)
-    (λ i. by-test (same j i)
+    (λ i. by-test (eqb j i)
     (λ t.
     let one′ : member i js ≡ false = rw (← eqb-true j i t) (once-first j js (ascending-once (j ∷ js) a)) in
     let two′ : member i ks ≡ false = rw (← eqb-true j i t, e) (once-first k ks (ascending-once (k ∷ ks) b)) in

@@ -1,8 +1,7 @@
 -- The history that a faultless text says is the one whose records are that text, byte for byte: nothing of the text is lost or added (01, Lines).
 -- Assumes nothing.
-use Prim.Native.Nat.{ℕ, zero, suc, _-_, _≤_, _<_}
+use Prim.Native.Nat.{ℕ, suc, _-_, _<_}
 use mathlib.Core.Path.{_≡_, refl, sym, ap, ap₂, _∙_, subst}
-use mathlib.Core.Bool.{true}
 use mathlib.Core.List.{List, [], _∷_, _++_, append-nil, map}
 use native.Mathlib.Omega.{arith}
 use lib.ListN.{length, getD}
@@ -14,8 +13,7 @@ use Rattle.terms.specs.declared.letters.Letter.the-variants.{Begin, Commit, Giv
 use Rattle.terms.specs.Letters.{ofHistories}
 use Rattle.conflict.specs.Modes.{recorded}
 use Rattle.conflict.proofs.Clauses.{records-read, records-write, records-increment}
-use Rattle.formats.specs.declared.Reading.{Reading}
-use Rattle.formats.specs.declared.Reading.the-variants.{Good, Bad}
+use Rattle.formats.specs.declared.Reading.the-variants.{Good}
 use Rattle.formats.specs.GoodLine.{GoodLine}
 use Rattle.formats.specs.Lines.{readLine}
 use Rattle.formats.specs.Records.{lineRecord}

@@ -1,15 +1,14 @@
 -- The word that the verdict program's line begins with, as bytes, and exactly of which texts: `orderly`, `knot`, `no` (01, The judge's rules; demand 2).
 -- Assumes nothing.
 use Prim.Native.Nat.{ℕ, _≤_, _<_}
-use mathlib.Core.Path.{_≡_, refl, sym, ap, _∙_}
+use mathlib.Core.Path.{_≡_, refl, sym, _∙_}
 use mathlib.Core.Logic.{_↔_, _⊎_, inl, inr, ⊎-elim}
 use mathlib.Core.List.{List, [], _∷_}
 use native.Mathlib.Omega.{arith}
 use lib.Dec.{ltb}
-use lib.ListN.{length, length-replicate, getD, take, replicate}
-use borrow.Author.Tests.{lt-ltb, le-ltb, ltb-true, ltb-false}
+use lib.ListN.{length, length-replicate, take, replicate}
+use borrow.Author.Tests.{ltb-true, ltb-false}
 use Rattle.laws.specs.Choice.{by-test}
-use Rattle.terms.specs.declared.words.Word.{Word}
 use Rattle.terms.specs.declared.words.Word.the-variants.{No as the-no, Orderly as the-orderly, Knot as the-knot}
 use Rattle.terms.specs.declared.refusals.Refusal.{Refusal}
 use Rattle.terms.specs.Limits.{judgedBytes}

@@ -8,8 +8,9 @@ use mathlib.Core.Option.{some}
 use native.Mathlib.Omega.{arith}
 use lib.ListN.{length}
 use borrow.Author.Tests.{eqb-true}
+use lib.Dec.{eqb}
 use Rattle.laws.specs.Choice.{by-test, not-both}
-use Rattle.laws.specs.Lists.{same, member, distinct}
+use Rattle.laws.specs.Lists.{member, distinct}
 use Rattle.laws.proofs.Lists.{member-first, member-more, once-first, once-rest, member-other}
 use Rattle.laws.proofs.Parts.{and-both, or-either}
 use Rattle.conflict.specs.Schedule.{path, knot}
@@ -37,9 +38,9 @@ module _ (e : Edges) (left : List ℕ) where
   -- the jobs of a walk are jobs that remain
   pub walk-within : {js : List ℕ} → Walk e left js → (k : ℕ) → member k js ≡ true → member k left ≡ true
   unfolding member
-  walk-within (starts {j = j} s) k m = or-either (same j k) false m (λ t. rw (← eqb-true j k t) (s .job)) (λ l. not-both l refl)
+  walk-within (starts {j = j} s) k m = or-either (eqb j k) false m (λ t. rw (← eqb-true j k t) (s .job)) (λ l. not-both l refl)
   walk-within (goes {i = i} {j = j} {seen = seen} w f s) k m =
-      or-either (same i k) (member k (j ∷ seen)) m (λ t. rw (← eqb-true i k t) (s .job)) (λ l. walk-within w k l)
+      or-either (eqb i k) (member k (j ∷ seen)) m (λ t. rw (← eqb-true i k t) (s .job)) (λ l. walk-within w k l)
 
   -- no job seen was seen before
   pub walk-once : {j : ℕ} {seen : List ℕ} → Walk e left (j ∷ seen) → distinct seen ≡ true
@@ -52,7 +53,7 @@ module _ (e : Edges) (left : List ℕ) where
   unfolding upTo member
   walk-path (starts s) k m = not-both m refl
   walk-path (goes {i = i} {j = j} {seen = seen} w f s) k m =
-      by-test (same j k) (λ t. rw t (path-edge e i k (rw (← eqb-true j k t) (s .passes))))
+      by-test (eqb j k) (λ t. rw t (path-edge e i k (rw (← eqb-true j k t) (s .passes))))
       (λ g. rw g (path-more e i j (upTo k seen) k (s .passes) (walk-path w k (rw g at m))))
 
   -- the cycle is a knot
@@ -63,7 +64,7 @@ module _ (e : Edges) (left : List ℕ) where
   pub cycle-within : {round : List ℕ} → Cycle e left round → (k : ℕ) → member k round ≡ true → member k left ≡ true
   unfolding member
   cycle-within c k m =
-      or-either (same (c .job) k) (member k (upTo (c .job) (c .seen))) (rw (c .along) at m)
+      or-either (eqb (c .job) k) (member k (upTo (c .job) (c .seen))) (rw (c .along) at m)
       (λ t. rw (← eqb-true (c .job) k t) (walk-within (c .walked) (c .job) (member-first (c .job) (c .seen))))
       (λ l. walk-within (c .walked) k (member-more (c .job) (c .seen) k (upTo-part (c .job) (c .seen) k l)))
 

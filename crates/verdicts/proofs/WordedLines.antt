@@ -10,7 +10,7 @@ use native.Mathlib.Omega.{arith}
 use lib.Dec.{eqb, leb}
 use borrow.Author.Tests.{eqb-true, eqb-false, eq-eqb, ne-eqb, leb-true, leb-false, le-leb, lt-leb}
 use Rattle.laws.specs.Choice.{pick, by-test, not-both}
-use Rattle.laws.proofs.Parts.{and-first, and-second}
+use Rattle.laws.proofs.Parts.{and-second}
 use Rattle.terms.specs.declared.letters.Letter.{Letter}
 use Rattle.terms.specs.declared.refusals.Refusal.{Refusal}
 use Rattle.terms.specs.declared.refusals.Refusal.the-variants.{BadLine, CellAbove, TooManyLines, JobOutside, Ended}
@@ -21,8 +21,8 @@ use Rattle.formats.specs.declared.Reading.{Reading}
 use Rattle.formats.specs.declared.Reading.the-variants.{Good, Bad}
 use Rattle.formats.specs.Split.{linesOf}
 use Rattle.verdicts.specs.HistoryText.{readingsOf}
-use Rattle.verdicts.specs.LineTable.{readingAt, linesBefore, tooMany, endedIn, holds, order, firstOf, tableSays, Faultless, Due}
-use Rattle.verdicts.specs.AsWorded.{LineIs, OverBefore, Sound, RefusedAs}
+use Rattle.verdicts.specs.LineTable.{readingAt, linesBefore, endedIn, holds, order, firstOf, tableSays, Faultless, Due}
+use Rattle.verdicts.specs.AsWorded.{LineIs, Sound, RefusedAs}
 use Rattle.verdicts.specs.AsWorded.RefusedAs.{too-many, bad, outside, above, over}
 use Rattle.verdicts.proofs.FewJobs.{not-outside}
 use Rattle.verdicts.proofs.CleanLines.{Clean, clean-line, line-clean}

@@ -3,9 +3,8 @@
 use Prim.Native.Nat.{ℕ, suc, _≤_}
 use mathlib.Core.Path.{_≡_, ap, _∙_, subst}
 use mathlib.Core.Logic.{_↔_}
-use mathlib.Core.Bool.{Bool, true, false}
+use mathlib.Core.Bool.{true, false}
 use mathlib.Core.List.{List}
-use mathlib.Core.Option.{none}
 use native.Mathlib.Omega.{arith}
 use lib.ListN.{length, length-map}
 use borrow.Author.Tests.{ne-eqb, le-leb}
@@ -13,8 +12,7 @@ use Rattle.conflict.specs.Schedule.{ConflictSerializable}
 use Rattle.conflict.specs.History.{History, endsForGood, committedPart}
 use Rattle.conflict.specs.declared.action.Event.{Event}
 use Rattle.conflict.specs.declared.action.Event.the-variants.{Does, Ends}
-use Rattle.terms.specs.declared.refusals.Refusal.{Refusal}
-use Rattle.terms.specs.declared.refusals.Refusal.the-variants.{CellAbove, BadLine, TooManyLines, JobOutside, Ended}
+use Rattle.terms.specs.declared.refusals.Refusal.the-variants.{TooManyLines, JobOutside}
 use Rattle.terms.specs.Letters.{ofHistories}
 use Rattle.terms.specs.Limits.{lastNumber, judgedJobs, judgedLines, judgedBytes}
 use Rattle.formats.specs.Lines.{readLine}
@@ -22,7 +20,7 @@ use Rattle.formats.specs.declared.Reading.{Reading}
 use Rattle.verdicts.specs.declared.verdict.Verdict.the-variants.{Orderly}
 use Rattle.verdicts.specs.HistoryText.{readingsOf, eventsIn}
 use Rattle.verdicts.specs.Judgement.{judgementOf}
-use Rattle.verdicts.specs.LineTable.{outside, holds, order, firstOf, tableSays, holdsAt, AllFaultless}
+use Rattle.verdicts.specs.LineTable.{outside, holds, tableSays, holdsAt, AllFaultless}
 use Rattle.formats.specs.EventRecords.{eventLine, textOf, within, allWithin}
 use Rattle.verdicts.proofs.CleanLines.{no-row}
 use Rattle.verdicts.proofs.JudgedTexts.{orderly-said-exactly}

@@ -1,9 +1,9 @@
 -- What the judge finds of jobs and their edges, and of a history; the verdict that it says of this is in Judgement.antt (01, The judge's rules).
 use Prim.Native.Nat.{ℕ}
-use mathlib.Core.Bool.{Bool, true, false, cond}
+use mathlib.Core.Bool.{Bool, true, false}
 use mathlib.Core.List.{List, [], _∷_}
-use lib.Dec.{ltb}
-use Rattle.laws.specs.Lists.{same}
+use lib.Dec.{ltb, eqb}
+use Rattle.laws.specs.Choice.{pick}
 use Rattle.conflict.specs.Schedule.{edge}
 use Rattle.conflict.specs.History.{History, committedPart, commitOrder}
 use Rattle.verdicts.specs.Order.{Edges, orderOf, stuck}
@@ -31,7 +31,7 @@ judged e jobs = findingBy e (orderOf e jobs) (stuck e jobs)
 -- one more job in its place among others in ascending order, where it is not there already
 unfoldable pub insert : ℕ → List ℕ → List ℕ
 insert j [] = j ∷ []
-insert j (k ∷ ks) = cond (ltb j k) (j ∷ k ∷ ks) (cond (same j k) (k ∷ ks) (k ∷ insert j ks))
+insert j (k ∷ ks) = pick (ltb j k) (j ∷ k ∷ ks) (pick (eqb j k) (k ∷ ks) (k ∷ insert j ks))
 
 -- the jobs in ascending order, each once
 unfoldable pub sorted : List ℕ → List ℕ

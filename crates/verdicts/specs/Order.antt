@@ -1,11 +1,11 @@
 -- The judge's order: of the jobs that are left, the smallest without a predecessor among them is taken away, again and again (01, The judge's rules: Orderly, Knot).
 use Prim.Native.Nat.{ℕ, zero, suc}
-use mathlib.Core.Bool.{Bool, true, false, not, _&&_, _||_, cond}
+use mathlib.Core.Bool.{Bool, true, false, not, _&&_, _||_}
 use mathlib.Core.List.{List, [], _∷_}
 use mathlib.Core.Option.{Option, none, some}
 use lib.ListN.{length}
-use lib.Dec.{ltb}
-use Rattle.laws.specs.Lists.{same}
+use lib.Dec.{ltb, eqb}
+use Rattle.laws.specs.Choice.{pick}
 
 -- a test of which job has an edge to which
 abbrev pub Edges : Type 0
@@ -29,7 +29,7 @@ preceded e (i ∷ left) j = e i j || preceded e left j
 -- the first job that passes the test, if one does: the smallest such where the jobs ascend
 unfoldable pub first : (ℕ → Bool) → List ℕ → Option ℕ
 first f [] = none
-first f (j ∷ js) = cond (f j) (some j) (first f js)
+first f (j ∷ js) = pick (f j) (some j) (first f js)
 
 -- the smallest number of those left whose predecessors all stand already, so that none of them is left (01, The judge's rules: Orderly)
 unfoldable pub ready : Edges → List ℕ → Option ℕ
@@ -38,7 +38,7 @@ ready e left = first (λ j. not (preceded e left j)) left
 -- the jobs but for this one
 unfoldable pub without : ℕ → List ℕ → List ℕ
 without j [] = []
-without j (k ∷ ks) = cond (same k j) (without j ks) (k ∷ without j ks)
+without j (k ∷ ks) = pick (eqb k j) (without j ks) (k ∷ without j ks)
 
 -- what is done with a job where there is one
 abbrev pub found : {A : Type 0} → Option ℕ → A → (ℕ → A) → A

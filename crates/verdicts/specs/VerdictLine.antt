@@ -15,7 +15,7 @@ use Rattle.formats.specs.Records.{wordLine}
 use Rattle.formats.specs.Split.{noNewline}
 use Rattle.verdicts.specs.declared.verdict.Verdict.{Verdict}
 use Rattle.verdicts.specs.declared.verdict.Verdict.the-variants.{Orderly as is-orderly, Knot as is-knot, No as is-refused}
-use Rattle.verdicts.specs.Judgement.{Judgement, judgementOf}
+use Rattle.verdicts.specs.Judgement.{judgementOf}
 
 -- the verdict as a line: the word and the jobs; or no, line number, refusal (01, The judge's rules)
 unfoldable pub sayLine : Verdict → List ℕ → List ℕ

@@ -1,7 +1,7 @@
 -- `judge_run::take_all` is safe and ends. The loop's invariant: the case's bytes lie within its buffer, its places are at most 300, and both buffers keep their lengths.
 -- The measure is the number of turns that are left. Assumes nothing.
 use Prim.Native.Nat.{_≤_}
-use mathlib.Core.Path.{_≡_, refl, ap}
+use mathlib.Core.Path.{_≡_, ap}
 use mathlib.Core.Logic.{⊎-elim}
 use native.Mathlib.Omega.{arith}
 use borrow.Author.Needs.{needs}

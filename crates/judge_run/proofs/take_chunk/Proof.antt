@@ -2,7 +2,6 @@
 -- The measure is what is left of the chunk. Assumes nothing.
 use Prim.Native.Nat.{_-_, _≤_}
 use mathlib.Core.Path.{_≡_}
-use native.Mathlib.Omega.{arith}
 use borrow.Author.Needs.{needs}
 use lib.ListN.{length}
 use Rattle.judge_run.proofs.take_chunk.Statement.{statement}

@@ -4,7 +4,6 @@ use borrow.Author.Needs.{needs}
 use Rattle.rules.specs.AnswerWords.{numberBeside}
 use Rattle.clerk.proofs.records.number_beside.Statement.{statement}
 use Rattle.clerk.proofs.records.number_beside.Tie as tie
-use Rattle.terms.proofs.refusals.number_of.Reads as number-of-reads
 
 enum-known-a : tie.Need-enum-known-a
 enum-known-a c = search needs

@@ -1,6 +1,6 @@
 -- `clerk::work::work` meets its contract. The loop's invariant: what is left to do decides as the whole does, and there was room so far.
 -- The measure is what is left of the chunk. Assumes nothing.
-use Prim.Native.Nat.{_-_, _+_, _<_, _≤_}
+use Prim.Native.Nat.{_-_, _+_}
 use mathlib.Core.Path.{_≡_, refl}
 use mathlib.Core.Bool.{true, false}
 use native.Mathlib.Omega.{arith}
@@ -9,7 +9,7 @@ use lib.Dec.{leb}
 use lib.ListN.{length}
 use Rattle.laws.specs.Choice.{was-true, was-false}
 use Rattle.board.specs.Steps.{deskOf}
-use Rattle.runs.specs.Work.{lineRoom, roomy, due}
+use Rattle.runs.specs.Work.{lineRoom, roomy}
 use Rattle.clerk.proofs.Going.{Left, left-all, left-none, left-full, cut-moves, left-passes, left-answers}
 use Rattle.clerk.proofs.work.work.Statement.{statement}
 use Rattle.clerk.proofs.work.work.Tie as tie

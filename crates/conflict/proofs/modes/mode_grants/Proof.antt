@@ -4,7 +4,6 @@ use borrow.Author.Needs.{needs}
 use Rattle.conflict.specs.Modes.{grants}
 use Rattle.conflict.proofs.modes.mode_grants.Statement.{statement}
 use Rattle.conflict.proofs.modes.mode_grants.Tie as tie
-use Rattle.conflict.proofs.modes.modes_beside.Reads as modes-beside-reads
 
 modes-beside-requires : tie.Need-modes-beside-requires
 modes-beside-requires c κs = search needs

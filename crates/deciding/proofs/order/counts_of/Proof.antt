@@ -3,7 +3,6 @@
 use Prim.Native.Nat.{_-_, _≤_}
 use mathlib.Core.Logic.{⊎-elim}
 use native.Mathlib.Omega.{arith}
-use borrow.Author.Needs.{needs}
 use Rattle.deciding.specs.Preceding.{Preceding}
 use Rattle.deciding.proofs.Tallying.{preceding-none, preceding-small, preceding-skip, preceding-more, preceding-all}
 use Rattle.deciding.proofs.order.counts_of.Statement.{statement}

@@ -2,7 +2,6 @@
 -- Assumes nothing.
 use Prim.Native.Nat.{_+_, _-_, _≤_}
 use native.Mathlib.Omega.{arith}
-use borrow.Author.Needs.{needs}
 use lib.ListN.{length, take}
 use Rattle.formats.specs.Wrote.{Wrote}
 use Rattle.formats.proofs.WroteLaws.{wrote-as, wrote-then, wrote-length}
