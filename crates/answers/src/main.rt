@@ -1,6 +1,6 @@
 // The program `answers`: the desk's answers to the requests on standard input (01, What is delivered).
-use runs::View;
+use program_rules::View;
 
 fn main() {
-    front::serve(View::Answers);
+    desk_io::serve(View::Answers);
 }

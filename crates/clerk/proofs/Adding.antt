@@ -9,13 +9,13 @@ use Rattle.terms.specs.declared.letters.Letter.{Letter}
 use Rattle.terms.specs.declared.refusals.Refusal.{Refusal}
 use Rattle.terms.specs.Letters.{hasJob, hasCell}
 use Rattle.terms.specs.Limits.{lastNumber}
-use Rattle.formats.specs.declared.Written.{Written}
-use Rattle.formats.specs.declared.Written.the-variants.{Next, Refused}
-use Rattle.formats.specs.Records.{longestRecord, lineRecord, told, left}
-use Rattle.formats.proofs.Length.{line-length}
-use Rattle.formats.proofs.FieldLaws.{field-at-most}
-use Rattle.formats.proofs.WriterLaws.{next-wrote, not-refused}
-use Rattle.formats.proofs.WroteLaws.{wrote-none, wrote-length}
+use Rattle.text_rules.specs.declared.Written.{Written}
+use Rattle.text_rules.specs.declared.Written.the-variants.{Next, Refused}
+use Rattle.text_rules.specs.Records.{longestRecord, lineRecord, told, left}
+use Rattle.text_rules.proofs.Length.{line-length}
+use Rattle.text_rules.proofs.FieldLaws.{field-at-most}
+use Rattle.text_rules.proofs.WriterLaws.{next-wrote, not-refused}
+use Rattle.text_rules.proofs.WroteLaws.{wrote-none, wrote-length}
 use Rattle.clerk.specs.Parts.{Added}
 
 -- no line of a letter with numbers of 32 bits is longer than 24 bytes

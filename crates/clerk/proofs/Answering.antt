@@ -10,20 +10,20 @@ use Rattle.terms.specs.declared.letters.Letter.{Letter}
 use Rattle.terms.specs.Letters.{byteOf, ofRequests}
 use Rattle.terms.specs.Limits.{places}
 use Rattle.conflict.specs.declared.action.Action.{Action}
-use Rattle.formats.specs.declared.Reading.{Reading}
-use Rattle.formats.specs.declared.Reading.the-variants.{Good, Bad}
-use Rattle.formats.specs.declared.splitter.Splitter.{Splitter}
-use Rattle.formats.specs.Lines.{readLine}
-use Rattle.formats.specs.Split.{foundAt}
-use Rattle.formats.specs.Wrote.{Wrote}
-use Rattle.formats.proofs.WroteLaws.{wrote-as}
-use Rattle.board.specs.declared.state.Desk.{Desk}
-use Rattle.board.specs.declared.state.Told.{Told}
-use Rattle.board.specs.Steps.{noAction, wakeAt, listed, saying, carried, moveOf, performed, stepOf}
+use Rattle.text_rules.specs.declared.Reading.{Reading}
+use Rattle.text_rules.specs.declared.Reading.the-variants.{Good, Bad}
+use Rattle.text_rules.specs.declared.splitter.Splitter.{Splitter}
+use Rattle.text_rules.specs.Lines.{readLine}
+use Rattle.text_rules.specs.Split.{foundAt}
+use Rattle.text_rules.specs.Wrote.{Wrote}
+use Rattle.text_rules.proofs.WroteLaws.{wrote-as}
+use Rattle.desk_arrays.specs.declared.state.Desk.{Desk}
+use Rattle.desk_arrays.specs.declared.state.Told.{Told}
+use Rattle.desk_arrays.specs.Steps.{noAction, wakeAt, listed, saying, carried, moveOf, performed, stepOf}
 use Rattle.desk.specs.InPlace.{laid, wokenBy, StepsTo}
-use Rattle.runs.specs.declared.View.{View}
-use Rattle.runs.specs.Work.{viewed, unended, due, turning}
-use Rattle.runs.proofs.Turns.{turn-bad, turn-good}
+use Rattle.program_rules.specs.declared.View.{View}
+use Rattle.program_rules.specs.Work.{viewed, unended, due, turning}
+use Rattle.program_rules.proofs.Turns.{turn-bad, turn-good}
 use Rattle.clerk.specs.Parts.{lineRecords}
 use Rattle.clerk.proofs.Telling.{records-told}
 

@@ -11,15 +11,15 @@ use Rattle.terms.specs.declared.words.Word.the-variants.{Wake, No}
 use Rattle.terms.specs.declared.refusals.Refusal.the-variants.{BadLine}
 use Rattle.terms.specs.Refusals.{numberOf}
 use Rattle.conflict.specs.declared.action.Action.{Action}
-use Rattle.formats.specs.Records.{answerRecord, lineRecord}
-use Rattle.rules.specs.declared.Answer.{Answer}
-use Rattle.runs.specs.declared.View.{View}
-use Rattle.runs.specs.declared.View.the-variants.{Answers, History}
-use Rattle.rules.specs.Step.{recordsOf, ownRecords, wakeRecords}
-use Rattle.formats.specs.EventRecords.{askBy, eventLine, textOf}
-use Rattle.rules.specs.AnswerWords.{wordOf, numberBeside}
-use Rattle.runs.specs.Run.{answerLines, historyLines, wakeLines}
-use Rattle.runs.specs.Work.{viewed, unended}
+use Rattle.text_rules.specs.Records.{answerRecord, lineRecord}
+use Rattle.desk_rules.specs.declared.Answer.{Answer}
+use Rattle.program_rules.specs.declared.View.{View}
+use Rattle.program_rules.specs.declared.View.the-variants.{Answers, History}
+use Rattle.desk_rules.specs.Step.{recordsOf, ownRecords, wakeRecords}
+use Rattle.text_rules.specs.EventRecords.{askBy, eventLine, textOf}
+use Rattle.desk_rules.specs.AnswerWords.{wordOf, numberBeside}
+use Rattle.program_rules.specs.OverLines.{answerLines, historyLines, wakeLines}
+use Rattle.program_rules.specs.Work.{viewed, unended}
 use Rattle.clerk.specs.declared.records.Noted.{Noted}
 use Rattle.clerk.specs.declared.records.Noted.the-variants.{Nothing, Line}
 use Rattle.clerk.specs.Parts.{asking, notedBytes, firstRecord, wakeRecord}

@@ -6,14 +6,14 @@ use mathlib.Core.Bool.{true, false}
 use mathlib.Core.List.{List}
 use native.Mathlib.Omega.{arith}
 use lib.ListN.{length}
-use Rattle.formats.specs.declared.splitter.Cut.{Cut}
-use Rattle.formats.specs.Split.{cutOf}
-use Rattle.formats.proofs.Cuts.{cut-ahead}
-use Rattle.runs.specs.declared.Clerk.{Clerk}
-use Rattle.runs.specs.declared.View.{View}
-use Rattle.runs.specs.declared.Worked.{Worked}
-use Rattle.runs.specs.Work.{roomy, due, Turn, turning, cutting, stopped, workBy, workOf}
-use Rattle.runs.proofs.Turns.{work-done, work-full, Rest, work-on, turn-passes}
+use Rattle.text_rules.specs.declared.splitter.Cut.{Cut}
+use Rattle.text_rules.specs.Split.{cutOf}
+use Rattle.text_rules.proofs.Cuts.{cut-ahead}
+use Rattle.program_rules.specs.declared.Clerk.{Clerk}
+use Rattle.program_rules.specs.declared.View.{View}
+use Rattle.program_rules.specs.declared.Worked.{Worked}
+use Rattle.program_rules.specs.Work.{roomy, due, Turn, turning, cutting, stopped, workBy, workOf}
+use Rattle.program_rules.proofs.Turns.{work-done, work-full, Rest, work-on, turn-passes}
 
 -- where the work has come to, and what the buffer then holds, for a call with these arguments
 abbrev pub Works : View → Clerk → List ℕ → ℕ → List ℕ → ℕ → Worked → List ℕ → Type 0

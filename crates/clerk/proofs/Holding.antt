@@ -6,10 +6,10 @@ use native.Mathlib.Omega.{arith}
 use lib.ListN.{length, take, drop}
 use lib.Seq.{take-all}
 use Rattle.terms.specs.Letters.{ofRequests}
-use Rattle.formats.specs.declared.Reading.{Reading}
-use Rattle.formats.specs.declared.splitter.Splitter.{Splitter}
-use Rattle.formats.specs.Lines.{readLine}
-use Rattle.formats.specs.Split.{foundAt}
+use Rattle.text_rules.specs.declared.Reading.{Reading}
+use Rattle.text_rules.specs.declared.splitter.Splitter.{Splitter}
+use Rattle.text_rules.specs.Lines.{readLine}
+use Rattle.text_rules.specs.Split.{foundAt}
 
 -- the first bytes, as many as there are
 pub reads-part : (s : Splitter) (r : Reading) → r ≡ readLine ofRequests (take (s .len - 0) (drop 0 (s .kept))) → r ≡ readLine ofRequests (foundAt s .bytes)

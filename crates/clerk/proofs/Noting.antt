@@ -12,11 +12,11 @@ use Rattle.terms.specs.declared.refusals.Refusal.{Refusal}
 use Rattle.terms.proofs.Alphabet.{letter-of-byte}
 use Rattle.conflict.specs.Modes.{recorded}
 use Rattle.conflict.proofs.Clauses.{records-read, records-write, records-increment}
-use Rattle.formats.specs.Records.{lineRecord}
-use Rattle.formats.specs.EventRecords.{askBy, markLetter, eventLine, textOf}
-use Rattle.rules.specs.declared.Answer.{Answer}
-use Rattle.rules.specs.declared.Answer.the-variants.{Go, Wait, Back as goes-back, No}
-use Rattle.rules.specs.Step.{wentBy, ownRecords}
+use Rattle.text_rules.specs.Records.{lineRecord}
+use Rattle.text_rules.specs.EventRecords.{askBy, markLetter, eventLine, textOf}
+use Rattle.desk_rules.specs.declared.Answer.{Answer}
+use Rattle.desk_rules.specs.declared.Answer.the-variants.{Go, Wait, Back as goes-back, No}
+use Rattle.desk_rules.specs.Step.{wentBy, ownRecords}
 use Rattle.clerk.specs.declared.records.Noted.{Noted}
 use Rattle.clerk.specs.declared.records.Noted.the-variants.{Nothing, Line}
 use Rattle.clerk.specs.Parts.{asking, notedBytes}

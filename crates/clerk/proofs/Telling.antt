@@ -11,17 +11,17 @@ use Rattle.terms.specs.Letters.{byteOf, letterOf}
 use Rattle.conflict.specs.declared.action.Action.{Action}
 use Rattle.conflict.specs.declared.action.Event.the-variants.{Does}
 use Rattle.conflict.specs.Modes.{recorded}
-use Rattle.rules.specs.declared.Answer.{Answer}
-use Rattle.rules.specs.declared.Answer.the-variants.{Go, Wait, Back as goes-back, No}
-use Rattle.rules.specs.Desk.{Request}
-use Rattle.rules.specs.Step.{wentBy, ownRecords, recordsOf}
-use Rattle.rules.specs.Step as step
-use Rattle.formats.specs.EventRecords.{textOf}
-use Rattle.formats.proofs.RecordLines.{text-append}
-use Rattle.runs.specs.declared.View.{View}
-use Rattle.runs.specs.declared.View.the-variants.{Answers, History as TheHistory}
-use Rattle.runs.specs.Run.{wakeLines, answerLines, historyLines}
-use Rattle.runs.specs.Work.{viewed}
+use Rattle.desk_rules.specs.declared.Answer.{Answer}
+use Rattle.desk_rules.specs.declared.Answer.the-variants.{Go, Wait, Back as goes-back, No}
+use Rattle.desk_rules.specs.Desk.{Request}
+use Rattle.desk_rules.specs.Step.{wentBy, ownRecords, recordsOf}
+use Rattle.desk_rules.specs.Step as step
+use Rattle.text_rules.specs.EventRecords.{textOf}
+use Rattle.text_rules.proofs.RecordLines.{text-append}
+use Rattle.program_rules.specs.declared.View.{View}
+use Rattle.program_rules.specs.declared.View.the-variants.{Answers, History as TheHistory}
+use Rattle.program_rules.specs.OverLines.{wakeLines, answerLines, historyLines}
+use Rattle.program_rules.specs.Work.{viewed}
 use Rattle.clerk.specs.Parts.{asking, firstRecord, wakeRecord, wakeRecords, lineRecords}
 
 -- what the history records of a request that goes does not name the job that asked

@@ -9,11 +9,11 @@ use lib.ListN.{length, take, getD, length-append}
 use lib.Seq.{take-suc, take-all}
 use Rattle.terms.specs.declared.letters.Letter.{Letter}
 use Rattle.conflict.specs.declared.action.Action.{Action}
-use Rattle.formats.specs.Records.{longestRecord}
-use Rattle.formats.specs.Wrote.{Wrote}
-use Rattle.formats.proofs.WroteLaws.{wrote-then, wrote-as}
-use Rattle.rules.specs.declared.Answer.{Answer}
-use Rattle.runs.specs.declared.View.{View}
+use Rattle.text_rules.specs.Records.{longestRecord}
+use Rattle.text_rules.specs.Wrote.{Wrote}
+use Rattle.text_rules.proofs.WroteLaws.{wrote-then, wrote-as}
+use Rattle.desk_rules.specs.declared.Answer.{Answer}
+use Rattle.program_rules.specs.declared.View.{View}
 use Rattle.clerk.specs.Parts.{Added, firstRecord, wakeRecord, wakeRecords, lineRecords}
 use Rattle.clerk.proofs.Adding.{added-none, added-as}
 

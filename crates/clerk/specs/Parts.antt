@@ -7,15 +7,15 @@ use Rattle.terms.specs.declared.words.Word.the-variants.{Wake}
 use Rattle.terms.specs.Letters.{byteOf}
 use Rattle.conflict.specs.declared.action.Action.{Action}
 use Rattle.conflict.specs.declared.action.Event.the-variants.{Does}
-use Rattle.formats.specs.EventRecords.{eventLine, textOf}
-use Rattle.formats.specs.Records.{answerRecord, lineRecord}
-use Rattle.formats.specs.Wrote.{Wrote}
-use Rattle.rules.specs.declared.Answer.{Answer}
-use Rattle.runs.specs.declared.View.{View}
-use Rattle.runs.specs.declared.View.the-variants.{Answers, History}
-use Rattle.rules.specs.AnswerWords.{wordOf, numberBeside}
-use Rattle.rules.specs.Desk.{Request}
-use Rattle.rules.specs.Step.{ownRecords}
+use Rattle.text_rules.specs.EventRecords.{eventLine, textOf}
+use Rattle.text_rules.specs.Records.{answerRecord, lineRecord}
+use Rattle.text_rules.specs.Wrote.{Wrote}
+use Rattle.desk_rules.specs.declared.Answer.{Answer}
+use Rattle.program_rules.specs.declared.View.{View}
+use Rattle.program_rules.specs.declared.View.the-variants.{Answers, History}
+use Rattle.desk_rules.specs.AnswerWords.{wordOf, numberBeside}
+use Rattle.desk_rules.specs.Desk.{Request}
+use Rattle.desk_rules.specs.Step.{ownRecords}
 use Rattle.clerk.specs.declared.records.Noted.{Noted}
 use Rattle.clerk.specs.declared.records.Noted.the-variants.{Nothing, Line}
 

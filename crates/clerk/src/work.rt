@@ -1,30 +1,30 @@
 // Line after line of a chunk: cut, read, step the desk, write the records (01, Lines).
 use crate::records::put_bad;
 use crate::records::put_records;
-use board::state::Desk;
-use board::state::SPOTS;
 use desk::step::step_on;
-use formats::Reading;
-use formats::splitter::KEPT;
-use formats::splitter::Splitter;
-use runs::Clerk;
-use runs::Finished;
-use runs::View;
-use runs::Worked;
+use desk_arrays::state::Desk;
+use desk_arrays::state::SPOTS;
+use program_rules::Clerk;
+use program_rules::Finished;
+use program_rules::View;
+use program_rules::Worked;
 use terms::letters::byte_of;
 use terms::limits::PLACES;
 use terms::limits::REQUEST_LINES;
 use text::reader::read_request;
+use text_rules::Reading;
+use text_rules::splitter::KEPT;
+use text_rules::splitter::Splitter;
 ghost use mathlib.Core.Path.{_≡_};
 ghost use mathlib.Core.Bool.{true};
 ghost use Prim.Native.Nat.{_+_, _≤_};
 ghost use lib.Dec.{leb};
 ghost use lib.ListN.{length};
 ghost use Rattle.terms.specs.Letters.{ofRequests};
-ghost use Rattle.formats.specs.Lines.{readLine};
-ghost use Rattle.formats.specs.Split.{foundAt};
-ghost use Rattle.board.specs.Steps.{deskOf};
-ghost use Rattle.runs.specs.Work.{lineRoom, due, turning, owing, workOf, finishOf};
+ghost use Rattle.text_rules.specs.Lines.{readLine};
+ghost use Rattle.text_rules.specs.Split.{foundAt};
+ghost use Rattle.desk_arrays.specs.Steps.{deskOf};
+ghost use Rattle.program_rules.specs.Work.{lineRoom, due, turning, owing, workOf, finishOf};
 
 // The longest record has so many bytes.
 const LONGEST_RECORD: usize = 24;

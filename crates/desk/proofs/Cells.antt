@@ -11,15 +11,15 @@ use Rattle.laws.specs.Choice.{by-test, not-both}
 use Rattle.terms.specs.Limits.{places, cells}
 use Rattle.conflict.specs.declared.modes.Mode.{Mode}
 use Rattle.conflict.specs.Modes.{codeOf}
-use Rattle.board.specs.Codes.{runningCode, askOf}
-use Rattle.board.specs.Places.{spot, waitsAt, waiters}
-use Rattle.board.specs.Settling.{Settling, granted, settleCell, settleAll}
-use Rattle.board.proofs.Front.{no-youngest}
-use Rattle.board.proofs.EveryGrant.{waits-code}
-use Rattle.moves.specs.declared.grants.Grant.{Grant}
-use Rattle.moves.specs.declared.grants.Grant.the-variants.{Nobody, To}
-use Rattle.moves.specs.Grants.{wanted, frontGrant}
-use Rattle.moves.proofs.Wanted.{unwanted}
+use Rattle.desk_arrays.specs.Codes.{runningCode, askOf}
+use Rattle.desk_arrays.specs.Places.{spot, waitsAt, waiters}
+use Rattle.desk_arrays.specs.Settling.{Settling, granted, settleCell, settleAll}
+use Rattle.desk_arrays.proofs.Front.{no-youngest}
+use Rattle.desk_arrays.proofs.EveryGrant.{waits-code}
+use Rattle.desk_plan.specs.declared.grants.Grant.{Grant}
+use Rattle.desk_plan.specs.declared.grants.Grant.the-variants.{Nobody, To}
+use Rattle.desk_plan.specs.Grants.{wanted, frontGrant}
+use Rattle.desk_plan.proofs.Wanted.{unwanted}
 use Rattle.desk.specs.InPlace.{laid, Reached}
 use Rattle.desk.proofs.Laid.{laid-take, laid-length, laid-more, laid-again}
 use Rattle.desk.proofs.Grants.{Picked, front, fronts, mayGrant, grant-grants, stands-empty, none-granted, who-granted, granted-place, settle-more, settle-stop}

@@ -13,12 +13,12 @@ use Rattle.laws.specs.Choice.{pick, by-test}
 use Rattle.laws.proofs.Parts.{and-first}
 use Rattle.terms.specs.Limits.{places, cells}
 use Rattle.conflict.specs.declared.modes.Mode.{Mode}
-use Rattle.board.specs.Codes.{askOf}
-use Rattle.board.specs.Places.{youngest, agreesAt, wantsAt}
-use Rattle.board.specs.Settling.{Settling, granted, grantFront, settleCell}
-use Rattle.moves.specs.declared.grants.Grant.{Grant}
-use Rattle.moves.specs.declared.grants.Grant.the-variants.{Nobody, To}
-use Rattle.moves.specs.Grants.{frontGrant}
+use Rattle.desk_arrays.specs.Codes.{askOf}
+use Rattle.desk_arrays.specs.Places.{youngest, agreesAt, wantsAt}
+use Rattle.desk_arrays.specs.Settling.{Settling, granted, grantFront, settleCell}
+use Rattle.desk_plan.specs.declared.grants.Grant.{Grant}
+use Rattle.desk_plan.specs.declared.grants.Grant.the-variants.{Nobody, To}
+use Rattle.desk_plan.specs.Grants.{frontGrant}
 
 -- a choice that came out as somebody: the test holds, and the parts are those given
 pub record Picked (b : Bool) (p : ℕ) (m : Mode) (q : ℕ) (k : Mode) : Type 0 where

@@ -12,17 +12,17 @@ use Rattle.terms.specs.Letters.{letterOf}
 use Rattle.terms.specs.Limits.{places, cells}
 use Rattle.conflict.specs.declared.modes.Mode.{Mode}
 use Rattle.conflict.specs.Modes.{codeOf}
-use Rattle.rules.specs.declared.Answer.{Answer}
-use Rattle.board.specs.declared.state.Desk.{Desk}
-use Rattle.board.specs.declared.moves.Ending.{Ending}
-use Rattle.board.specs.declared.moves.Move.{Move}
-use Rattle.board.specs.declared.moves.Move.the-variants.{Refuse, Begin, Keep, Take, Stay, End, Retry}
-use Rattle.board.specs.Codes.{runningCode, waitingCode, sentBackCode, askCode}
-use Rattle.board.specs.Places.{spot}
-use Rattle.board.specs.Moves.{statusOf, moveFor}
-use Rattle.board.specs.Steps.{deskOf, withStatus, withHeld, begun, holding, waitingFor, retried, retriedJob, codeAfter, numbersAfter, settled, ended, carried, answerTo, saying, performed, moveOf, stepOf}
-use Rattle.moves.specs.Fits.{Fits}
-use Rattle.moves.proofs.Fitting.{plan-fits}
+use Rattle.desk_rules.specs.declared.Answer.{Answer}
+use Rattle.desk_arrays.specs.declared.state.Desk.{Desk}
+use Rattle.desk_arrays.specs.declared.moves.Ending.{Ending}
+use Rattle.desk_arrays.specs.declared.moves.Move.{Move}
+use Rattle.desk_arrays.specs.declared.moves.Move.the-variants.{Refuse, Begin, Keep, Take, Stay, End, Retry}
+use Rattle.desk_arrays.specs.Codes.{runningCode, waitingCode, sentBackCode, askCode}
+use Rattle.desk_arrays.specs.Places.{spot}
+use Rattle.desk_arrays.specs.Moves.{statusOf, moveFor}
+use Rattle.desk_arrays.specs.Steps.{deskOf, withStatus, withHeld, begun, holding, waitingFor, retried, retriedJob, codeAfter, numbersAfter, settled, ended, carried, answerTo, saying, performed, moveOf, stepOf}
+use Rattle.desk_plan.specs.Fits.{Fits}
+use Rattle.desk_plan.proofs.Fitting.{plan-fits}
 use Rattle.desk.specs.InPlace.{laid, Reached, wokenBy, StepsTo}
 
 -- a retry changes nothing but what the places are doing

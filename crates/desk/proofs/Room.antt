@@ -10,12 +10,12 @@ use lib.Seq.{getD-set-other}
 use borrow.Author.Tests.{eqb-true, eqb-false, ltb-true, ltb-false}
 use Rattle.laws.specs.Choice.{by-test}
 use Rattle.terms.specs.Limits.{places}
-use Rattle.board.specs.Codes.{runningCode, waitingCode}
-use Rattle.board.specs.Places.{waiters}
-use Rattle.board.specs.Settling.{Settling, granted, settleCell, settleAll}
-use Rattle.board.proofs.WaitingCount.{waiters-woken}
-use Rattle.board.proofs.Front.{front-waits}
-use Rattle.board.proofs.EveryGrant.{waits-code, Kept, cell-keeps, all-keep}
+use Rattle.desk_arrays.specs.Codes.{runningCode, waitingCode}
+use Rattle.desk_arrays.specs.Places.{waiters}
+use Rattle.desk_arrays.specs.Settling.{Settling, granted, settleCell, settleAll}
+use Rattle.desk_arrays.proofs.WaitingCount.{waiters-woken}
+use Rattle.desk_arrays.proofs.Front.{front-waits}
+use Rattle.desk_arrays.proofs.EveryGrant.{waits-code, Kept, cell-keeps, all-keep}
 use Rattle.desk.proofs.Grants.{front}
 
 -- a place that waits is one of the list

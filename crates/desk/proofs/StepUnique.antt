@@ -5,9 +5,9 @@ use mathlib.Core.List.{List}
 use Prim.Native.Nat.{ℕ}
 use denote.Ref.{now}
 use Rattle.laws.specs.Unique.{Unique, UniqueLent}
-use Rattle.board.specs.declared.state.Desk.{Desk}
-use Rattle.board.specs.declared.state.Told.{Told}
-use Rattle.board.specs.Steps.{deskOf}
+use Rattle.desk_arrays.specs.declared.state.Desk.{Desk}
+use Rattle.desk_arrays.specs.declared.state.Told.{Told}
+use Rattle.desk_arrays.specs.Steps.{deskOf}
 use Rattle.desk.specs.InPlace.{StepsTo}
 use Rattle.desk.proofs.step.step.Reads as step
 use Rattle.desk.proofs.step.step.Kinds as stepK

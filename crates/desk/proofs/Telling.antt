@@ -11,11 +11,11 @@ use Rattle.terms.specs.Limits.{places}
 use Rattle.conflict.specs.declared.action.Action.{Action}
 use Rattle.conflict.specs.declared.action.Kind.{Kind}
 use Rattle.conflict.specs.Modes.{recorded}
-use Rattle.board.specs.declared.state.Desk.{Desk}
-use Rattle.board.specs.declared.state.Outcome.{Outcome}
-use Rattle.board.specs.declared.state.Told.{Told}
-use Rattle.board.specs.Codes.{askOf}
-use Rattle.board.specs.Steps.{noAction, wakeAt, listed, saying, performed, stepOf}
+use Rattle.desk_arrays.specs.declared.state.Desk.{Desk}
+use Rattle.desk_arrays.specs.declared.state.Outcome.{Outcome}
+use Rattle.desk_arrays.specs.declared.state.Told.{Told}
+use Rattle.desk_arrays.specs.Codes.{askOf}
+use Rattle.desk_arrays.specs.Steps.{noAction, wakeAt, listed, saying, performed, stepOf}
 use Rattle.desk.specs.InPlace.{wokenBy, StepsTo}
 use Rattle.desk.proofs.Laid.{laid-take}
 

@@ -3,10 +3,10 @@ use Prim.Native.Nat.{ℕ}
 use mathlib.Core.Path.{_≡_}
 use mathlib.Core.List.{List, _++_}
 use lib.ListN.{length, drop}
-use Rattle.board.specs.declared.state.Desk.{Desk}
-use Rattle.board.specs.declared.state.Told.{Told}
-use Rattle.board.specs.Settling.{Settling}
-use Rattle.board.specs.Steps.{carried, moveOf, stepOf}
+use Rattle.desk_arrays.specs.declared.state.Desk.{Desk}
+use Rattle.desk_arrays.specs.declared.state.Told.{Told}
+use Rattle.desk_arrays.specs.Settling.{Settling}
+use Rattle.desk_arrays.specs.Steps.{carried, moveOf, stepOf}
 
 -- a list with others in its first places; the rest stays as it was
 unfoldable pub laid : List ℕ → List ℕ → List ℕ

@@ -1,21 +1,21 @@
 // Rule 4 over the arrays: a job's locks are dropped, and waiters are granted from the front of each queue (01, rule 4).
-use board::codes::FREE;
-use board::codes::RUNNING;
-use board::codes::SENT_BACK;
-use board::moves::Ending;
-use board::state::SPOTS;
 use conflict::modes::code_of;
-use moves::grants::Grant;
-use moves::grants::front_grant;
-use moves::grants::wanted_cells;
+use desk_arrays::codes::FREE;
+use desk_arrays::codes::RUNNING;
+use desk_arrays::codes::SENT_BACK;
+use desk_arrays::moves::Ending;
+use desk_arrays::state::SPOTS;
+use desk_plan::grants::Grant;
+use desk_plan::grants::front_grant;
+use desk_plan::grants::wanted_cells;
 use terms::limits::PLACES;
 ghost use Prim.Native.Nat.{_+_, _≤_, _<_};
 ghost use mathlib.Core.Path.{_≡_};
 ghost use mathlib.Core.List.{[]};
 ghost use lib.ListN.{length, take};
-ghost use Rattle.board.specs.Places.{waiters};
-ghost use Rattle.board.specs.Settling.{droppedBy, settleCell, settleAll};
-ghost use Rattle.board.specs.Steps.{deskOf, codeAfter, settled};
+ghost use Rattle.desk_arrays.specs.Places.{waiters};
+ghost use Rattle.desk_arrays.specs.Settling.{droppedBy, settleCell, settleAll};
+ghost use Rattle.desk_arrays.specs.Steps.{deskOf, codeAfter, settled};
 ghost use Rattle.desk.specs.InPlace.{Reached};
 
 // A place drops all its locks.

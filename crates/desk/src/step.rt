@@ -1,24 +1,24 @@
 // One step of the desk: what the plan says is carried out on the desk where it stands (01, The desk's rules).
 use crate::settling::end_run;
 use crate::wakes::tell;
-use board::codes::RUNNING;
-use board::codes::WAITING;
-use board::codes::ask_code;
-use board::moves::Ending;
-use board::moves::Move;
-use board::state::Desk;
-use board::state::Outcome;
-use board::state::SPOTS;
-use board::state::Said;
-use board::state::Told;
 use conflict::modes::code_of;
-use moves::plan::plan;
-use rules::Answer;
+use desk_arrays::codes::RUNNING;
+use desk_arrays::codes::WAITING;
+use desk_arrays::codes::ask_code;
+use desk_arrays::moves::Ending;
+use desk_arrays::moves::Move;
+use desk_arrays::state::Desk;
+use desk_arrays::state::Outcome;
+use desk_arrays::state::SPOTS;
+use desk_arrays::state::Said;
+use desk_arrays::state::Told;
+use desk_plan::plan::plan;
+use desk_rules::Answer;
 use terms::limits::PLACES;
 ghost use Prim.Native.Nat.{_<_};
 ghost use mathlib.Core.Path.{_≡_};
 ghost use lib.ListN.{length};
-ghost use Rattle.board.specs.Steps.{deskOf, retriedJob, numbersAfter, answerAfter, answerTo, stepOf};
+ghost use Rattle.desk_arrays.specs.Steps.{deskOf, retriedJob, numbersAfter, answerAfter, answerTo, stepOf};
 ghost use Rattle.desk.specs.InPlace.{StepsTo};
 
 // The answer that tells how a run has ended.

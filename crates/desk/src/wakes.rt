@@ -1,13 +1,13 @@
 // The wakes of a step as actions, read off the arrays: a woken place keeps its number, and what it waited for (01, rule 4).
-use board::codes::ask_of;
 use conflict::action::Action;
 use conflict::action::Kind;
 use conflict::modes::recorded_kind;
+use desk_arrays::codes::ask_of;
 use terms::limits::PLACES;
 ghost use mathlib.Core.Path.{_≡_};
 ghost use mathlib.Core.List.{map};
 ghost use lib.ListN.{length, take};
-ghost use Rattle.board.specs.Steps.{wakeAt, listed};
+ghost use Rattle.desk_arrays.specs.Steps.{wakeAt, listed};
 
 // Numbers, cells and what was asked, of as many places as there are: what a lent array does not say of itself.
 fn sized(number: [u32; PLACES], cell: [u8; PLACES], ask: [u8; PLACES]) -> bool

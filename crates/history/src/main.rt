@@ -1,6 +1,6 @@
 // The program `history`: the desk's history for the requests on standard input (01, What is delivered).
-use runs::View;
+use program_rules::View;
 
 fn main() {
-    front::serve(View::History);
+    desk_io::serve(View::History);
 }

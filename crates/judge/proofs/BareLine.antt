@@ -10,9 +10,9 @@ use lib.ListN.{length, getD, take, drop, length-drop}
 use lib.Seq.{getD-drop}
 use Rattle.laws.specs.Choice.{by-test}
 use Rattle.terms.specs.Words.{newline}
-use Rattle.formats.specs.Split.{used, part}
-use Rattle.formats.proofs.Cutting.{used-within, used-some}
-use Rattle.verdicts.specs.HistoryText.{bare}
+use Rattle.text_rules.specs.Split.{used, part}
+use Rattle.text_rules.proofs.Cutting.{used-within, used-some}
+use Rattle.judge_rules.specs.HistoryText.{bare}
 use Rattle.judge.specs.Scanned.{bareEnd}
 
 -- with a byte in front the place is one further

@@ -9,10 +9,10 @@ use lib.ListN.{length, length-append}
 use Rattle.terms.specs.declared.letters.Letter.the-variants.{Begin, Commit, GiveUp, Retry, Back, Asks}
 use Rattle.terms.specs.declared.refusals.Refusal.{Refusal}
 use Rattle.terms.specs.Limits.{judgedLines}
-use Rattle.formats.specs.declared.Reading.{Reading}
-use Rattle.formats.specs.declared.Reading.the-variants.{Good, Bad}
-use Rattle.verdicts.proofs.LineFaults.{few-lines}
-use Rattle.verdicts.specs.HistoryText.{Faulty, lineFault, orLater, endedAfter, firstFaulty, eventOf, eventsIn}
+use Rattle.text_rules.specs.declared.Reading.{Reading}
+use Rattle.text_rules.specs.declared.Reading.the-variants.{Good, Bad}
+use Rattle.judge_rules.proofs.LineFaults.{few-lines}
+use Rattle.judge_rules.specs.HistoryText.{Faulty, lineFault, orLater, endedAfter, firstFaulty, eventOf, eventsIn}
 
 -- nothing found is not something found
 not-found : {A P : Type 0} {x : A} → some x ≡ none → P

@@ -9,13 +9,13 @@ use lib.ListN.{length, getD}
 use Rattle.terms.specs.declared.refusals.Refusal.{Refusal}
 use Rattle.terms.specs.declared.refusals.Refusal.the-variants.{ShortOrder}
 use Rattle.terms.specs.Limits.{judgedJobs, judgedLines}
-use Rattle.formats.specs.Split.{part, joined}
-use Rattle.verdicts.specs.declared.verdict.Verdict.{Verdict}
-use Rattle.verdicts.specs.declared.verdict.Verdict.the-variants.{No}
-use Rattle.verdicts.specs.Judged.{Finding, orderly, knotted, findingOf}
-use Rattle.verdicts.specs.Arrays.{historyBy}
-use Rattle.verdicts.specs.HistoryText.{readingsOf, firstFaulty}
-use Rattle.verdicts.specs.Judgement.{sayFinding, sayLines, judgementOf, lineFrom}
+use Rattle.text_rules.specs.Split.{part, joined}
+use Rattle.judge_rules.specs.declared.verdict.Verdict.{Verdict}
+use Rattle.judge_rules.specs.declared.verdict.Verdict.the-variants.{No}
+use Rattle.judge_rules.specs.Judged.{Finding, orderly, knotted, findingOf}
+use Rattle.judge_rules.specs.Arrays.{historyBy}
+use Rattle.judge_rules.specs.HistoryText.{readingsOf, firstFaulty}
+use Rattle.judge_rules.specs.Judgement.{sayFinding, sayLines, judgementOf, lineFrom}
 use Rattle.judge.specs.declared.scan.Scanned.{Scanned}
 use Rattle.judge.specs.declared.scan.Scanned.the-variants.{Faultless, Faulty}
 use Rattle.judge.specs.declared.entry.Judged.{Judged}

@@ -18,12 +18,12 @@ use Rattle.terms.specs.declared.refusals.Refusal.{Refusal}
 use Rattle.terms.specs.Letters.{ofHistories}
 use Rattle.terms.specs.Limits.{cells, judgedJobs, judgedLines}
 use Rattle.conflict.proofs.Clauses.{records-read, records-write, records-increment}
-use Rattle.formats.specs.declared.Reading.{Reading}
-use Rattle.formats.specs.declared.Reading.the-variants.{Good, Bad}
-use Rattle.formats.specs.Lines.{readLine}
-use Rattle.formats.proofs.GoodLine.{good-is-record}
-use Rattle.verdicts.specs.HistoryText.{endedAfter, eventOf}
-use Rattle.verdicts.specs.Arrays.{eventBy}
+use Rattle.text_rules.specs.declared.Reading.{Reading}
+use Rattle.text_rules.specs.declared.Reading.the-variants.{Good, Bad}
+use Rattle.text_rules.specs.Lines.{readLine}
+use Rattle.text_rules.proofs.GoodLine.{good-is-record}
+use Rattle.judge_rules.specs.HistoryText.{endedAfter, eventOf}
+use Rattle.judge_rules.specs.Arrays.{eventBy}
 use Rattle.judge.specs.declared.scan.Looked.the-variants.{Kept, Refused}
 use Rattle.judge.specs.Looked.{codeOf, endsJob, lookedGood, lookedRead, lookedAt}
 use Rattle.judge.proofs.Flags.{Flagged}

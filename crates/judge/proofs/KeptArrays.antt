@@ -10,7 +10,7 @@ use lib.Dec.{eqb}
 use lib.ListN.{length, getD, set}
 use lib.Seq.{getD-set-same, getD-set-other}
 use Rattle.laws.specs.Choice.{by-test}
-use Rattle.verdicts.specs.Arrays.{eventBy, historyBy}
+use Rattle.judge_rules.specs.Arrays.{eventBy, historyBy}
 
 module _ (codes jobs cells : List ℕ) (n code job cell : ℕ) where
   -- what is put behind the first lines leaves them

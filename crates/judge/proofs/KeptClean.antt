@@ -9,12 +9,12 @@ use lib.ListN.{length}
 use Rattle.laws.specs.Choice.{by-test}
 use Rattle.terms.specs.declared.refusals.Refusal.the-variants.{ShortOrder}
 use Rattle.terms.specs.Limits.{judgedJobs}
-use Rattle.verdicts.specs.HistoryText.{readingsOf}
-use Rattle.verdicts.specs.declared.verdict.Verdict.{Verdict}
-use Rattle.verdicts.specs.declared.verdict.Verdict.the-variants.{No}
-use Rattle.deciding.specs.declared.kept.Found.the-variants.{Faultless as found-none}
-use Rattle.deciding.specs.Kept.{firstFault, keptJudgement}
-use Rattle.deciding.proofs.KeptLaws.{kept-short, kept-decided}
+use Rattle.judge_rules.specs.HistoryText.{readingsOf}
+use Rattle.judge_rules.specs.declared.verdict.Verdict.{Verdict}
+use Rattle.judge_rules.specs.declared.verdict.Verdict.the-variants.{No}
+use Rattle.judge_core.specs.declared.kept.Found.the-variants.{Faultless as found-none}
+use Rattle.judge_core.specs.Kept.{firstFault, keptJudgement}
+use Rattle.judge_core.proofs.KeptLaws.{kept-short, kept-decided}
 use Rattle.judge.specs.declared.scan.Scanned.{Scanned}
 use Rattle.judge.specs.declared.scan.Scanned.the-variants.{Faultless}
 use Rattle.judge.specs.Scanned.{Clean, ScannedAs}

@@ -25,12 +25,12 @@ use Rattle.conflict.specs.Modes.{recorded}
 use Rattle.conflict.specs.History.{History, marked}
 use Rattle.conflict.proofs.Appended.{marked-append}
 use Rattle.conflict.proofs.OneEvent.{marked-none, marked-does, marked-ends, commit-not-back, give-up-not-back, back-is-back}
-use Rattle.formats.specs.declared.Reading.{Reading}
-use Rattle.formats.specs.declared.Reading.the-variants.{Good, Bad}
-use Rattle.verdicts.specs.HistoryText.{faultOfGood, faultOf, lineFault, endedAfter, Faulty, orLater, firstFaulty, eventOf, eventsIn}
-use Rattle.deciding.specs.declared.kept.Found.the-variants.{Faultless}
-use Rattle.deciding.specs.Kept.{jobOf, above, endsJob, eventFault, firstFault}
-use Rattle.deciding.specs.Kept as kept
+use Rattle.text_rules.specs.declared.Reading.{Reading}
+use Rattle.text_rules.specs.declared.Reading.the-variants.{Good, Bad}
+use Rattle.judge_rules.specs.HistoryText.{faultOfGood, faultOf, lineFault, endedAfter, Faulty, orLater, firstFaulty, eventOf, eventsIn}
+use Rattle.judge_core.specs.declared.kept.Found.the-variants.{Faultless}
+use Rattle.judge_core.specs.Kept.{jobOf, above, endsJob, eventFault, firstFault}
+use Rattle.judge_core.specs.Kept as kept
 
 -- something is not nothing
 not-none : {A : Type 0} {x : A} {P : Type 0} → some x ≡ none → P

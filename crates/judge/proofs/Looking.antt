@@ -14,11 +14,11 @@ use Rattle.terms.specs.declared.letters.Letter.{Letter}
 use Rattle.terms.specs.declared.refusals.Refusal.{Refusal}
 use Rattle.terms.specs.Letters.{ofHistories, hasCell}
 use Rattle.terms.specs.Limits.{cells, judgedJobs, judgedLines}
-use Rattle.formats.specs.declared.Reading.{Reading}
-use Rattle.formats.specs.declared.Reading.the-variants.{Good, Bad}
-use Rattle.formats.specs.Lines.{readLine}
-use Rattle.formats.proofs.GoodLine.{good-is-record}
-use Rattle.verdicts.specs.HistoryText.{faultOfGood, faultOf, lineFault}
+use Rattle.text_rules.specs.declared.Reading.{Reading}
+use Rattle.text_rules.specs.declared.Reading.the-variants.{Good, Bad}
+use Rattle.text_rules.specs.Lines.{readLine}
+use Rattle.text_rules.proofs.GoodLine.{good-is-record}
+use Rattle.judge_rules.specs.HistoryText.{faultOfGood, faultOf, lineFault}
 use Rattle.judge.specs.declared.scan.Looked.{Looked}
 use Rattle.judge.specs.declared.scan.Looked.the-variants.{Kept, Refused}
 use Rattle.judge.specs.Looked.{lookedGood, lookedRead, lookedAt}

@@ -7,9 +7,9 @@ use mir.Syntax.{w32}
 use mir.Val.{Fits}
 use Rattle.terms.specs.declared.refusals.Refusal.{Refusal}
 use Rattle.terms.specs.Refusals.{numberOf}
-use Rattle.verdicts.specs.declared.verdict.Verdict.{Verdict}
-use Rattle.verdicts.specs.declared.verdict.Verdict.the-variants.{Orderly, Knot, No}
-use Rattle.verdicts.specs.Judgement.{inNumbers}
+use Rattle.judge_rules.specs.declared.verdict.Verdict.{Verdict}
+use Rattle.judge_rules.specs.declared.verdict.Verdict.the-variants.{Orderly, Knot, No}
+use Rattle.judge_rules.specs.Judgement.{inNumbers}
 use Rattle.judge.specs.Judged.{Small}
 
 module _ (v : Verdict) where

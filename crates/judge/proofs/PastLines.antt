@@ -6,10 +6,10 @@ use mathlib.Core.List.{List, [], _∷_, _++_, append-assoc}
 use native.Mathlib.Omega.{arith}
 use lib.ListN.{length, drop, length-append}
 use lib.Seq.{take-append-seam, getD-at}
-use Rattle.formats.specs.Split.{linesOf, joined}
-use Rattle.verdicts.specs.HistoryText.{lineAt}
-use Rattle.verdicts.specs.LineTable.{linesBefore}
-use Rattle.verdicts.proofs.LineBack.{joined-append}
+use Rattle.text_rules.specs.Split.{linesOf, joined}
+use Rattle.judge_rules.specs.HistoryText.{lineAt}
+use Rattle.judge_rules.specs.LineTable.{linesBefore}
+use Rattle.judge_rules.proofs.LineBack.{joined-append}
 
 -- n lines of the text stand before a place, and the others from there on
 pub record Past (text : List ℕ) (n from : ℕ) : Type 0 where

@@ -14,14 +14,14 @@ use Rattle.terms.specs.declared.refusals.Refusal.{Refusal}
 use Rattle.terms.specs.Letters.{ofHistories}
 use Rattle.terms.specs.Limits.{judgedLines}
 use Rattle.conflict.specs.declared.action.Event.{Event}
-use Rattle.formats.specs.declared.Reading.{Reading}
-use Rattle.formats.specs.Lines.{readLine}
-use Rattle.formats.specs.Split.{linesOf, used, part}
-use Rattle.formats.proofs.Cutting.{used-within, used-some}
-use Rattle.formats.proofs.TextLines.{next-line}
-use Rattle.verdicts.specs.HistoryText.{readingsOf, lineFault, orLater, endedAfter, firstFaulty, eventOf, eventsIn, bare}
-use Rattle.verdicts.specs.Arrays.{eventBy, historyBy}
-use Rattle.verdicts.proofs.Readings.{readings-next}
+use Rattle.text_rules.specs.declared.Reading.{Reading}
+use Rattle.text_rules.specs.Lines.{readLine}
+use Rattle.text_rules.specs.Split.{linesOf, used, part}
+use Rattle.text_rules.proofs.Cutting.{used-within, used-some}
+use Rattle.text_rules.proofs.TextLines.{next-line}
+use Rattle.judge_rules.specs.HistoryText.{readingsOf, lineFault, orLater, endedAfter, firstFaulty, eventOf, eventsIn, bare}
+use Rattle.judge_rules.specs.Arrays.{eventBy, historyBy}
+use Rattle.judge_rules.proofs.Readings.{readings-next}
 use Rattle.judge.specs.declared.scan.Looked.{Looked}
 use Rattle.judge.specs.declared.scan.Looked.the-variants.{Kept, Refused}
 use Rattle.judge.specs.Looked.{endsJob, lookedAt}

@@ -14,12 +14,12 @@ use Rattle.terms.specs.Limits.{judgedJobs, judgedLines}
 use Rattle.conflict.specs.declared.action.Event.the-variants.{Does, Ends}
 use Rattle.conflict.specs.History.{History, isCommit, commitOrder}
 use Rattle.conflict.proofs.OneEvent.{order-none, order-does, order-ends}
-use Rattle.verdicts.specs.Judged.{orderly, knotted, insert, sorted, jobsOf, findingOf}
-use Rattle.verdicts.specs.HistoryText.{readingsOf, Faulty, firstFaulty, eventsIn}
-use Rattle.verdicts.specs.Judgement.{sayFinding, sayLines, judgementOf}
-use Rattle.verdicts.proofs.Walking.{no-more}
-use Rattle.verdicts.proofs.Deciding.{by-finding}
-use Rattle.verdicts.proofs.Histories.{jobs-committed, order-once, order-names, knot-shows}
+use Rattle.judge_rules.specs.Judged.{orderly, knotted, insert, sorted, jobsOf, findingOf}
+use Rattle.judge_rules.specs.HistoryText.{readingsOf, Faulty, firstFaulty, eventsIn}
+use Rattle.judge_rules.specs.Judgement.{sayFinding, sayLines, judgementOf}
+use Rattle.judge_rules.proofs.Walking.{no-more}
+use Rattle.judge_rules.proofs.Deciding.{by-finding}
+use Rattle.judge_rules.proofs.Histories.{jobs-committed, order-once, order-names, knot-shows}
 use Rattle.judge.specs.Judged.{Small}
 use Rattle.judge.proofs.FewLines.{lines-few, number-few, events-few}
 

@@ -3,10 +3,10 @@ use Prim.Native.Nat.{ℕ, _+_, _^_, _≤_, _<_}
 use mathlib.Core.Path.{_≡_}
 use mathlib.Core.List.{List}
 use lib.ListN.{length}
-use Rattle.formats.specs.Split.{part}
-use Rattle.verdicts.specs.declared.verdict.Verdict.{Verdict}
-use Rattle.verdicts.specs.declared.verdict.Verdict.the-variants.{Orderly, Knot, No}
-use Rattle.verdicts.specs.Judgement.{judgementOf, lineFrom}
+use Rattle.text_rules.specs.Split.{part}
+use Rattle.judge_rules.specs.declared.verdict.Verdict.{Verdict}
+use Rattle.judge_rules.specs.declared.verdict.Verdict.the-variants.{Orderly, Knot, No}
+use Rattle.judge_rules.specs.Judgement.{judgementOf, lineFrom}
 use Rattle.judge.specs.declared.entry.Judged.{Judged}
 
 -- the numbers of a verdict are small enough for three places of 32 bits

@@ -10,8 +10,8 @@ use Rattle.terms.specs.declared.letters.Letter.{Letter}
 use Rattle.terms.specs.declared.letters.Letter.the-variants.{Begin, Commit, GiveUp, Retry, Back, Asks}
 use Rattle.terms.specs.declared.refusals.Refusal.the-variants.{BadLine, CellAbove, TooManyLines, JobOutside, Ended}
 use Rattle.terms.specs.Limits.{cells, judgedJobs, judgedLines}
-use Rattle.formats.specs.declared.Reading.{Reading}
-use Rattle.formats.specs.declared.Reading.the-variants.{Good, Bad}
+use Rattle.text_rules.specs.declared.Reading.{Reading}
+use Rattle.text_rules.specs.declared.Reading.the-variants.{Good, Bad}
 use Rattle.judge.specs.declared.scan.Looked.{Looked}
 use Rattle.judge.specs.declared.scan.Looked.the-variants.{Kept, Refused}
 

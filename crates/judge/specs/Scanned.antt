@@ -9,10 +9,10 @@ use Rattle.laws.specs.Choice.{pick}
 use Rattle.terms.specs.declared.refusals.Refusal.{Refusal}
 use Rattle.terms.specs.Words.{newline}
 use Rattle.terms.specs.Limits.{judgedLines}
-use Rattle.formats.specs.Split.{linesOf, part, joined}
-use Rattle.verdicts.specs.HistoryText.{readingsOf, lineAt, firstFaulty, eventsIn, bare}
-use Rattle.verdicts.specs.LineTable.{linesBefore}
-use Rattle.verdicts.specs.Arrays.{historyBy}
+use Rattle.text_rules.specs.Split.{linesOf, part, joined}
+use Rattle.judge_rules.specs.HistoryText.{readingsOf, lineAt, firstFaulty, eventsIn, bare}
+use Rattle.judge_rules.specs.LineTable.{linesBefore}
+use Rattle.judge_rules.specs.Arrays.{historyBy}
 use Rattle.judge.specs.declared.scan.Scanned.{Scanned}
 use Rattle.judge.specs.declared.scan.Scanned.the-variants.{Faultless, Faulty}
 

@@ -1,15 +1,15 @@
 // The judge's two entries: one tells the verdict, and one hands back the faulty line too, with the verdict in three numbers (01, The judge's rules).
 use crate::scan::Scanned;
 use crate::scan::scan;
-use deciding::kept::judge_kept;
+use judge_core::kept::judge_kept;
+use judge_rules::verdict::Verdict;
 use terms::limits::JUDGED_JOBS;
 use terms::limits::JUDGED_LINES;
 use terms::refusals::Refusal;
 use terms::refusals::number_of;
-use verdicts::verdict::Verdict;
 ghost use mathlib.Core.Path.{_≡_};
 ghost use denote.Ref.{ptr};
-ghost use Rattle.verdicts.specs.Judgement.{judgementOf, inNumbers};
+ghost use Rattle.judge_rules.specs.Judgement.{judgementOf, inNumbers};
 ghost use Rattle.judge.specs.Judged.{Small, JudgedAs, linePlace};
 
 // What is said, and where in the text the line handed back stands; at the text's start and empty where no line is.

@@ -1,6 +1,4 @@
 // The scanning half of the judge: the lines of a history text in order, what each says kept as three numbers, up to the first faulty one (01, Refusals by number).
-use formats::Reading;
-use formats::splitter::line_end;
 use terms::letters::Ask;
 use terms::letters::Letter;
 use terms::limits::CELLS;
@@ -9,12 +7,14 @@ use terms::limits::JUDGED_LINES;
 use terms::refusals::Refusal;
 use terms::words::NEWLINE;
 use text::reader::read_history;
+use text_rules::Reading;
+use text_rules::splitter::line_end;
 ghost use mathlib.Core.Path.{_≡_};
 ghost use Prim.Native.Nat.{_≤_, _<_};
 ghost use lib.ListN.{length};
 ghost use Rattle.terms.specs.Letters.{ofHistories};
 ghost use Rattle.terms.specs.Limits.{judgedLines};
-ghost use Rattle.formats.specs.Lines.{readLine};
+ghost use Rattle.text_rules.specs.Lines.{readLine};
 ghost use Rattle.judge.specs.Looked.{codeOf, endsJob, lookedGood, lookedAt};
 ghost use Rattle.judge.specs.Scanned.{bareEnd, ScannedAs};
 

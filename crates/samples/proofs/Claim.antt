@@ -6,25 +6,25 @@ use Rattle.laws.specs.Lists.{member, put}
 use Rattle.conflict.specs.Modes.{needed, recorded, covers, beside, grants, asked, isFree}
 use Rattle.conflict.specs.Schedule.{agree, conflicts, keep, touches, edge}
 use Rattle.conflict.specs.History.{isCommit, isBack, marked, partOf, committedPart, commitOrder}
-use Rattle.formats.specs.Decimal.{digitsIn, decimal}
-use Rattle.formats.specs.Records.{answerRecord, field, lineRecord, tabbed, wordLine}
-use Rattle.formats.specs.Lines.{isDigit, digitsOf, afterDigits, valueFrom, shortest, numberThen, ending, cellPart, jobPart, letterPart, readLine}
-use Rattle.formats.specs.Split.{inFront, linesOf}
-use Rattle.rules.specs.Desk.{at, idle, freshDesk, seated, vacated}
-use Rattle.rules.specs.Locks.{every as locks-every, everyWaiter, isEmpty, agrees, alone, olderThanHolders, olderThanWaiters, without, wants, wokenFirst, settle, released}
-use Rattle.rules.specs.Rules.{refused, withRow, withStatus, wake, wakesAt, wakesOf, isWoken, runAgain, rowsAfter, rule4, close, sendBack, grant, queued, rule1, rule2, rule3, ask, retry, begin}
-use Rattle.rules.specs.Step.{stepCommit, stepGiveUp, stepRetry, stepAsk, stepBegin, stepBy, step, wentBy, ownRecords, wakeRecords, recordsOf}
-use Rattle.verdicts.specs.Order.{preceded, first, ready, without as order-without, ends, leads, taken as order-taken, orderOf, stuck}
-use Rattle.verdicts.specs.Knot.{predecessor, upTo, from, walk, least, turnTo, turn, knotIn}
-use Rattle.verdicts.specs.Judged.{findingBy, judged, insert, sorted, jobsOf, findingOf}
-use Rattle.verdicts.specs.HistoryText.{readingsOf, faultOfGood, faultOf, lineFault, endedAfter, orLater, firstFaulty, eventOf, eventsIn}
-use Rattle.verdicts.specs.Judgement.{filled, sayFinding, sayLines, judgementOf}
-use Rattle.formats.specs.EventRecords.{askBy, markLetter, eventLine, textOf}
-use Rattle.rules.specs.AnswerWords.{wordOf, numberBeside}
-use Rattle.runs.specs.Run.{answered, lineBy, runOf, wakeLines, answerLines, historyLines, written}
-use Rattle.verdicts.specs.VerdictLine.{sayLine, judgedLine, verdictOf}
-use Rattle.runs.specs.Programs.{runOn, answersOf, historyOf}
-use Rattle.formats.specs.Quoted.{bytes}
+use Rattle.text_rules.specs.Decimal.{digitsIn, decimal}
+use Rattle.text_rules.specs.Records.{answerRecord, field, lineRecord, tabbed, wordLine}
+use Rattle.text_rules.specs.Lines.{isDigit, digitsOf, afterDigits, valueFrom, shortest, numberThen, ending, cellPart, jobPart, letterPart, readLine}
+use Rattle.text_rules.specs.Split.{inFront, linesOf}
+use Rattle.desk_rules.specs.Desk.{at, idle, freshDesk, seated, vacated}
+use Rattle.desk_rules.specs.Locks.{every as locks-every, everyWaiter, isEmpty, agrees, alone, olderThanHolders, olderThanWaiters, without, wants, wokenFirst, settle, released}
+use Rattle.desk_rules.specs.Rules.{refused, withRow, withStatus, wake, wakesAt, wakesOf, isWoken, runAgain, rowsAfter, rule4, close, sendBack, grant, queued, rule1, rule2, rule3, ask, retry, begin}
+use Rattle.desk_rules.specs.Step.{stepCommit, stepGiveUp, stepRetry, stepAsk, stepBegin, stepBy, step, wentBy, ownRecords, wakeRecords, recordsOf}
+use Rattle.judge_rules.specs.Order.{preceded, first, ready, without as order-without, ends, leads, taken as order-taken, orderOf, stuck}
+use Rattle.judge_rules.specs.Knot.{predecessor, upTo, from, walk, least, turnTo, turn, knotIn}
+use Rattle.judge_rules.specs.Judged.{findingBy, judged, insert, sorted, jobsOf, findingOf}
+use Rattle.judge_rules.specs.HistoryText.{readingsOf, faultOfGood, faultOf, lineFault, endedAfter, orLater, firstFaulty, eventOf, eventsIn}
+use Rattle.judge_rules.specs.Judgement.{filled, sayFinding, sayLines, judgementOf}
+use Rattle.text_rules.specs.EventRecords.{askBy, markLetter, eventLine, textOf}
+use Rattle.desk_rules.specs.AnswerWords.{wordOf, numberBeside}
+use Rattle.program_rules.specs.OverLines.{answered, lineBy, runOf, wakeLines, answerLines, historyLines, written}
+use Rattle.judge_rules.specs.VerdictLine.{sayLine, judgedLine, verdictOf}
+use Rattle.program_rules.specs.Programs.{runOn, answersOf, historyOf}
+use Rattle.text_rules.specs.Quoted.{bytes}
 use Rattle.samples.specs.Samples.{Sample, writes, samples}
 
 -- every sample's program writes its output, given its input

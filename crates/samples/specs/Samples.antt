@@ -2,8 +2,8 @@
 use Prim.Native.Nat.{ℕ}
 use Prim.Native.String.{String}
 use mathlib.Core.List.{List, [], _∷_}
-use Rattle.verdicts.specs.VerdictLine.{verdictOf}
-use Rattle.runs.specs.Programs.{answersOf, historyOf}
+use Rattle.judge_rules.specs.VerdictLine.{verdictOf}
+use Rattle.program_rules.specs.Programs.{answersOf, historyOf}
 
 -- the three programs (01, What is delivered)
 pub data Program : Type 0 where

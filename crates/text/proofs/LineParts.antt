@@ -11,12 +11,12 @@ use Rattle.terms.specs.declared.letters.Lettered.{Lettered}
 use Rattle.terms.specs.declared.letters.Lettered.the-variants.{Known, Unknown}
 use Rattle.terms.specs.Letters.{hasJob, hasCell}
 use Rattle.terms.specs.Limits.{lastNumber}
-use Rattle.formats.specs.declared.Reading.{Reading}
-use Rattle.formats.specs.declared.Reading.the-variants.{Good, Bad}
-use Rattle.formats.specs.declared.Numeral.{Numeral}
-use Rattle.formats.specs.declared.Numeral.the-variants.{Is, Missing}
-use Rattle.formats.specs.Lines.{ending, lastCell, cellPart, jobPart, letterPart, readLine}
-use Rattle.formats.specs.Fields.{firstLetter, numberAt}
+use Rattle.text_rules.specs.declared.Reading.{Reading}
+use Rattle.text_rules.specs.declared.Reading.the-variants.{Good, Bad}
+use Rattle.text_rules.specs.declared.Numeral.{Numeral}
+use Rattle.text_rules.specs.declared.Numeral.the-variants.{Is, Missing}
+use Rattle.text_rules.specs.Lines.{ending, lastCell, cellPart, jobPart, letterPart, readLine}
+use Rattle.text_rules.specs.Fields.{firstLetter, numberAt}
 use Rattle.text.proofs.NumberFields.{goingOn, field-at}
 
 -- a line that has a cell

@@ -8,13 +8,13 @@ use lib.ListN.{length, getD, drop}
 use lib.Seq.{drop-drop}
 use Rattle.laws.specs.Choice.{pick, by-test}
 use Rattle.terms.specs.Words.{tab}
-use Rattle.formats.specs.declared.Reading.{Reading}
-use Rattle.formats.specs.declared.Reading.the-variants.{Bad}
-use Rattle.formats.specs.declared.Numeral.{Numeral}
-use Rattle.formats.specs.declared.Numeral.the-variants.{Is, Missing}
-use Rattle.formats.specs.Lines.{isDigit, digitsOf, afterDigits, valueFrom, shortest, numberThen}
-use Rattle.formats.specs.Fields.{digitsAt, numberAt}
-use Rattle.formats.proofs.Places.{by-place}
+use Rattle.text_rules.specs.declared.Reading.{Reading}
+use Rattle.text_rules.specs.declared.Reading.the-variants.{Bad}
+use Rattle.text_rules.specs.declared.Numeral.{Numeral}
+use Rattle.text_rules.specs.declared.Numeral.the-variants.{Is, Missing}
+use Rattle.text_rules.specs.Lines.{isDigit, digitsOf, afterDigits, valueFrom, shortest, numberThen}
+use Rattle.text_rules.specs.Fields.{digitsAt, numberAt}
+use Rattle.text_rules.proofs.Places.{by-place}
 
 -- what follows the digits begins after so many bytes as there are digits
 pub after-digits : (t : List ℕ) → drop (length (digitsOf t)) t ≡ afterDigits t

@@ -12,7 +12,7 @@ use Rattle.terms.specs.declared.words.Word.{Word}
 use Rattle.terms.specs.declared.words.Word.the-variants.{Go, Wait, Back, No, Wake, Orderly, Knot}
 use Rattle.terms.specs.declared.words.Spelling.{Spelling}
 use Rattle.terms.specs.Words.{spelt, spellingOf}
-use Rattle.formats.specs.Wrote.{Wrote}
+use Rattle.text_rules.specs.Wrote.{Wrote}
 
 -- no word is longer than seven bytes
 pub word-at-most-7 : (w : Word) → length (spelt w) ≤ 7

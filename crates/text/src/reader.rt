@@ -1,6 +1,4 @@
 // The line reader: what one line of requests or of a history says (01, Lines).
-use formats::Numeral;
-use formats::Reading;
 use terms::Letter;
 use terms::Lettered;
 use terms::has_cell;
@@ -11,11 +9,13 @@ use terms::of_histories;
 use terms::of_requests;
 use terms::words::NEWLINE;
 use terms::words::TAB;
+use text_rules::Numeral;
+use text_rules::Reading;
 ghost use mathlib.Core.Path.{_≡_};
 ghost use lib.ListN.{drop};
 ghost use Rattle.terms.specs.Letters.{ofRequests, ofHistories};
-ghost use Rattle.formats.specs.Lines.{isDigit, digitsOf, shortest, ending, cellPart, jobPart, readLine};
-ghost use Rattle.formats.specs.Fields.{digitAhead, firstLetter, digitsAt, numberAt};
+ghost use Rattle.text_rules.specs.Lines.{isDigit, digitsOf, shortest, ending, cellPart, jobPart, readLine};
+ghost use Rattle.text_rules.specs.Fields.{digitAhead, firstLetter, digitsAt, numberAt};
 
 // A cell has one or two digits.
 const LAST_CELL: u32 = 99;

@@ -1,6 +1,5 @@
 // The record writer: one record into a lent buffer, from the place given and not before it (01, Lines).
 // The buffer's part from that place on is lent, and within it the later part to one field writer after another; each writes from its part's first byte on.
-use formats::Written;
 use terms::Letter;
 use terms::Refusal;
 use terms::Word;
@@ -10,6 +9,7 @@ use terms::has_job;
 use terms::spelled;
 use terms::words::NEWLINE;
 use terms::words::TAB;
+use text_rules::Written;
 ghost use mathlib.Core.Path.{_≡_};
 ghost use mathlib.Core.Bool.{true};
 ghost use mathlib.Core.List.{[], _∷_, _++_};
@@ -18,9 +18,9 @@ ghost use lib.Dec.{leb};
 ghost use lib.ListN.{length};
 ghost use Rattle.terms.specs.Letters.{hasJob, hasCell};
 ghost use Rattle.terms.specs.Words.{tab, newline, spelt};
-ghost use Rattle.formats.specs.Decimal.{decimal};
-ghost use Rattle.formats.specs.Wrote.{Wrote};
-ghost use Rattle.formats.specs.Records.{field, answerRecord, lineRecord, told, left};
+ghost use Rattle.text_rules.specs.Decimal.{decimal};
+ghost use Rattle.text_rules.specs.Wrote.{Wrote};
+ghost use Rattle.text_rules.specs.Records.{field, answerRecord, lineRecord, told, left};
 
 // How many digits a number has in shortest decimal.
 pub fn width(n: u64) -> usize

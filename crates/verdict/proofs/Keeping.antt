@@ -13,8 +13,8 @@ use borrow.Author.Tests.{leb-true, leb-false}
 use lib.Seq.{take-all, paste, paste-zero, paste-suc, take-paste, drop-paste, take-length, take-append-add, drop-drop}
 use Rattle.laws.specs.Choice.{by-test}
 use Rattle.terms.specs.Limits.{judgedBytes}
-use Rattle.verdicts.specs.VerdictLine.{verdictOf}
-use Rattle.reporter.proofs.LongTexts.{first-bytes}
+use Rattle.judge_rules.specs.VerdictLine.{verdictOf}
+use Rattle.judge_line.proofs.LongTexts.{first-bytes}
 use Rattle.verdict.specs.Taking.{fitting, kept, Took, Judges}
 
 -- one byte more of the chunk

@@ -6,11 +6,11 @@ use mathlib.Core.List.{List}
 use native.Mathlib.Omega.{arith}
 use lib.ListN.{length, take}
 use Rattle.terms.specs.declared.refusals.Refusal.{Refusal}
-use Rattle.formats.specs.declared.Written.{Written}
-use Rattle.formats.specs.declared.Written.the-variants.{Next, Refused}
-use Rattle.formats.specs.Records.{told, left}
-use Rattle.verdicts.specs.VerdictLine.{verdictOf, lineLimit}
-use Rattle.reporter.proofs.LineLength.{verdict-at-most, verdict-told, verdict-left}
+use Rattle.text_rules.specs.declared.Written.{Written}
+use Rattle.text_rules.specs.declared.Written.the-variants.{Next, Refused}
+use Rattle.text_rules.specs.Records.{told, left}
+use Rattle.judge_rules.specs.VerdictLine.{verdictOf, lineLimit}
+use Rattle.judge_line.proofs.LineLength.{verdict-at-most, verdict-told, verdict-left}
 
 module _ (b text : List ℕ) (w : Written) (room : lineLimit ≤ length b) (said : w ≡ told b 0 (verdictOf text)) where
   -- the place told is the line's length

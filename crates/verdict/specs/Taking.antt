@@ -6,7 +6,7 @@ use mathlib.Core.List.{List, []}
 use lib.ListN.{length, take}
 use lib.Seq.{paste}
 use Rattle.laws.specs.Choice.{pick}
-use Rattle.verdicts.specs.VerdictLine.{verdictOf}
+use Rattle.judge_rules.specs.VerdictLine.{verdictOf}
 
 -- how many bytes of a chunk there is room for in a buffer behind its first ones
 unfoldable pub fitting : List ℕ → ℕ → List ℕ → ℕ

@@ -1,14 +1,14 @@
 // The program `verdict`: the judge's verdict on the history on standard input, as one line (01, What is delivered).
-use formats::Written;
+use judge_line::verdict::verdict_line;
 use libc::STDIN_FILENO;
 use libc::STDOUT_FILENO;
-use reporter::verdict::verdict_line;
 use terms::limits::JUDGED_BYTES;
+use text_rules::Written;
 ghost use mathlib.Core.Path.{_≡_};
 ghost use Prim.Native.Nat.{_+_, _≤_};
 ghost use lib.ListN.{length, take};
 ghost use Rattle.terms.specs.Limits.{judgedBytes};
-ghost use Rattle.verdicts.specs.VerdictLine.{verdictOf, lineLimit};
+ghost use Rattle.judge_rules.specs.VerdictLine.{verdictOf, lineLimit};
 ghost use Rattle.verdict.specs.Taking.{fitting, kept, Took, Judges};
 
 // One byte more than a text may have is enough of a longer one.

@@ -1,7 +1,7 @@
 -- `clerk::records::ask_by` meets its contract: each kind has its letter.
 -- Assumes nothing.
 use borrow.Author.Needs.{needs}
-use Rattle.formats.specs.EventRecords.{askBy}
+use Rattle.text_rules.specs.EventRecords.{askBy}
 use Rattle.clerk.proofs.records.ask_by.Statement.{statement}
 use Rattle.clerk.proofs.records.ask_by.Tie as tie
 

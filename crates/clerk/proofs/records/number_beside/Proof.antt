@@ -1,7 +1,7 @@
 -- `clerk::records::number_beside` meets its contract: the job, or the refusal's number.
 -- Assumes nothing.
 use borrow.Author.Needs.{needs}
-use Rattle.rules.specs.AnswerWords.{numberBeside}
+use Rattle.desk_rules.specs.AnswerWords.{numberBeside}
 use Rattle.clerk.proofs.records.number_beside.Statement.{statement}
 use Rattle.clerk.proofs.records.number_beside.Tie as tie
 

@@ -1,7 +1,7 @@
 -- `clerk::records::put_answer` meets its contract: the record is short enough for the room that there is.
 -- Assumes nothing.
 use borrow.Author.Needs.{needs}
-use Rattle.formats.proofs.Length.{answer-at-most-24}
+use Rattle.text_rules.proofs.Length.{answer-at-most-24}
 use Rattle.clerk.proofs.Adding.{added-next, never-refused}
 use Rattle.clerk.proofs.records.put_answer.Statement.{statement}
 use Rattle.clerk.proofs.records.put_answer.Tie as tie

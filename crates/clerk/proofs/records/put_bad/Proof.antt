@@ -2,7 +2,7 @@
 -- Assumes nothing.
 use borrow.Author.Needs.{needs}
 use native.Mathlib.Omega.{arith}
-use Rattle.formats.proofs.WroteLaws.{wrote-none, wrote-as}
+use Rattle.text_rules.proofs.WroteLaws.{wrote-none, wrote-as}
 use Rattle.clerk.proofs.Cases.{bad-answer, bad-noted}
 use Rattle.clerk.proofs.records.put_bad.Statement.{statement}
 use Rattle.clerk.proofs.records.put_bad.Tie as tie

@@ -2,7 +2,7 @@
 -- Assumes nothing.
 use borrow.Author.Needs.{needs}
 use mathlib.Core.List.{map}
-use Rattle.board.specs.Steps.{wakeAt}
+use Rattle.desk_arrays.specs.Steps.{wakeAt}
 use Rattle.clerk.proofs.Waking.{records-quiet, records-woken}
 use Rattle.clerk.proofs.records.put_records.Statement.{statement}
 use Rattle.clerk.proofs.records.put_records.Tie as tie

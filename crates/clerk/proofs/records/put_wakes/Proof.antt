@@ -6,8 +6,8 @@ use native.Mathlib.Omega.{arith}
 use mathlib.Core.Path.{_≡_, sym, ap, _∙_}
 use mathlib.Core.List.{map}
 use lib.ListN.{take, length, length-map, List·getD-map}
-use Rattle.formats.specs.Records.{longestRecord}
-use Rattle.board.specs.Steps.{wakeAt}
+use Rattle.text_rules.specs.Records.{longestRecord}
+use Rattle.desk_arrays.specs.Steps.{wakeAt}
 use Rattle.clerk.specs.Parts.{Added, wakeRecord, wakeRecords}
 use Rattle.clerk.proofs.Adding.{added-as, added-end, added-length}
 use Rattle.clerk.proofs.Waking.{wakes-none, wakes-more, wakes-all, wakes-told}

@@ -1,8 +1,8 @@
 -- `clerk::work::answer_line` meets its contract: a good line is answered by the step, and a bad one by refusal 9.
 -- Assumes nothing.
 use borrow.Author.Needs.{needs}
-use Rattle.formats.proofs.WroteLaws.{wrote-length}
-use Rattle.runs.proofs.Turns.{due-line}
+use Rattle.text_rules.proofs.WroteLaws.{wrote-length}
+use Rattle.program_rules.proofs.Turns.{due-line}
 use Rattle.clerk.proofs.Answering.{answered-bad, answered-good}
 use Rattle.clerk.proofs.work.answer_line.Statement.{statement}
 use Rattle.clerk.proofs.work.answer_line.Tie as tie

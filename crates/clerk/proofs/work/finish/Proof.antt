@@ -8,8 +8,8 @@ use borrow.Author.Tests.{leb-true, not-true, not-false}
 use lib.Dec.{leb}
 use lib.ListN.{length}
 use Rattle.laws.specs.Choice.{was-true, was-false}
-use Rattle.runs.specs.Work.{lineRoom, roomy}
-use Rattle.runs.proofs.Ends.{ends-none, ends-full, ends-put, owing-line}
+use Rattle.program_rules.specs.Work.{lineRoom, roomy}
+use Rattle.program_rules.proofs.Ends.{ends-none, ends-full, ends-put, owing-line}
 use Rattle.clerk.proofs.work.finish.Statement.{statement}
 use Rattle.clerk.proofs.work.finish.Tie as tie
 

@@ -1,6 +1,6 @@
 -- `clerk::work::has_room` meets its contract: no sum is made that could wrap.
 -- Assumes nothing.
-use Rattle.formats.proofs.RoomLaws.{room-left, no-room-past}
+use Rattle.text_rules.proofs.RoomLaws.{room-left, no-room-past}
 use Rattle.clerk.proofs.work.has_room.Statement.{statement}
 use Rattle.clerk.proofs.work.has_room.Tie as tie
 

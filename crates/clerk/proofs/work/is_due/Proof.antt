@@ -1,6 +1,6 @@
 -- `clerk::work::is_due` meets its contract: both tests hold.
 -- Assumes nothing.
-use Rattle.runs.specs.Work.{due}
+use Rattle.program_rules.specs.Work.{due}
 use Rattle.clerk.proofs.work.is_due.Statement.{statement}
 use Rattle.clerk.proofs.work.is_due.Tie as tie
 

@@ -1,6 +1,6 @@
 -- `clerk::work::is_owing` meets its contract: the newline has not come, and the number is small enough.
 -- Assumes nothing.
-use Rattle.runs.specs.Work.{owing}
+use Rattle.program_rules.specs.Work.{owing}
 use Rattle.clerk.proofs.work.is_owing.Statement.{statement}
 use Rattle.clerk.proofs.work.is_owing.Tie as tie
 

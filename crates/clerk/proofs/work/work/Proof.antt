@@ -8,8 +8,8 @@ use borrow.Author.Tests.{leb-true, not-true, not-false}
 use lib.Dec.{leb}
 use lib.ListN.{length}
 use Rattle.laws.specs.Choice.{was-true, was-false}
-use Rattle.board.specs.Steps.{deskOf}
-use Rattle.runs.specs.Work.{lineRoom, roomy}
+use Rattle.desk_arrays.specs.Steps.{deskOf}
+use Rattle.program_rules.specs.Work.{lineRoom, roomy}
 use Rattle.clerk.proofs.Going.{Left, left-all, left-none, left-full, cut-moves, left-passes, left-answers}
 use Rattle.clerk.proofs.work.work.Statement.{statement}
 use Rattle.clerk.proofs.work.work.Tie as tie

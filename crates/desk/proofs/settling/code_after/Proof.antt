@@ -1,7 +1,7 @@
 -- `desk::settling::code_after` meets its contract: the ending is put for the argument.
 -- Assumes nothing.
 use borrow.Author.Needs.{needs}
-use Rattle.board.specs.Steps.{codeAfter}
+use Rattle.desk_arrays.specs.Steps.{codeAfter}
 use Rattle.desk.proofs.settling.code_after.Statement.{statement}
 use Rattle.desk.proofs.settling.code_after.Tie as tie
 

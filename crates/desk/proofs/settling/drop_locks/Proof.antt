@@ -4,7 +4,7 @@ use Prim.Native.Nat.{_≤_, _-_}
 use mathlib.Core.Path.{_≡_, refl, ap, _∙_}
 use native.Mathlib.Numerals.{add-one}
 use native.Mathlib.Omega.{arith}
-use Rattle.board.specs.Settling.{droppedBy}
+use Rattle.desk_arrays.specs.Settling.{droppedBy}
 use Rattle.desk.proofs.settling.drop_locks.Statement.{statement}
 use Rattle.desk.proofs.settling.drop_locks.Tie as tie
 

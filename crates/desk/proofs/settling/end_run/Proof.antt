@@ -1,7 +1,7 @@
 -- `desk::settling::end_run` meets its contract: locks are dropped and cells settled, as the definition says.
 -- Assumes nothing.
 use borrow.Author.Needs.{needs}
-use Rattle.board.specs.Steps.{settled}
+use Rattle.desk_arrays.specs.Steps.{settled}
 use Rattle.desk.proofs.settling.end_run.Statement.{statement}
 use Rattle.desk.proofs.settling.end_run.Tie as tie
 

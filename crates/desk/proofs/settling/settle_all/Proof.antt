@@ -5,8 +5,8 @@ use mathlib.Core.Path.{_≡_, refl, ap}
 use mathlib.Core.Logic.{⊎-elim}
 use mathlib.Core.List.{List, []}
 use native.Mathlib.Omega.{arith}
-use Rattle.board.specs.Settling.{Settling, settleAll}
-use Rattle.board.proofs.WaitingCount.{waiters-most}
+use Rattle.desk_arrays.specs.Settling.{Settling, settleAll}
+use Rattle.desk_arrays.proofs.WaitingCount.{waiters-most}
 use Rattle.desk.specs.InPlace.{laid, Reached}
 use Rattle.terms.specs.Limits.{places}
 use Rattle.desk.proofs.Room.{room}

@@ -6,7 +6,7 @@ use mathlib.Core.Path.{_≡_, refl, ap, sym}
 use native.Mathlib.Omega.{arith}
 use lib.ListN.{length, take, take-append-drop}
 use lib.Seq.{length-take-le}
-use Rattle.board.specs.Settling.{settleCell}
+use Rattle.desk_arrays.specs.Settling.{settleCell}
 use Rattle.desk.specs.InPlace.{laid, Reached}
 use Rattle.desk.proofs.Cells.{holds, reached-as, cell-stops, turn-place, turn-room, turn-granted}
 use Rattle.desk.proofs.settling.settle_cell.Statement.{statement}

@@ -1,7 +1,7 @@
 -- `desk::step::answer_after` meets its contract: the ending is put for the argument.
 -- Assumes nothing.
 use borrow.Author.Needs.{needs}
-use Rattle.board.specs.Steps.{answerAfter}
+use Rattle.desk_arrays.specs.Steps.{answerAfter}
 use Rattle.desk.proofs.step.answer_after.Statement.{statement}
 use Rattle.desk.proofs.step.answer_after.Tie as tie
 

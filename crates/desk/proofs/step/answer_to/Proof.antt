@@ -1,7 +1,7 @@
 -- `desk::step::answer_to` meets its contract: the move is put for the argument.
 -- Assumes nothing.
 use borrow.Author.Needs.{needs}
-use Rattle.board.specs.Steps.{answerTo}
+use Rattle.desk_arrays.specs.Steps.{answerTo}
 use Rattle.desk.proofs.step.answer_to.Statement.{statement}
 use Rattle.desk.proofs.step.answer_to.Tie as tie
 

@@ -1,7 +1,7 @@
 -- `desk::step::leave_place` meets its contract: the ending is put for the argument.
 -- Assumes nothing.
 use borrow.Author.Needs.{needs}
-use Rattle.board.specs.Steps.{numbersAfter}
+use Rattle.desk_arrays.specs.Steps.{numbersAfter}
 use Rattle.desk.proofs.step.leave_place.Statement.{statement}
 use Rattle.desk.proofs.step.leave_place.Tie as tie
 

@@ -2,8 +2,8 @@
 -- Assumes nothing.
 use borrow.Author.Needs.{needs}
 use native.Mathlib.Omega.{arith}
-use Rattle.board.specs.declared.state.Desk.{Desk}
-use Rattle.board.specs.Steps.{deskOf}
+use Rattle.desk_arrays.specs.declared.state.Desk.{Desk}
+use Rattle.desk_arrays.specs.Steps.{deskOf}
 use Rattle.desk.proofs.Performed.{begin-place, take-spot, stay-spot, end-place, refused, begun-at, kept, taken, stayed, ended-at, tried}
 use Rattle.desk.proofs.step.step_on.Statement.{statement}
 use Rattle.desk.proofs.step.step_on.Tie as tie

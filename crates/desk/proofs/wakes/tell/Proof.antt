@@ -6,7 +6,7 @@ use mathlib.Core.Path.{_≡_, refl}
 use mathlib.Core.List.{map}
 use native.Mathlib.Omega.{arith}
 use lib.ListN.{length, take}
-use Rattle.board.specs.Steps.{noAction, wakeAt, listed}
+use Rattle.desk_arrays.specs.Steps.{noAction, wakeAt, listed}
 use Rattle.desk.proofs.Telling.{told-more, told-end, told-all}
 use Rattle.desk.proofs.wakes.tell.Statement.{statement}
 use Rattle.desk.proofs.wakes.tell.Tie as tie

@@ -3,7 +3,7 @@
 use borrow.Author.Needs.{needs}
 use mathlib.Core.Path.{_∙_, ap}
 use Rattle.conflict.specs.Modes.{recorded}
-use Rattle.board.specs.Steps.{wakeAt}
+use Rattle.desk_arrays.specs.Steps.{wakeAt}
 use Rattle.desk.proofs.Telling.{nowhere-says}
 use Rattle.desk.proofs.wakes.wake_at.Statement.{statement}
 use Rattle.desk.proofs.wakes.wake_at.Tie as tie

@@ -2,7 +2,7 @@
 -- Assumes nothing.
 use Rattle.judge.proofs.Handing.{judged-small, part-starts}
 use mathlib.Core.Path.{ap, _∙_}
-use Rattle.verdicts.specs.Judgement.{inNumbers}
+use Rattle.judge_rules.specs.Judgement.{inNumbers}
 use borrow.Author.Needs.{needs}
 use Rattle.judge.proofs.entry.judge.Statement.{statement}
 use Rattle.judge.proofs.entry.judge.Tie as tie

@@ -2,7 +2,7 @@
 -- Assumes nothing.
 use borrow.Author.Needs.{needs}
 use Rattle.laws.specs.Choice.{cases}
-use Rattle.formats.proofs.Places.{digit-placed}
+use Rattle.text_rules.proofs.Places.{digit-placed}
 use Rattle.text.proofs.reader.digit_ahead.Statement.{statement}
 use Rattle.text.proofs.reader.digit_ahead.Tie as tie
 

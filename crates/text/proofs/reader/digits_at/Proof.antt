@@ -7,9 +7,9 @@ use native.Mathlib.Omega.{arith}
 use lib.ListN.{length, getD, drop}
 use borrow.Author.Tests.{not-true, not-false}
 use borrow.Author.Needs.{needs}
-use Rattle.formats.specs.Lines.{isDigit}
-use Rattle.formats.specs.Fields.{digitsAt}
-use Rattle.formats.proofs.Digits.{digits-over, more-here, stop-here, stop-past, digit-bounds}
+use Rattle.text_rules.specs.Lines.{isDigit}
+use Rattle.text_rules.specs.Fields.{digitsAt}
+use Rattle.text_rules.proofs.Digits.{digits-over, more-here, stop-here, stop-past, digit-bounds}
 use Rattle.text.proofs.reader.digits_at.Statement.{statement}
 use Rattle.text.proofs.reader.digits_at.Tie as tie
 

@@ -2,7 +2,7 @@
 -- Assumes nothing.
 use borrow.Author.Needs.{needs}
 use Rattle.laws.specs.Choice.{cases}
-use Rattle.formats.proofs.Places.{ending-placed}
+use Rattle.text_rules.proofs.Places.{ending-placed}
 use Rattle.text.proofs.reader.ending_at.Statement.{statement}
 use Rattle.text.proofs.reader.ending_at.Tie as tie
 

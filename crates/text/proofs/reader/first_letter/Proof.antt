@@ -2,7 +2,7 @@
 -- Assumes nothing.
 use borrow.Author.Needs.{needs}
 use Rattle.laws.specs.Choice.{cases}
-use Rattle.formats.proofs.Places.{letter-placed}
+use Rattle.text_rules.proofs.Places.{letter-placed}
 use Rattle.text.proofs.reader.first_letter.Statement.{statement}
 use Rattle.text.proofs.reader.first_letter.Tie as tie
 

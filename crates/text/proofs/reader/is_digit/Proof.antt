@@ -1,7 +1,7 @@
 -- `text::reader::is_digit` meets its contract: the flag is the second test where the first holds.
 -- Assumes nothing.
 use borrow.Author.Tests.{le-leb, lt-leb}
-use Rattle.formats.specs.Lines.{isDigit}
+use Rattle.text_rules.specs.Lines.{isDigit}
 use Rattle.text.proofs.reader.is_digit.Statement.{statement}
 use Rattle.text.proofs.reader.is_digit.Tie as tie
 

@@ -2,7 +2,7 @@
 -- Assumes nothing.
 use borrow.Author.Needs.{needs}
 use Rattle.laws.specs.Choice.{cases}
-use Rattle.formats.proofs.Places.{number-placed}
+use Rattle.text_rules.proofs.Places.{number-placed}
 use Rattle.text.proofs.reader.number_at.Statement.{statement}
 use Rattle.text.proofs.reader.number_at.Tie as tie
 

@@ -2,7 +2,7 @@
 -- Assumes nothing.
 use borrow.Author.Needs.{needs}
 use Rattle.laws.specs.Choice.{cases}
-use Rattle.formats.proofs.Places.{shortest-placed, turned}
+use Rattle.text_rules.proofs.Places.{shortest-placed, turned}
 use Rattle.text.proofs.reader.shortest_at.Statement.{statement}
 use Rattle.text.proofs.reader.shortest_at.Tie as tie
 

@@ -3,8 +3,8 @@
 use mathlib.Core.Path.{sym}
 use native.Mathlib.Omega.{arith}
 use borrow.Author.Needs.{needs}
-use Rattle.formats.proofs.DigitLaws.{decimal-at-most-20}
-use Rattle.formats.proofs.FieldLaws.{field-length, no-field-length}
+use Rattle.text_rules.proofs.DigitLaws.{decimal-at-most-20}
+use Rattle.text_rules.proofs.FieldLaws.{field-length, no-field-length}
 use Rattle.text.proofs.writer.field_width.Statement.{statement}
 use Rattle.text.proofs.writer.field_width.Tie as tie
 

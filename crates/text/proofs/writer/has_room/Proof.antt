@@ -1,6 +1,6 @@
 -- `text::writer::has_room` meets its contract.
 -- Assumes nothing.
-use Rattle.formats.proofs.RoomLaws.{room-left, no-room-past}
+use Rattle.text_rules.proofs.RoomLaws.{room-left, no-room-past}
 use Rattle.text.proofs.writer.has_room.Statement.{statement}
 use Rattle.text.proofs.writer.has_room.Tie as tie
 

@@ -2,9 +2,9 @@
 -- Assumes nothing.
 use native.Mathlib.Omega.{arith}
 use borrow.Author.Needs.{needs}
-use Rattle.formats.proofs.FieldLaws.{answer-is}
-use Rattle.formats.proofs.Length.{answer-length}
-use Rattle.formats.proofs.WroteLaws.{wrote-more, lent-fits}
+use Rattle.text_rules.proofs.FieldLaws.{answer-is}
+use Rattle.text_rules.proofs.Length.{answer-length}
+use Rattle.text_rules.proofs.WroteLaws.{wrote-more, lent-fits}
 use Rattle.text.proofs.writer.put_answer.Statement.{statement}
 use Rattle.text.proofs.writer.put_answer.Tie as tie
 

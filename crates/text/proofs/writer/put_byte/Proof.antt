@@ -1,7 +1,7 @@
 -- `text::writer::put_byte` meets its contract: a byte that is written at the first place stands in front of the rest.
 -- Assumes nothing.
 use borrow.Author.Needs.{needs}
-use Rattle.formats.proofs.WroteLaws.{wrote-none, wrote-byte}
+use Rattle.text_rules.proofs.WroteLaws.{wrote-none, wrote-byte}
 use Rattle.text.proofs.writer.put_byte.Statement.{statement}
 use Rattle.text.proofs.writer.put_byte.Tie as tie
 

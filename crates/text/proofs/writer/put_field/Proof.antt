@@ -9,12 +9,12 @@ use borrow.Author.Needs.{needs}
 use borrow.Rule.Slice.PartMut.{putMid}
 use lib.ListN.{length, set, length-set}
 use Rattle.terms.specs.Words.{tab}
-use Rattle.formats.specs.Decimal.{decimal}
-use Rattle.formats.specs.Records.{field}
-use Rattle.formats.specs.Wrote.{Wrote}
-use Rattle.formats.proofs.DigitLaws.{decimal-at-most-20}
-use Rattle.formats.proofs.FieldLaws.{field-there, field-none, field-length}
-use Rattle.formats.proofs.WroteLaws.{wrote-byte, wrote-none, wrote-more, wrote-length, lent-fits}
+use Rattle.text_rules.specs.Decimal.{decimal}
+use Rattle.text_rules.specs.Records.{field}
+use Rattle.text_rules.specs.Wrote.{Wrote}
+use Rattle.text_rules.proofs.DigitLaws.{decimal-at-most-20}
+use Rattle.text_rules.proofs.FieldLaws.{field-there, field-none, field-length}
+use Rattle.text_rules.proofs.WroteLaws.{wrote-byte, wrote-none, wrote-more, wrote-length, lent-fits}
 use Rattle.text.proofs.writer.put_field.Statement.{statement}
 use Rattle.text.proofs.writer.put_field.Tie as tie
 

@@ -2,7 +2,7 @@
 -- Assumes nothing.
 use native.Mathlib.Omega.{arith}
 use borrow.Author.Needs.{needs}
-use Rattle.formats.proofs.WroteLaws.{wrote-byte}
+use Rattle.text_rules.proofs.WroteLaws.{wrote-byte}
 use Rattle.text.proofs.writer.put_last.Statement.{statement}
 use Rattle.text.proofs.writer.put_last.Tie as tie
 

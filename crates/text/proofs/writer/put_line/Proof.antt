@@ -6,10 +6,10 @@ use native.Mathlib.Omega.{arith}
 use borrow.Author.Needs.{needs}
 use lib.ListN.{length}
 use Rattle.terms.specs.Words.{newline}
-use Rattle.formats.specs.Records.{field}
-use Rattle.formats.proofs.FieldLaws.{line-is}
-use Rattle.formats.proofs.Length.{line-length}
-use Rattle.formats.proofs.WroteLaws.{wrote-as, wrote-more, lent-fits}
+use Rattle.text_rules.specs.Records.{field}
+use Rattle.text_rules.proofs.FieldLaws.{line-is}
+use Rattle.text_rules.proofs.Length.{line-length}
+use Rattle.text_rules.proofs.WroteLaws.{wrote-as, wrote-more, lent-fits}
 use Rattle.text.proofs.writer.put_line.Statement.{statement}
 use Rattle.text.proofs.writer.put_line.Tie as tie
 

@@ -5,8 +5,8 @@ use mathlib.Core.Path.{_≡_}
 use mathlib.Core.List.{_++_}
 use native.Mathlib.Omega.{arith}
 use lib.ListN.{length, drop, length-set}
-use Rattle.formats.specs.Decimal.{decimal}
-use Rattle.formats.proofs.DigitLaws.{lastDigits, all-to-write, one-more, none-to-write}
+use Rattle.text_rules.specs.Decimal.{decimal}
+use Rattle.text_rules.proofs.DigitLaws.{lastDigits, all-to-write, one-more, none-to-write}
 use Rattle.text.proofs.writer.put_number.Statement.{statement}
 use Rattle.text.proofs.writer.put_number.Tie as tie
 

@@ -1,7 +1,7 @@
 -- `text::writer::put_second` meets its contract: the tab, and then the word in the part after it.
 -- Assumes nothing.
 use borrow.Author.Needs.{needs}
-use Rattle.formats.proofs.WroteLaws.{wrote-more}
+use Rattle.text_rules.proofs.WroteLaws.{wrote-more}
 use Rattle.text.proofs.writer.put_second.Statement.{statement}
 use Rattle.text.proofs.writer.put_second.Tie as tie
 

@@ -1,7 +1,7 @@
 -- `text::writer::width` meets its contract. The loop's invariant: so many digits are counted, and the digits of `rest` are left, of which the last counts as one.
 -- Assumes nothing.
 use native.Mathlib.Omega.{arith}
-use Rattle.formats.proofs.DigitLaws.{Counting, counting-first, counting-next, counting-last}
+use Rattle.text_rules.proofs.DigitLaws.{Counting, counting-first, counting-next, counting-last}
 use Rattle.text.proofs.writer.width.Statement.{statement}
 use Rattle.text.proofs.writer.width.Tie as tie
 

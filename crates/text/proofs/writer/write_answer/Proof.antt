@@ -6,13 +6,13 @@ use native.Mathlib.Omega.{arith}
 use borrow.Author.Needs.{needs}
 use mathlib.Core.Bool.{true}
 use lib.ListN.{length}
-use Rattle.formats.specs.Records.{answerRecord}
-use Rattle.formats.proofs.DigitLaws.{decimal-at-most-20}
-use Rattle.formats.proofs.FieldLaws.{field-at-most-21}
+use Rattle.text_rules.specs.Records.{answerRecord}
+use Rattle.text_rules.proofs.DigitLaws.{decimal-at-most-20}
+use Rattle.text_rules.proofs.FieldLaws.{field-at-most-21}
 use Rattle.text.proofs.WordLaws.{word-at-most-7, spelling-length}
-use Rattle.formats.proofs.Length.{answer-length}
-use Rattle.formats.proofs.RoomLaws.{room-for, no-room-for, written, refused}
-use Rattle.formats.proofs.WroteLaws.{wrote-none, wrote-more, lent-fits}
+use Rattle.text_rules.proofs.Length.{answer-length}
+use Rattle.text_rules.proofs.RoomLaws.{room-for, no-room-for, written, refused}
+use Rattle.text_rules.proofs.WroteLaws.{wrote-none, wrote-more, lent-fits}
 use Rattle.text.proofs.writer.write_answer.Statement.{statement}
 use Rattle.text.proofs.writer.write_answer.Tie as tie
 

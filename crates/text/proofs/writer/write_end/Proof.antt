@@ -5,8 +5,8 @@ use mathlib.Core.Path.{refl}
 use native.Mathlib.Omega.{arith}
 use borrow.Author.Needs.{needs}
 use lib.ListN.{length}
-use Rattle.formats.proofs.RoomLaws.{room-for, no-room-for, written, refused}
-use Rattle.formats.proofs.WroteLaws.{wrote-none, wrote-more, lent-fits}
+use Rattle.text_rules.proofs.RoomLaws.{room-for, no-room-for, written, refused}
+use Rattle.text_rules.proofs.WroteLaws.{wrote-none, wrote-more, lent-fits}
 use Rattle.text.proofs.writer.write_end.Statement.{statement}
 use Rattle.text.proofs.writer.write_end.Tie as tie
 

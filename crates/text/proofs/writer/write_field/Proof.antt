@@ -8,10 +8,10 @@ use native.Mathlib.Omega.{arith}
 use borrow.Author.Needs.{needs}
 use lib.ListN.{length}
 use Rattle.terms.specs.Words.{tab}
-use Rattle.formats.specs.Decimal.{decimal}
-use Rattle.formats.proofs.FieldLaws.{field-there}
-use Rattle.formats.proofs.RoomLaws.{room-for, no-room-for, written, refused}
-use Rattle.formats.proofs.WroteLaws.{wrote-none, wrote-as, wrote-more, lent-fits}
+use Rattle.text_rules.specs.Decimal.{decimal}
+use Rattle.text_rules.proofs.FieldLaws.{field-there}
+use Rattle.text_rules.proofs.RoomLaws.{room-for, no-room-for, written, refused}
+use Rattle.text_rules.proofs.WroteLaws.{wrote-none, wrote-as, wrote-more, lent-fits}
 use Rattle.text.proofs.writer.write_field.Statement.{statement}
 use Rattle.text.proofs.writer.write_field.Tie as tie
 

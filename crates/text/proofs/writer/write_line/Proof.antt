@@ -6,11 +6,11 @@ use native.Mathlib.Omega.{arith}
 use borrow.Author.Needs.{needs}
 use lib.ListN.{length}
 use Rattle.terms.specs.Letters.{hasJob, hasCell}
-use Rattle.formats.specs.Records.{field, lineRecord}
-use Rattle.formats.proofs.FieldLaws.{field-at-most-21}
-use Rattle.formats.proofs.Length.{line-length}
-use Rattle.formats.proofs.RoomLaws.{room-for, no-room-for, written, refused}
-use Rattle.formats.proofs.WroteLaws.{wrote-none, wrote-more, lent-fits}
+use Rattle.text_rules.specs.Records.{field, lineRecord}
+use Rattle.text_rules.proofs.FieldLaws.{field-at-most-21}
+use Rattle.text_rules.proofs.Length.{line-length}
+use Rattle.text_rules.proofs.RoomLaws.{room-for, no-room-for, written, refused}
+use Rattle.text_rules.proofs.WroteLaws.{wrote-none, wrote-more, lent-fits}
 use Rattle.text.proofs.writer.write_line.Statement.{statement}
 use Rattle.text.proofs.writer.write_line.Tie as tie
 

@@ -7,8 +7,8 @@ use borrow.Author.Needs.{needs}
 use lib.ListN.{length}
 use Rattle.terms.specs.Words.{spelt}
 use Rattle.text.proofs.WordLaws.{spelling-length}
-use Rattle.formats.proofs.RoomLaws.{room-for, no-room-for, written, refused}
-use Rattle.formats.proofs.WroteLaws.{wrote-none, wrote-more, lent-fits}
+use Rattle.text_rules.proofs.RoomLaws.{room-for, no-room-for, written, refused}
+use Rattle.text_rules.proofs.WroteLaws.{wrote-none, wrote-more, lent-fits}
 use Rattle.text.proofs.writer.write_word.Statement.{statement}
 use Rattle.text.proofs.writer.write_word.Tie as tie
 

@@ -1,0 +1,28 @@
+-- The desk that runs: its arrays take requests one step at a time, and the paper's desk is seen in them.
+use Rattle.conflict.specs.History.{History}
+use Rattle.desk_rules.specs.Desk as paper
+use Rattle.desk_rules.specs.Stepping.{Stepping}
+use Rattle.desk_rules.specs.Step.{StartedOn}
+use Rattle.desk_rules.specs.Seen.{seenBy}
+use Rattle.desk_rules.specs.Course.{Course, course}
+use Rattle.desk_arrays.specs.declared.state.Desk.{Desk}
+use Rattle.desk_arrays.specs.Steps.{emptyDesk, stepOf}
+use Rattle.desk_arrays.specs.Stands.{statusBy, modeBy, wakesTold}
+
+-- the paper's desk that is seen in the arrays
+abbrev pub view : Desk → paper.Desk
+view d = seenBy (d .next) (d .number) (statusBy d) (modeBy d)
+
+-- the step of the arrays: the desk it leaves, its answer, and the wakes that it tells
+abbrev pub onArrays : Stepping Desk
+onArrays d r =
+    let o = stepOf d (r .kind) (r .job) (r .cell) in
+    record { desk = o .desk; said = o .said .answer; wakes = wakesTold (o .said) }
+
+-- started arrays, and the history that they have written
+abbrev pub Started : Desk → History → Type 0
+Started = StartedOn onArrays emptyDesk
+
+-- what the desk that runs shows from now on
+abbrev pub running : Desk → Course
+running = course view onArrays

@@ -1,0 +1,34 @@
+// The numbers that stand for a status and for what was asked in the desk's arrays.
+use terms::letters::Ask;
+ghost use mathlib.Core.Path.{_≡_};
+ghost use Rattle.desk_arrays.specs.Codes.{askCode, askOf};
+
+pub const FREE: u8 = 0;
+
+pub const RUNNING: u8 = 1;
+
+pub const WAITING: u8 = 2;
+
+pub const SENT_BACK: u8 = 3;
+
+// The number that stands for what was asked.
+pub fn ask_code(a: Ask) -> u8
+    ensures { λ r. ⌜ r ≡ askCode a ⌝ }
+{
+    match a {
+        Ask::Read => 0,
+        Ask::Write => 1,
+        Ask::Increment => 2,
+    }
+}
+
+// What was asked, by its number.
+pub fn ask_of(code: u8) -> Ask
+    ensures { λ r. ⌜ r ≡ askOf code ⌝ }
+{
+    match code {
+        0 => Ask::Read,
+        1 => Ask::Write,
+        _ => Ask::Increment,
+    }
+}

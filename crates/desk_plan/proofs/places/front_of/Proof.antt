@@ -1,0 +1,49 @@
+-- `desk_plan::places::front_of` meets its contract. The loop's invariant: the youngest waiter of the places passed, with its number; the measure is what is left of 32.
+-- Assumes nothing.
+use Prim.Native.Nat.{_≤_, _-_}
+use mathlib.Core.Path.{ap, _∙_}
+use mathlib.Core.Logic.{⊎-elim}
+use native.Mathlib.Omega.{arith}
+use borrow.Author.Needs.{needs}
+use Rattle.desk_arrays.specs.Places.{youngest}
+use Rattle.desk_plan.proofs.Front.{Front, front-none, front-newer, front-same}
+use Rattle.desk_plan.proofs.places.front_of.Statement.{statement}
+use Rattle.desk_plan.proofs.places.front_of.Tie as tie
+
+abbrev Inv-loop : tie.InvT-loop
+Inv-loop number status cell c best₀ age₀ q₀ best age q = (q ≤ 32) × Front number status cell c q best age
+
+abbrev μ-loop : tie.MeasureT-loop
+μ-loop number status cell c best₀ age₀ q₀ best age q = 32 - q
+
+loop-holds : tie.Need-loop-holds Inv-loop μ-loop
+loop-holds c = (omega arith, front-none _ _ _ _ (c .pre))
+
+waits-above-requires : tie.Need-waits-above-requires Inv-loop μ-loop
+waits-above-requires c κs = omega arith
+
+mul-age : tie.Need-mul-age Inv-loop μ-loop
+mul-age c = search needs
+
+element-copy-out-age : tie.Need-element-copy-out-age Inv-loop μ-loop
+element-copy-out-age c = search needs
+
+add-q : tie.Need-add-q Inv-loop μ-loop
+add-q c = omega arith
+
+loop-less : tie.Need-loop-less Inv-loop μ-loop
+loop-less c = omega arith
+
+loop-again : tie.Need-loop-again Inv-loop μ-loop
+loop-again c =
+    ⊎-elim (λ w. (omega arith, front-newer (c .before .before .before .loop .inv .1) (c .before .waits-above .ensures) (w .0 .taken) (w .2) (w .3)))
+    (λ w. (omega arith, front-same (c .before .before .before .loop .inv .1) (c .before .waits-above .ensures) (w .0 .left) (w .1) (w .2)))
+    (c .if1 .came)
+
+returns : tie.Need-returns Inv-loop μ-loop
+returns c = c .before .loop .inv .1 .place ∙ ap (youngest _ _ _ _) (omega arith)
+
+pub front-of-spec : {M : Type 1} → statement M
+front-of-spec =
+    tie.close
+    (tie.spec Inv-loop μ-loop loop-holds waits-above-requires mul-age element-copy-out-age add-q loop-less loop-again returns)

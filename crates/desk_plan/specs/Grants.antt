@@ -1,0 +1,26 @@
+-- What rule 4 has to find out: the cells that somebody waits for, and whom it grants next on a cell, and what (01, rule 4).
+use Prim.Native.Nat.{ℕ, zero, suc}
+use mathlib.Core.Bool.{Bool, true, false, _&&_}
+use mathlib.Core.List.{List}
+use lib.Dec.{eqb, ltb}
+use lib.ListN.{getD, set, replicate}
+use Rattle.laws.specs.Choice.{pick}
+use Rattle.terms.specs.Limits.{places, cells}
+use Rattle.desk_arrays.specs.Codes.{waitingCode, askOf}
+use Rattle.desk_arrays.specs.Places.{youngest, wantsAt, agreesAt}
+use Rattle.desk_plan.specs.declared.grants.Grant.{Grant}
+use Rattle.desk_plan.specs.declared.grants.Grant.the-variants.{Nobody, To}
+
+-- the cells that some place below n waits for
+unfoldable pub wanted : List ℕ → List ℕ → ℕ → List Bool
+wanted status cell zero = replicate cells false
+wanted status cell (suc q) =
+    pick (eqb (getD status q 0) waitingCode) (set (wanted status cell q) (getD cell q 0) true) (wanted status cell q)
+
+-- the front of the cell's queue, if what it asks for agrees with the other holders; nobody where there is no such cell
+unfoldable pub frontGrant : List ℕ → List ℕ → List ℕ → List ℕ → List ℕ → ℕ → Grant
+frontGrant number status cell ask held c =
+    let p = youngest number status cell c places in
+    let a = askOf (getD ask p 0) in
+    let m = wantsAt held c p a in
+    pick (ltb c cells && (ltb p places && agreesAt held c p m)) (To p m) Nobody

@@ -1,0 +1,77 @@
+// What rule 4 has to find out: the cells that somebody waits for, and who is granted next on one (01, rule 4).
+use crate::places::agrees;
+use crate::places::front_of;
+use crate::places::mode_at;
+use crate::places::sized;
+use crate::places::wide;
+use conflict::modes::Mode;
+use conflict::modes::asked_mode;
+use conflict::modes::needed_mode;
+use desk_arrays::codes::WAITING;
+use desk_arrays::codes::ask_of;
+use desk_arrays::state::SPOTS;
+use terms::letters::Ask;
+use terms::limits::PLACES;
+ghost use Prim.Native.Nat.{_<_};
+ghost use mathlib.Core.Path.{_≡_};
+ghost use Rattle.desk_arrays.specs.Places.{wantsAt};
+ghost use Rattle.desk_plan.specs.Grants.{wanted, frontGrant};
+
+// Who is granted next: nobody, or a place, with the mode that it gets.
+pub enum Grant {
+    Nobody,
+    To(usize, Mode),
+}
+
+// The cells that somebody waits for.
+pub fn wanted_cells<'a>(status: &'a [u8; PLACES], cell: &'a [u8; PLACES]) -> [bool; 64]
+    ensures { λ r. ⌜ r ≡ wanted (now (status .entry)) (now (cell .entry)) 32 ⌝ }
+{
+    let mut cells = [false; 64];
+    let mut q: usize = 0;
+    while q < PLACES {
+        if status[q] == WAITING {
+            let c = wide(cell[q]);
+            if c < 64 {
+                cells[c] = true;
+            }
+        }
+        q += 1;
+    }
+    cells
+}
+
+// The mode that a place asks for on a cell.
+fn wanted_mode(held: &[u8; SPOTS], c: usize, p: usize, a: Ask) -> Mode
+    requires { ⌜ (c < 64) × (p < 32) ⌝ }
+    ensures { λ r. ⌜ r ≡ wantsAt (now (held .entry)) c p a ⌝ }
+{
+    asked_mode(mode_at(held, c, p), needed_mode(a))
+}
+
+// The front of a cell's queue, if what it asks for agrees with the other holders; nobody where there is no such cell.
+pub fn front_grant<'a>(
+    number: &'a [u32; PLACES],
+    status: &'a [u8; PLACES],
+    cell: &'a [u8; PLACES],
+    ask: &'a [u8; PLACES],
+    held: &[u8; SPOTS],
+    c: usize,
+) -> Grant
+    ensures { λ r. ⌜ r ≡ frontGrant (now (number .entry)) (now (status .entry)) (now (cell .entry)) (now (ask .entry)) (now (held .entry)) c ⌝ }
+{
+    if 64 <= c {
+        return Grant::Nobody;
+    }
+    sized(*number, *status);
+    let p = front_of(number, status, cell, c);
+    if PLACES <= p {
+        return Grant::Nobody;
+    }
+    let a = ask_of(ask[p]);
+    let m = wanted_mode(held, c, p, a);
+    if agrees(held, c, p, m) {
+        return Grant::To(p, m);
+    }
+    Grant::Nobody
+}

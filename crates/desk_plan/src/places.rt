@@ -1,0 +1,248 @@
+// Tests over the places of the desk: who holds a cell beside whom, who is older, who waits (01, rules 2 to 4).
+use conflict::modes::Mode;
+use conflict::modes::mode_grants;
+use conflict::modes::mode_is_free;
+use conflict::modes::mode_of;
+use desk_arrays::codes::WAITING;
+use desk_arrays::state::SPOTS;
+use terms::limits::PLACES;
+ghost use Prim.Native.Nat.{_<_};
+ghost use mathlib.Core.Path.{_≡_};
+ghost use mathlib.Core.Bool.{not, _&&_, _||_};
+ghost use lib.Dec.{eqb, ltb};
+ghost use lib.ListN.{length, getD};
+ghost use Rattle.laws.specs.Lists.{pos};
+ghost use Rattle.conflict.specs.Modes.{grants, isFree};
+ghost use Rattle.desk_arrays.specs.Places.{modeAt, agreesAt, aloneAt, olderAt, waitsAt, nobodyWaits, oldestOf, youngest};
+
+// Numbers and statuses of as many places as there are: what a lent array does not say of itself.
+pub fn sized(number: [u32; PLACES], status: [u8; PLACES]) -> bool
+    ensures { λ r. ⌜ (length number ≡ 32) × (length status ≡ 32) ⌝ }
+{
+    true
+}
+
+// The place of a job, or 32; the first free place is that of job 0.
+pub fn place_of(number: &[u32; PLACES], job: u32) -> usize
+    requires { ⌜ length (now number) ≡ 32 ⌝ }
+    ensures { λ r. ⌜ r ≡ pos (now (number .entry)) job ⌝ }
+{
+    let mut p: usize = 0;
+    while p < PLACES {
+        if number[p] == job {
+            return p;
+        }
+        p += 1;
+    }
+    p
+}
+
+// The mode that a place holds on a cell.
+pub fn mode_at(held: &[u8; SPOTS], c: usize, p: usize) -> Mode
+    requires { ⌜ (c < 64) × (p < 32) ⌝ }
+    ensures { λ r. ⌜ r ≡ modeAt (now (held .entry)) c p ⌝ }
+{
+    mode_of(held[c * PLACES + p])
+}
+
+// Whether a place is the job's own, or what it holds on the cell lets the mode be granted.
+fn grants_at(held: &[u8; SPOTS], c: usize, p: usize, m: Mode, q: usize) -> bool
+    requires { ⌜ (c < 64) × (q < 32) ⌝ }
+    ensures { λ r. ⌜ r ≡ (eqb q p || grants (modeAt (now (held .entry)) c q) m) ⌝ }
+{
+    if q == p {
+        return true;
+    }
+    mode_grants(mode_at(held, c, q), m)
+}
+
+// Whether a mode agrees with what every other place holds on the cell.
+pub fn agrees(held: &[u8; SPOTS], c: usize, p: usize, m: Mode) -> bool
+    requires { ⌜ c < 64 ⌝ }
+    ensures { λ r. ⌜ r ≡ agreesAt (now (held .entry)) c p m ⌝ }
+{
+    let mut q: usize = 0;
+    while q < PLACES {
+        if !grants_at(held, c, p, m, q) {
+            return false;
+        }
+        q += 1;
+    }
+    true
+}
+
+// Whether a place is the job's own, or holds nothing on the cell.
+fn leaves_at(held: &[u8; SPOTS], c: usize, p: usize, q: usize) -> bool
+    requires { ⌜ (c < 64) × (q < 32) ⌝ }
+    ensures { λ r. ⌜ r ≡ (eqb q p || isFree (modeAt (now (held .entry)) c q)) ⌝ }
+{
+    if q == p {
+        return true;
+    }
+    mode_is_free(mode_at(held, c, q))
+}
+
+// Whether no other place holds the cell.
+pub fn alone(held: &[u8; SPOTS], c: usize, p: usize) -> bool
+    requires { ⌜ c < 64 ⌝ }
+    ensures { λ r. ⌜ r ≡ aloneAt (now (held .entry)) c p ⌝ }
+{
+    let mut q: usize = 0;
+    while q < PLACES {
+        if !leaves_at(held, c, p, q) {
+            return false;
+        }
+        q += 1;
+    }
+    true
+}
+
+// Whether a place is the job's own, holds nothing on the cell, or is that of a younger job.
+fn older_at<'a>(
+    held: &'a [u8; SPOTS],
+    number: &'a [u32; PLACES],
+    c: usize,
+    p: usize,
+    job: u32,
+    q: usize,
+) -> bool
+    requires { ⌜ (c < 64) × (q < 32) ⌝ }
+    ensures { λ r. ⌜ r ≡ (eqb q p || (isFree (modeAt (now (held .entry)) c q) || ltb job (getD (now (number .entry)) q 0))) ⌝ }
+{
+    if leaves_at(held, c, p, q) {
+        return true;
+    }
+    job < number[q]
+}
+
+// Whether the job, at place p, is older than every other holder of the cell.
+pub fn older_than_holders<'a>(
+    held: &'a [u8; SPOTS],
+    number: &'a [u32; PLACES],
+    c: usize,
+    p: usize,
+    job: u32,
+) -> bool
+    requires { ⌜ c < 64 ⌝ }
+    ensures { λ r. ⌜ r ≡ olderAt (now (held .entry)) (now (number .entry)) c p job ⌝ }
+{
+    let mut q: usize = 0;
+    while q < PLACES {
+        if !older_at(held, number, c, p, job, q) {
+            return false;
+        }
+        q += 1;
+    }
+    true
+}
+
+// A byte as an index.
+pub fn wide(byte: u8) -> usize
+    ensures { λ r. ⌜ r ≡ byte ⌝ }
+{
+    byte as usize
+}
+
+// Whether a place waits for the cell; few places have its number, so that is looked at first.
+pub fn waits_for<'a>(status: &'a [u8; PLACES], cell: &'a [u8; PLACES], c: usize, q: usize) -> bool
+    requires { ⌜ q < 32 ⌝ }
+    ensures { λ r. ⌜ r ≡ waitsAt (now (status .entry)) (now (cell .entry)) c q ⌝ }
+{
+    if wide(cell[q]) == c {
+        return status[q] == WAITING;
+    }
+    false
+}
+
+// Whether nobody waits for the cell.
+pub fn nobody_waits<'a>(status: &'a [u8; PLACES], cell: &'a [u8; PLACES], c: usize) -> bool
+    ensures { λ r. ⌜ r ≡ nobodyWaits (now (status .entry)) (now (cell .entry)) c ⌝ }
+{
+    let mut q: usize = 0;
+    while q < PLACES {
+        if waits_for(status, cell, c, q) {
+            return false;
+        }
+        q += 1;
+    }
+    true
+}
+
+// Whether a place does not wait for the cell, or is that of a younger job.
+fn waits_older<'a>(
+    number: &'a [u32; PLACES],
+    status: &'a [u8; PLACES],
+    cell: &'a [u8; PLACES],
+    c: usize,
+    job: u32,
+    q: usize,
+) -> bool
+    requires { ⌜ q < 32 ⌝ }
+    ensures { λ r. ⌜ r ≡ (not (waitsAt (now (status .entry)) (now (cell .entry)) c q) || ltb job (getD (now (number .entry)) q 0)) ⌝ }
+{
+    if waits_for(status, cell, c, q) {
+        return job < number[q];
+    }
+    true
+}
+
+// Whether the job is older than every waiter of the cell.
+pub fn older_than_waiters<'a>(
+    number: &'a [u32; PLACES],
+    status: &'a [u8; PLACES],
+    cell: &'a [u8; PLACES],
+    c: usize,
+    job: u32,
+) -> bool
+    ensures { λ r. ⌜ r ≡ oldestOf (now (number .entry)) (now (status .entry)) (now (cell .entry)) c job ⌝ }
+{
+    let mut q: usize = 0;
+    while q < PLACES {
+        if !waits_older(number, status, cell, c, job, q) {
+            return false;
+        }
+        q += 1;
+    }
+    true
+}
+
+// Whether a place waits for the cell with a number above the one given.
+fn waits_above<'a>(
+    number: &'a [u32; PLACES],
+    status: &'a [u8; PLACES],
+    cell: &'a [u8; PLACES],
+    c: usize,
+    age: u32,
+    q: usize,
+) -> bool
+    requires { ⌜ q < 32 ⌝ }
+    ensures { λ r. ⌜ r ≡ (waitsAt (now (status .entry)) (now (cell .entry)) c q && ltb age (getD (now (number .entry)) q 0)) ⌝ }
+{
+    if waits_for(status, cell, c, q) {
+        return age < number[q];
+    }
+    false
+}
+
+// The place of the youngest that waits for the cell, or 32: the front of its queue.
+pub fn front_of<'a>(
+    number: &'a [u32; PLACES],
+    status: &'a [u8; PLACES],
+    cell: &'a [u8; PLACES],
+    c: usize,
+) -> usize
+    requires { ⌜ length (now number) ≡ 32 ⌝ }
+    ensures { λ r. ⌜ r ≡ youngest (now (number .entry)) (now (status .entry)) (now (cell .entry)) c 32 ⌝ }
+{
+    let mut best: usize = PLACES;
+    let mut age: u32 = 0;
+    let mut q: usize = 0;
+    while q < PLACES {
+        if waits_above(number, status, cell, c, age, q) {
+            best = q;
+            age = number[q];
+        }
+        q += 1;
+    }
+    best
+}

@@ -1,0 +1,125 @@
+-- Settling one row: what is woken stands ahead of what is left, locks only grow, a woken job holds what it wanted, and what holds of every row holds again. By one induction on the queue.
+-- Assumes nothing.
+use Prim.Native.Nat.{ℕ, _<_}
+use mathlib.Core.Path.{_≡_, refl, sym, ap, subst, _∙_}
+use mathlib.Core.Logic.{_≢_}
+use mathlib.Core.Bool.{true, false}
+use mathlib.Core.List.{List, [], _∷_, _++_}
+use native.Mathlib.Omega.{arith}
+use Rattle.laws.specs.Choice.{by-test}
+use Rattle.conflict.specs.declared.modes.Mode.{Mode}
+use Rattle.conflict.specs.Modes.{needed, covers, beside, grants, asked, isFree}
+use Rattle.laws.specs.Lists.{member}
+use Rattle.conflict.proofs.ModeLaws.{beside-sym, grants-beside, covers-refl, covers-trans, asked-grows, asked-covers}
+use Rattle.desk_rules.specs.Desk.{Waiter, at, In, first, later}
+use Rattle.desk_rules.specs.Locks.{agrees, wants, wokenFirst, Settled, settle}
+use Rattle.desk_rules.specs.Releasing.{Seated}
+use Rattle.desk_rules.specs.Invariant.{Falling, FirstBlocked}
+use Rattle.desk_rules.proofs.Queue.{in-none, in-split, in-left}
+use Rattle.desk_rules.proofs.Tests.{at-same, at-other, at-each, agrees-each, agrees-not}
+
+-- a row that can be settled: who holds and who waits is listed, and it is as every row is but for the blocker
+pub record Ready (js : List ℕ) (held : ℕ → Mode) (q : List Waiter) : Type 0 where
+  pub seats : Seated js held
+  pub waits : (w : Waiter) → In w q → member (w .job) js ≡ true
+  pub pairs : (i j : ℕ) → i ≢ j → beside (held i) (held j) ≡ true
+  pub elder : (w : Waiter) (i : ℕ) → In w q → i ≢ w .job → isFree (held i) ≡ false → w .job < i
+  pub down : Falling q
+
+-- a row that was settled
+pub record Settles (js : List ℕ) (held : ℕ → Mode) (q : List Waiter) (s : Settled) : Type 0 where
+  -- what is woken stands ahead of what is left
+  pub parted : q ≡ s .woken ++ s .row .queue
+  -- a job that is not woken holds what it held
+  pub kept : (i : ℕ) → ((w : Waiter) → In w (s .woken) → w .job ≢ i) → s .row .held i ≡ held i
+  -- a woken job holds what it wanted
+  pub takes : (w : Waiter) → In w (s .woken) → s .row .held (w .job) ≡ wants held w
+  -- locks only grow
+  pub grown : (i : ℕ) → covers (s .row .held i) (held i) ≡ true
+  -- holders are listed, beside each other and younger than the waiters left, the queue falls, and whoever is first in it is blocked
+  pub seats : Seated js (s .row .held)
+  pub pairs : (i j : ℕ) → i ≢ j → beside (s .row .held i) (s .row .held j) ≡ true
+  pub elder : (w : Waiter) (i : ℕ) → In w (s .row .queue) → i ≢ w .job → isFree (s .row .held i) ≡ false → w .job < i
+  pub down : Falling (s .row .queue)
+  pub blocked : FirstBlocked (s .row .held) (s .row .queue)
+
+-- the mode that a waiter wants covers what it needs
+pub wants-covers : (held : ℕ → Mode) (w : Waiter) → covers (wants held w) (needed (w .ask)) ≡ true
+unfolding wants
+wants-covers held w = asked-covers (held (w .job)) (needed (w .ask))
+
+-- and what it holds
+pub wants-grows : (held : ℕ → Mode) (w : Waiter) → covers (wants held w) (held (w .job)) ≡ true
+unfolding wants
+wants-grows held w = asked-grows (held (w .job)) (needed (w .ask))
+
+-- what a waiter wants depends on what it holds alone
+pub wants-same : (f g : ℕ → Mode) (w : Waiter) → f (w .job) ≡ g (w .job) → wants f w ≡ wants g w
+unfolding wants
+wants-same f g w e = ap (λ m. asked m (needed (w .ask))) e
+
+-- a job that takes a mode granted next to every other job leaves the locks beside each other
+pub taking-pairs : (held : ℕ → Mode) (j : ℕ) (m : Mode) → ((i : ℕ) → i ≢ j → grants (held i) m ≡ true) → ((i k : ℕ) → i ≢ k → beside (held i) (held k) ≡ true) → (i k : ℕ) → i ≢ k → beside (at held j m i) (at held j m k) ≡ true
+taking-pairs held j m g p i k n =
+    at-each (λ x. beside x (at held j m k) ≡ true) held j m i
+    (λ e. rw (at-other held j m k (λ f. n (e ∙ sym f))) (beside-sym m (held k) ∙ grants-beside (held k) m (g k (λ f. n (e ∙ sym f)))))
+    (λ d. at-each (λ x. beside (held i) x ≡ true) held j m k (λ e. grants-beside (held i) m (g i d)) (λ _. p i k n))
+
+module _ (js : List ℕ) (held : ℕ → Mode) (w : Waiter) (q : List Waiter) (r : Ready js held (w ∷ q)) where
+  -- once the first waiter is granted, the row can be settled further: it is younger than the waiters left, because the queue falls
+  granted-ready : agrees js held (w .job) (wants held w) ≡ true → Ready js (at held (w .job) (wants held w)) q
+  granted-ready a = record {
+    seats = λ i. at-each (λ x. isFree x ≡ false → member i js ≡ true) held (w .job) (wants held w) i
+        (λ e _. ap (λ k. member k js) e ∙ r .waits w first) (λ _. r .seats i);
+    waits = λ v h. r .waits v (later h);
+    pairs = taking-pairs held (w .job) (wants held w) (agrees-each js held (w .job) (wants held w) (r .seats) a) (r .pairs);
+    elder = λ v i h n. at-each (λ x. isFree x ≡ false → v .job < i) held (w .job) (wants held w) i
+        (λ e _. subst (λ k. v .job < k) (sym e) (r .down .0 v h)) (λ _. r .elder v i (later h) n);
+    down = r .down .1;
+  }
+
+  -- who is woken further is another job
+  woken-other : (s : Settled) → Settles js (at held (w .job) (wants held w)) q s → (v : Waiter) → In v (s .woken) → v .job ≢ w .job
+  woken-other s t v h e =
+      let l : v .job < w .job = r .down .0 v (subst (In v) (sym (t .parted)) (in-left (s .row .queue) h)) in
+      omega arith
+
+  -- and what was so settled, with the first waiter woken, is the row settled
+  granted-settles : (s : Settled) → Settles js (at held (w .job) (wants held w)) q s → Settles js held (w ∷ q) (wokenFirst w s)
+  unfolding wokenFirst
+  granted-settles s t = record {
+    parted = ap (λ l. w ∷ l) (t .parted);
+    kept = λ i n. t .kept i (λ v h. n v (later h)) ∙ at-other held (w .job) (wants held w) i (λ e. n w first (sym e));
+    takes = λ v h. in-split h (λ e. subst (λ x. s .row .held (x .job) ≡ wants held x) (sym e) (t .kept (w .job) (woken-other s t) ∙ at-same held (w .job) (wants held w)))
+        (λ l. t .takes v l ∙ wants-same (at held (w .job) (wants held w)) held v (at-other held (w .job) (wants held w) (v .job) (woken-other s t v l)));
+    grown = λ i. covers-trans (s .row .held i) (at held (w .job) (wants held w) i) (held i) (t .grown i)
+        (at-each (λ x. covers x (held i) ≡ true) held (w .job) (wants held w) i (λ e. subst (λ k. covers (wants held w) (held k) ≡ true) (sym e) (wants-grows held w)) (λ _. covers-refl (held i)));
+    seats = t .seats;
+    pairs = t .pairs;
+    elder = t .elder;
+    down = t .down;
+    blocked = t .blocked;
+  }
+
+-- where whoever is first is blocked, the search stops and nothing changes
+stopped-settles : (js : List ℕ) (held : ℕ → Mode) (q : List Waiter) → Ready js held q → FirstBlocked held q → Settles js held q (record { row = record { held = held; queue = q }; woken = [] })
+stopped-settles js held q r b = record {
+  parted = refl;
+  kept = λ i n. refl;
+  takes = λ v h. in-none h;
+  grown = λ i. covers-refl (held i);
+  seats = r .seats;
+  pairs = r .pairs;
+  elder = r .elder;
+  down = r .down;
+  blocked = b;
+}
+
+-- settling a row that can be settled: at a waiter that does not agree the search stops, since some other job is in its way
+pub settle-settles : (js : List ℕ) (held : ℕ → Mode) (q : List Waiter) → Ready js held q → Settles js held q (settle js held q)
+unfolding settle
+settle-settles js held [] r = stopped-settles js held [] r tt
+settle-settles js held (w ∷ q) r =
+    by-test (agrees js held (w .job) (wants held w))
+    (λ t. rw t (granted-settles js held w q r (settle js (at held (w .job) (wants held w)) q) (settle-settles js (at held (w .job) (wants held w)) q (granted-ready js held w q r t))))
+    (λ f. rw f (stopped-settles js held (w ∷ q) r (agrees-not js held (w .job) (wants held w) f)))

@@ -1,0 +1,31 @@
+-- The records of the wakes: each is of a wake, and a job has one exactly if it is among the wakes.
+-- Assumes nothing.
+use Prim.Native.Nat.{ℕ}
+use mathlib.Core.Path.{_≡_, ap, _∙_}
+use mathlib.Core.Bool.{_||_}
+use mathlib.Core.List.{List, [], _∷_}
+use lib.Dec.{eqb}
+use Rattle.conflict.specs.declared.action.Action.{Action}
+use Rattle.conflict.specs.declared.action.Event.the-variants.{Does}
+use Rattle.conflict.specs.History.{lineOf}
+use Rattle.conflict.proofs.OneEvent.{line-none, line-does}
+use Rattle.desk_rules.specs.Desk.{In, later}
+use Rattle.desk_rules.specs.Rules.{isWoken}
+use Rattle.desk_rules.specs.Step.{wakeRecords}
+use Rattle.desk_rules.proofs.Queue.{in-none, in-split, is-first}
+
+-- an action is one other action only if they are the same
+pub same-action : {x y : Action} → Does x ≡ Does y → x ≡ y
+same-action e = cc
+
+-- an action whose record stands among theirs is one of the wakes
+pub recorded-wake : {a : Action} (xs : List Action) → In (Does a) (wakeRecords xs) → In a xs
+unfolding wakeRecords
+recorded-wake [] h = in-none h
+recorded-wake {a} (x ∷ xs) h = in-split h (λ e. is-first (same-action e)) (λ k. later (recorded-wake xs k))
+
+-- a line of a job stands among the records exactly if the job is among the wakes
+pub line-woken : (j : ℕ) (xs : List Action) → lineOf j (wakeRecords xs) ≡ isWoken j xs
+unfolding wakeRecords isWoken
+line-woken j [] = line-none j
+line-woken j (a ∷ xs) = line-does j a (wakeRecords xs) ∙ ap (λ b. eqb (a .job) j || b) (line-woken j xs)

@@ -1,0 +1,21 @@
+-- An answer in the paper's words and numbers: its word, and the number beside it (01, Refusals by number; 01, Lines).
+use Prim.Native.Nat.{ℕ}
+use Rattle.terms.specs.declared.words.Word.{Word}
+use Rattle.terms.specs.declared.words.Word.the-variants.{Go, Wait, Back, No}
+use Rattle.terms.specs.Refusals.{numberOf}
+use Rattle.desk_rules.specs.declared.Answer.{Answer}
+use Rattle.desk_rules.specs.declared.Answer.the-variants.{Go as goes, Wait as waits, Back as back, No as refuses}
+
+-- the word of an answer
+unfoldable pub wordOf : Answer → Word
+wordOf (goes j) = Go
+wordOf (waits j) = Wait
+wordOf (back j) = Back
+wordOf (refuses why) = No
+
+-- the number beside it: the job, or the refusal's number (01, Lines)
+unfoldable pub numberBeside : Answer → ℕ
+numberBeside (goes j) = j
+numberBeside (waits j) = j
+numberBeside (back j) = j
+numberBeside (refuses why) = numberOf why

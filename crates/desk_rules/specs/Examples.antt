@@ -1,0 +1,107 @@
+-- Requests by numbers, and what a desk answers them: the paper's samples S11 and S12, which cells there are, and which of two refusals comes first (01, Samples to hold it against; 01, Refusals by number).
+use Prim.Native.Nat.{ℕ, zero, suc}
+use mathlib.Core.List.{List, [], _∷_, _++_}
+use Rattle.terms.specs.declared.words.Word.{Word}
+use Rattle.terms.specs.declared.words.Word.the-variants.{Go, Wait, Back, No}
+use Rattle.desk_rules.specs.declared.Answer.{Answer}
+use Rattle.desk_rules.specs.AnswerWords.{wordOf, numberBeside}
+use Rattle.desk_rules.specs.Desk.{Request}
+use Rattle.desk_rules.specs.Stepping.{Stepping}
+
+-- an answer as its record has it: the word, and the number beside it (01, Lines)
+pub record Said : Type 0 where
+  pub word : Word
+  pub number : ℕ
+
+-- an answer so told
+unfoldable pub toldOf : Answer → Said
+toldOf a = record { word = wordOf a; number = numberBeside a }
+
+-- the answers of any desk to requests, in their order
+unfoldable pub answersOf : {S : Type 0} → Stepping S → S → List Request → List Said
+answersOf step d [] = []
+answersOf step d (r ∷ rs) = toldOf (step d r .said) ∷ answersOf step (step d r .desk) rs
+
+-- a desk started at a first number, requests to it, and its answers
+pub record Example : Type 0 where
+  pub start : ℕ
+  pub requests : List Request
+  pub answers : List Said
+
+-- a request by its three numbers; the kinds are 98 begin, 99 commit, 97 give up, 116 retry, 114 read, 119 write, 105 increment
+abbrev pub request : ℕ → ℕ → ℕ → Request
+request kind job cell = record { kind = kind; job = job; cell = cell }
+
+-- so many begins
+abbrev pub begins : ℕ → List Request
+begins zero = []
+begins (suc n) = request 98 0 0 ∷ begins n
+
+-- the answers go, wait and back with a job, and no with a refusal
+abbrev pub go : ℕ → Said
+go j = record { word = Go; number = j }
+
+abbrev pub wait : ℕ → Said
+wait j = record { word = Wait; number = j }
+
+abbrev pub back : ℕ → Said
+back j = record { word = Back; number = j }
+
+abbrev pub no : ℕ → Said
+no n = record { word = No; number = n }
+
+-- so many jobs go, under the numbers from one on
+abbrev pub goFrom : ℕ → ℕ → List Said
+goFrom j zero = []
+goFrom j (suc n) = go j ∷ goFrom (suc j) n
+
+-- the examples
+abbrev pub examples : List Example
+examples =
+    -- S11: started at 4,294,967,295 one begin goes, and the next gets 7
+    record { start = 4294967295; requests = begins 2; answers = go 4294967295 ∷ no 7 ∷ [] }
+    -- S12: 32 begins go, the 33rd gets 6; after one give-up it goes
+    ∷ record {
+      start = 1;
+      requests = begins 33 ++ request 97 7 0 ∷ request 98 0 0 ∷ request 98 0 0 ∷ [];
+      answers = goFrom 1 32 ++ no 6 ∷ go 7 ∷ go 33 ∷ no 6 ∷ [];
+    }
+    -- begin tests 7, then 6: with 32 jobs open and the last number given it gets 7, and so it does with a place free
+    ∷ record {
+      start = 4294967264;
+      requests = begins 33 ++ request 97 4294967264 0 ∷ request 98 0 0 ∷ [];
+      answers = goFrom 4294967264 32 ++ no 7 ∷ go 4294967264 ∷ no 7 ∷ [];
+    }
+    -- there are cells 0 and 63, and above 63 none: 2 for a read, a write and an increment of a running job; a commit does not read the cell
+    ∷ record {
+      start = 1;
+      requests = request 98 0 0 ∷ request 114 1 0 ∷ request 114 1 63 ∷ request 114 1 64 ∷ request 119 1 64 ∷ request 105 1 4294967295 ∷ request 99 1 64 ∷ [];
+      answers = go 1 ∷ go 1 ∷ go 1 ∷ no 2 ∷ no 2 ∷ no 2 ∷ go 1 ∷ [];
+    }
+    -- 3 before 2: of a job that has closed, of one that was never begun, and of 0; and no other request of them gets anything else
+    ∷ record {
+      start = 1;
+      requests = request 98 0 0 ∷ request 99 1 0 ∷ request 114 1 64 ∷ request 119 2 64 ∷ request 105 0 64 ∷ request 99 1 0 ∷ request 97 1 0 ∷ request 116 1 0 ∷ [];
+      answers = go 1 ∷ go 1 ∷ no 3 ∷ no 3 ∷ no 3 ∷ no 3 ∷ no 3 ∷ no 3 ∷ [];
+    }
+    -- 4 before 2: of a waiting job; its commit and its retry get 4 too, and it may give up
+    ∷ record {
+      start = 1;
+      requests = begins 2 ++ request 114 2 5 ∷ request 119 1 5 ∷ request 114 1 64 ∷ request 119 1 5 ∷ request 99 1 0 ∷ request 116 1 0 ∷ request 97 1 0 ∷ [];
+      answers = goFrom 1 2 ++ go 2 ∷ wait 1 ∷ no 4 ∷ no 4 ∷ no 4 ∷ no 4 ∷ go 1 ∷ [];
+    }
+    -- 5 before 2: of a sent back job; its commit gets 5 too, and it may retry; then a retry gets 8, whatever its cell, and a read of cell 64 gets 2
+    ∷ record {
+      start = 1;
+      requests = begins 2 ++ request 114 1 5 ∷ request 119 2 5 ∷ request 114 2 64 ∷ request 105 2 5 ∷ request 99 2 0 ∷ request 116 2 64 ∷ request 116 2 64 ∷ request 114 2 64 ∷ [];
+      answers = goFrom 1 2 ++ go 1 ∷ back 2 ∷ no 5 ∷ no 5 ∷ no 5 ∷ go 2 ∷ no 8 ∷ no 2 ∷ [];
+    }
+    -- a sent back job may give up
+    ∷ record {
+      start = 1;
+      requests = begins 2 ++ request 114 1 5 ∷ request 119 2 5 ∷ request 97 2 0 ∷ request 116 2 0 ∷ [];
+      answers = goFrom 1 2 ++ go 1 ∷ back 2 ∷ go 2 ∷ no 3 ∷ [];
+    }
+    -- 1 first, whatever the job and the cell: k is no request, nor is 0 or 255
+    ∷ record { start = 1; requests = request 107 1 64 ∷ request 0 0 0 ∷ request 255 1 5 ∷ []; answers = no 1 ∷ no 1 ∷ no 1 ∷ [] }
+    ∷ []

@@ -1,0 +1,59 @@
+-- What holds of every started desk: of each row, and of the desk as a whole. Stated here; that every step keeps it is proved in the files that cite it.
+use Prim.Native.Nat.{ℕ, _<_}
+use mathlib.Core.Path.{_≡_}
+use mathlib.Core.Logic.{_≢_}
+use mathlib.Core.Bool.{true, false}
+use mathlib.Core.List.{List, [], _∷_}
+use lib.ListN.{length}
+use Rattle.terms.specs.declared.letters.Ask.{Ask}
+use Rattle.terms.specs.Limits.{cells, places}
+use Rattle.conflict.specs.declared.modes.Mode.{Mode}
+use Rattle.conflict.specs.Modes.{beside, grants, isFree}
+use Rattle.laws.specs.Lists.{member}
+use Rattle.desk_rules.specs.Desk.{Status, closed, waiting, Waiter, Row, Desk, isOpen, isLive, In}
+use Rattle.desk_rules.specs.Locks.{wants}
+
+-- the queue runs from younger to older
+abbrev pub Falling : List Waiter → Type 0
+Falling [] = Unit {0}
+Falling (w ∷ q) = ((v : Waiter) → In v q → v .job < w .job) × Falling q
+
+-- the first waiter, if there is one, has somebody in its way: another job whose mode does not grant what it wants
+abbrev pub FirstBlocked : (ℕ → Mode) → List Waiter → Type 0
+FirstBlocked held [] = Unit {0}
+FirstBlocked held (w ∷ q) = (i : ℕ) × (i ≢ w .job) × (grants (held i) (wants held w) ≡ false)
+
+-- of one cell
+pub record RowInv (stat : ℕ → Status) (c : ℕ) (r : Row) : Type 0 where
+  -- modes held by different jobs are beside each other
+  pub pairs : (i j : ℕ) → i ≢ j → beside (r .held i) (r .held j) ≡ true
+  -- a waiter is older than every other holder
+  pub elder : (w : Waiter) (i : ℕ) → In w (r .queue) → i ≢ w .job → isFree (r .held i) ≡ false → w .job < i
+  pub down : Falling (r .queue)
+  pub blocked : FirstBlocked (r .held) (r .queue)
+  -- a waiter's status says so: it waits for this cell with this ask
+  pub stands : (w : Waiter) → In w (r .queue) → stat (w .job) ≡ waiting c (w .ask)
+  -- a holder is live
+  pub holds : (j : ℕ) → isFree (r .held j) ≡ false → isLive (stat j) ≡ true
+  -- only cells that there are have waiters
+  pub within : (w : Waiter) → In w (r .queue) → c < cells
+
+-- no number stands twice among the places, 0 for a free place apart
+abbrev pub Once : List ℕ → Type 0
+Once [] = Unit {0}
+Once (k ∷ ks) = (k ≢ 0 → member k ks ≡ false) × Once ks
+
+-- of the desk
+pub record Inv (d : Desk) : Type 0 where
+  pub rows : (c : ℕ) → RowInv (d .stat) c (d .row c)
+  -- waiting in the status is standing in that queue
+  pub queues : (j c : ℕ) (a : Ask) → d .stat j ≡ waiting c a → In (record { job = j; ask = a }) (d .row c .queue)
+  -- the open jobs are those in the places
+  pub seats : (j : ℕ) → isOpen (d .stat j) ≡ true → member j (d .jobs) ≡ true
+  pub opens : (j : ℕ) → j ≢ 0 → member j (d .jobs) ≡ true → isOpen (d .stat j) ≡ true
+  pub nobody : d .stat 0 ≡ closed
+  pub once : Once (d .jobs)
+  pub size : length (d .jobs) ≡ places
+  -- every open job's number was given
+  pub below : (j : ℕ) → isOpen (d .stat j) ≡ true → j < d .next
+  pub some : 0 < d .next

@@ -1,0 +1,27 @@
+-- What is promised of locks: modes held together may stand beside each other, every action is done under a mode that covers it, and nothing is released before the run ends (01, The desk's rules; demand 2).
+use Prim.Native.Nat.{ℕ}
+use mathlib.Core.Path.{_≡_}
+use mathlib.Core.Logic.{_≢_, _⊎_}
+use mathlib.Core.Bool.{true, false}
+use mathlib.Core.List.{_∷_, _++_}
+use Rattle.terms.specs.declared.letters.Ask.{Ask}
+use Rattle.conflict.specs.declared.action.Action.{Action}
+use Rattle.conflict.specs.declared.action.Event.the-variants.{Does}
+use Rattle.conflict.specs.Modes.{beside, lets, isFree}
+use Rattle.conflict.specs.History.{History}
+use Rattle.conflict.specs.Runs.{ended}
+use Rattle.desk_rules.specs.Desk.{Request, In, isLive}
+use Rattle.desk_rules.specs.Effects.{Keeps}
+use Rattle.desk_rules.specs.Histories.{AskedBy, UnderLock}
+use Rattle.desk_rules.specs.Course.{Course, now, to, records}
+
+pub record Locking (k : Course) (h : History) : Type 0 where
+  -- modes held by different jobs on a cell may stand beside each other, and who holds a cell is live
+  pub besides : (c i j : ℕ) → i ≢ j → beside (now k .row c .held i) (now k .row c .held j) ≡ true
+  pub holder-live : (c j : ℕ) → isFree (now k .row c .held j) ≡ false → isLive (now k .stat j) ≡ true
+  -- in every step what a job holds of a cell only grows, or the step ends that job's run
+  pub held-till-end : (r : Request) (i c : ℕ) → Keeps (now k) (to k r .desk) i c ⊎ (ended i (records k r) ≡ true)
+  -- every action that a step writes, its own or a wake's, is under a lock after that step (01, rules 1 to 4)
+  pub under-lock : (r : Request) (x : Action) → In (Does x) (records k r) → (a : Ask) × AskedBy (now k) r x a × UnderLock (to k r .desk) x a
+  -- an action whose run has not ended is still under a mode that lets it
+  pub still-under-lock : (g i : History) (x : Action) → h ≡ g ++ Does x ∷ i → ended (x .job) i ≡ false → lets (now k .row (x .cell) .held (x .job)) (x .kind) ≡ true

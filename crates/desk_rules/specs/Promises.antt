@@ -1,0 +1,30 @@
+-- EVERY PROMISE OF A DESK, said once: of the paper's desk, and of each desk that runs, by what it shows from now on and the history that it has written.
+use Rattle.terms.specs.declared.letters.Ask.{Ask}
+use Rattle.conflict.specs.History.{History}
+use Rattle.desk_rules.specs.Desk.{Request}
+use Rattle.desk_rules.specs.Course.{Course, now}
+use Rattle.desk_rules.specs.Refuses.{Refuses}
+use Rattle.desk_rules.specs.StepEffects.{StepEffects}
+use Rattle.desk_rules.specs.Decides.{Decides}
+use Rattle.desk_rules.specs.Wakes.{Wakes}
+use Rattle.desk_rules.specs.Recorded.{Recorded}
+use Rattle.desk_rules.specs.DeskLimits.{DeskLimits}
+use Rattle.desk_rules.specs.Locking.{Locking}
+use Rattle.desk_rules.specs.SerialHistory.{SerialHistory}
+use Rattle.desk_rules.specs.Service.{Service}
+use Rattle.desk_rules.specs.Ages.{Ages}
+
+pub record Promises (h : History) (k : Course) : Type 0 where
+  -- demand 1: refusals exactly, and rules 1 to 5
+  pub refuses : Refuses k
+  pub effects : StepEffects k
+  pub decides : (r : Request) (a : Ask) → Decides k r a
+  pub wakes : (r : Request) → Wakes k r
+  pub recorded : (r : Request) → Recorded k r
+  pub limits : DeskLimits (now k)
+  -- demand 2: locks, and the history
+  pub locking : Locking k h
+  pub serial : SerialHistory h
+  -- demand 3: who waits is served, and who is oldest is never sent back
+  pub service : Service k
+  pub ages : Ages k

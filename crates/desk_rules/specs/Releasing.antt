@@ -1,0 +1,53 @@
+-- Rule 4 at one cell: the row after a run has ended, told of the row as it was before (01, rule 4).
+use Prim.Native.Nat.{ℕ, _<_}
+use mathlib.Core.Path.{_≡_}
+use mathlib.Core.Logic.{_≢_}
+use mathlib.Core.Bool.{true, false}
+use mathlib.Core.List.{List, _++_}
+use Rattle.laws.specs.Lists.{member}
+use Rattle.conflict.specs.declared.modes.Mode.{Mode}
+use Rattle.conflict.specs.declared.modes.Mode.the-variants.{Free}
+use Rattle.conflict.specs.Modes.{covers, beside, isFree}
+use Rattle.desk_rules.specs.Desk.{In, Waiter, Row, Desk, Request}
+use Rattle.desk_rules.specs.Locks.{without, Settled, wants}
+use Rattle.desk_rules.specs.Invariant.{Falling, FirstBlocked}
+use Rattle.desk_rules.specs.Rules.{Outcome, wakesOf}
+use Rattle.terms.specs.Limits.{cells}
+
+-- every holder is among the jobs listed
+abbrev pub Seated : List ℕ → (ℕ → Mode) → Type 0
+Seated js held = (i : ℕ) → isFree (held i) ≡ false → member i js ≡ true
+
+-- a row after job j's run has ended
+pub record Releases (js : List ℕ) (j : ℕ) (r : Row) (s : Settled) : Type 0 where
+  -- the job holds nothing
+  pub dropped : s .row .held j ≡ Free
+  -- what is woken stands ahead of what is left, without the job's place
+  pub parted : without j (r .queue) ≡ s .woken ++ s .row .queue
+  -- another job that is not woken holds what it held
+  pub kept : (i : ℕ) → i ≢ j → ((w : Waiter) → In w (s .woken) → w .job ≢ i) → s .row .held i ≡ r .held i
+  -- a woken job holds what it wanted
+  pub takes : (w : Waiter) → In w (s .woken) → s .row .held (w .job) ≡ wants (r .held) w
+  -- the others' locks only grow
+  pub grown : (i : ℕ) → i ≢ j → covers (s .row .held i) (r .held i) ≡ true
+  -- who is woken is another job, and waited
+  pub woken-was : (w : Waiter) → In w (s .woken) → In w (r .queue)
+  pub woken-other : (w : Waiter) → In w (s .woken) → w .job ≢ j
+  -- so did who is left
+  pub left-was : (w : Waiter) → In w (s .row .queue) → In w (r .queue)
+  pub left-other : (w : Waiter) → In w (s .row .queue) → w .job ≢ j
+  -- who is left is older than who is woken
+  pub across : (v w : Waiter) → In v (s .woken) → In w (s .row .queue) → w .job < v .job
+  -- holders are listed, beside each other and younger than the waiters left, the queue falls, and whoever is first in it is blocked
+  pub seats : Seated js (s .row .held)
+  pub pairs : (i k : ℕ) → i ≢ k → beside (s .row .held i) (s .row .held k) ≡ true
+  pub elder : (w : Waiter) (i : ℕ) → In w (s .row .queue) → i ≢ w .job → isFree (s .row .held i) ≡ false → w .job < i
+  pub down : Falling (s .row .queue)
+  pub blocked : FirstBlocked (s .row .held) (s .row .queue)
+
+-- the step carries rule 4 out for the request's job: every cell is released, and those granted there, cell by cell from 0 to 63, are the step's wakes (01, rule 4)
+pub record AllReleased (d : Desk) (o : Outcome) (r : Request) : Type 0 where
+  pub settled : ℕ → Settled
+  pub rows : (c : ℕ) → o .desk .row c ≡ settled c .row
+  pub wakes : o .wakes ≡ wakesOf settled cells
+  pub releases : (c : ℕ) → Releases (d .jobs) (r .job) (d .row c) (settled c)

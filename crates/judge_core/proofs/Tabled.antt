@@ -1,0 +1,80 @@
+-- A table of values: how long it is, what stands at each place, and what one store makes of it.
+-- Assumes nothing.
+use Prim.Native.Nat.{ℕ, zero, suc, _+_, _≤_, _<_}
+use mathlib.Core.Path.{_≡_, refl, sym, _∙_}
+use mathlib.Core.Bool.{Bool, false}
+use mathlib.Core.List.{List, [], _∷_}
+use native.Mathlib.Omega.{arith}
+use native.Mathlib.Numerals.{add-one}
+use lib.Dec.{eqb}
+use lib.ListN.{length, getD, set, replicate, length-append, length-set, length-replicate, getD-replicate, List·getD-append}
+use lib.Seq.{getD-at, ext-getD, getD-set-same, getD-set-other}
+use borrow.Author.Tests.{eqb-true, eqb-false}
+use Rattle.laws.specs.Choice.{by-test}
+use Rattle.judge_core.specs.Lists.{tab}
+
+module _ {A : Type 0} where
+  -- it has n values
+  pub tab-length : (f : ℕ → A) (n : ℕ) → length (tab f n) ≡ n
+  unfolding tab
+  tab-length f zero = refl
+  tab-length f (suc n) = length-append (tab f n) (f n ∷ []) ∙ rw (tab-length f n) (add-one n)
+
+  -- at each place stands its value
+  pub tab-at : (f : ℕ → A) (n : ℕ) (d : A) (i : ℕ) → i < n → getD (tab f n) i d ≡ f i
+  unfolding tab
+  tab-at f zero d i h = absurd (omega arith)
+  tab-at f (suc n) d i h =
+      by-test (eqb i n)
+      (λ t. rw (eqb-true i n t) (getD-at (tab f n) (f n) [] d n (tab-length f n)))
+      (λ g.
+      let less : i < n = omega (arith, eqb-false i n g) in
+      List·getD-append (tab f n) (f n ∷ []) d i (rw (tab-length f n) less) ∙ tab-at f n d i less)
+
+  -- a list with those values at its places is the table
+  pub tab-is : (f : ℕ → A) (n : ℕ) (d : A) (l : List A) → length l ≡ n → ((i : ℕ) → i < n → getD l i d ≡ f i) → l ≡ tab f n
+  tab-is f n d l e h =
+      ext-getD d l (tab f n) (e ∙ sym (tab-length f n))
+      (λ i b.
+      let less : i < n = omega arith in
+      h i less ∙ sym (tab-at f n d i less))
+
+  -- tables of the same values are the same
+  pub tab-same : (f g : ℕ → A) (n : ℕ) (d : A) → ((i : ℕ) → i < n → f i ≡ g i) → tab f n ≡ tab g n
+  tab-same f g n d h = tab-is g n d (tab f n) (tab-length f n) (λ i b. tab-at f n d i b ∙ h i b)
+
+  -- a list of one value is its table
+  pub tab-all : (n : ℕ) (a : A) → replicate n a ≡ tab (λ i. a) n
+  tab-all n a = tab-is (λ i. a) n a (replicate n a) (length-replicate n a) (λ i b. getD-replicate n i a a b)
+
+  -- a store that changes one value
+  pub tab-set : (f g : ℕ → A) (n : ℕ) (d : A) (k : ℕ) (v : A) → k < n → v ≡ g k → ((i : ℕ) → i < n → (i ≡ k → ⊥) → f i ≡ g i) → set (tab f n) k v ≡ tab g n
+  tab-set f g n d k v b e h =
+      tab-is g n d (set (tab f n) k v) (length-set (tab f n) k v ∙ tab-length f n)
+      (λ i l.
+      by-test (eqb i k)
+      (λ t. rw (eqb-true i k t) (getD-set-same (tab f n) k v d (rw (tab-length f n) b) ∙ e))
+      (λ t. getD-set-other (tab f n) k i v d (eqb-false i k t) ∙ tab-at f n d i l ∙ h i l (eqb-false i k t)))
+
+-- the first x of n places of a table say what f does
+pub record Told (f : ℕ → Bool) (n x : ℕ) (table : List Bool) : Type 0 where
+  pub wide : length table ≡ n
+  pub there : (y : ℕ) → y < x → getD table y false ≡ f y
+
+-- nothing is told
+pub told-none : (f : ℕ → Bool) (n : ℕ) → Told f n 0 (replicate n false)
+told-none f n = record { wide = length-replicate n false; there = λ y h. absurd (omega arith) }
+
+-- one place more
+pub told-more : (f : ℕ → Bool) (n x : ℕ) (table : List Bool) (v : Bool) → x < n → v ≡ f x → Told f n x table → Told f n (x + 1) (set table x v)
+told-more f n x table v h e t =
+    record {
+      wide = length-set table x v ∙ t .wide;
+      there = λ y b. by-test (eqb y x)
+          (λ q. rw (eqb-true y x q) (getD-set-same table x v false (omega (arith, t .wide)) ∙ e))
+          (λ q. getD-set-other table x y v false (eqb-false y x q) ∙ t .there y (omega (arith, eqb-false y x q)));
+    }
+
+-- all places
+pub told-all : (f : ℕ → Bool) (n x : ℕ) (table : List Bool) → n ≤ x → Told f n x table → table ≡ tab f n
+told-all f n x table h t = tab-is f n false table (t .wide) (λ y b. t .there y (omega arith))

@@ -1,0 +1,67 @@
+-- What is looked at first of two jobs' lines: on which cells each has actions of a kind, and where its last one stands (01, The judge's rules).
+use Prim.Native.Nat.{ℕ, _+_, _-_, _*_, _≤_, _<_}
+use mathlib.Core.Path.{_≡_}
+use mathlib.Core.Bool.{Bool, true, false, _&&_}
+use mathlib.Core.List.{List}
+use lib.Dec.{ltb}
+use lib.ListN.{length, getD}
+use Rattle.laws.specs.Lists.{member}
+use Rattle.conflict.specs.declared.cells.Touched.{Touched}
+use Rattle.conflict.specs.Schedule.{conflicts}
+use Rattle.conflict.specs.Cells.{inSet, canConflict}
+use Rattle.judge_core.specs.Meeting.{actionBy, actionAt, clashing}
+use Rattle.judge_core.specs.Grouped.{partAt, Parted}
+
+-- the lines that somebody owns are actions, each its owner's, on a cell
+pub record Acting (codes jobs cells owners : List ℕ) (n : ℕ) : Type 0 where
+  pub small : (p : ℕ) → p < n → getD owners p 0 < 256
+  pub job : (p : ℕ) → p < n → (getD owners p 0 ≡ 0 → ⊥) → getD jobs p 0 ≡ getD owners p 0
+  pub code : (p : ℕ) → p < n → (getD owners p 0 ≡ 0 → ⊥) → getD codes p 0 < 3
+  pub cell : (p : ℕ) → p < n → (getD owners p 0 ≡ 0 → ⊥) → getD cells p 0 < 64
+
+-- each job's set has the cells of the lines of one kind that it owns
+pub record Covered (codes cells owners : List ℕ) (n kind : ℕ) (sets : List ℕ) : Type 0 where
+  pub wide : length sets ≡ 256
+  pub has : (p : ℕ) → p < n → getD codes p 0 ≡ kind → getD cells p 0 < 64 → inSet (getD sets (getD owners p 0) 0) (getD cells p 0) ≡ true
+
+-- the sets of job j
+unfoldable pub touchedAt : List ℕ → List ℕ → List ℕ → ℕ → Touched
+touchedAt reads writes increments j = record { reads = getD reads j 0; writes = getD writes j 0; increments = getD increments j 0 }
+
+-- the place of job j's last action of a kind on cell c
+abbrev pub lastKey : ℕ → ℕ → ℕ → ℕ
+lastKey j k c = c * 1024 + j * 4 + k
+
+-- at each place stands one more than the last line of that job, kind and cell, or 0 where there is none
+pub record Lasts (codes cells owners : List ℕ) (n : ℕ) (lasts : List ℕ) : Type 0 where
+  pub wide : length lasts ≡ 65536
+  pub far : (p : ℕ) → p < n → (getD owners p 0 ≡ 0 → ⊥) → p < getD lasts (lastKey (getD owners p 0) (getD codes p 0) (getD cells p 0)) 0
+  pub line : (j k c : ℕ) → j < 256 → k < 3 → c < 64 → 0 < getD lasts (lastKey j k c) 0 → getD lasts (lastKey j k c) 0 ≤ n
+  pub owner : (j k c : ℕ) → j < 256 → k < 3 → c < 64 → 0 < getD lasts (lastKey j k c) 0 → getD owners (getD lasts (lastKey j k c) 0 - 1) 0 ≡ j
+  pub code : (j k c : ℕ) → j < 256 → k < 3 → c < 64 → 0 < getD lasts (lastKey j k c) 0 → getD codes (getD lasts (lastKey j k c) 0 - 1) 0 ≡ k
+  pub cell : (j k c : ℕ) → j < 256 → k < 3 → c < 64 → 0 < getD lasts (lastKey j k c) 0 → getD cells (getD lasts (lastKey j k c) 0 - 1) 0 ≡ c
+
+-- the lines ys are actions of job j, and the last of each kind on each cell stands in the table
+pub record Reach (codes jobs cells lasts : List ℕ) (j : ℕ) (ys : List ℕ) : Type 0 where
+  pub job : (y : ℕ) → member y ys ≡ true → getD jobs y 0 ≡ j
+  pub code : (y : ℕ) → member y ys ≡ true → getD codes y 0 < 3
+  pub cell : (y : ℕ) → member y ys ≡ true → getD cells y 0 < 64
+  pub far : (y : ℕ) → member y ys ≡ true → y < getD lasts (lastKey j (getD codes y 0) (getD cells y 0)) 0
+  pub there : (k c : ℕ) → k < 3 → c < 64 → 0 < getD lasts (lastKey j k c) 0 → member (getD lasts (lastKey j k c) 0 - 1) ys ≡ true
+  pub there-code : (k c : ℕ) → k < 3 → c < 64 → 0 < getD lasts (lastKey j k c) 0 → getD codes (getD lasts (lastKey j k c) 0 - 1) 0 ≡ k
+  pub there-cell : (k c : ℕ) → k < 3 → c < 64 → 0 < getD lasts (lastKey j k c) 0 → getD cells (getD lasts (lastKey j k c) 0 - 1) 0 ≡ c
+
+-- job j's last action of a kind on line x's cell stands after line x, and conflicts with the action there
+unfoldable pub lastMet : List ℕ → List ℕ → List ℕ → List ℕ → ℕ → ℕ → ℕ → Bool
+lastMet codes jobs cells lasts j x k = ltb (x + 1) (getD lasts (lastKey j k (getD cells x 0)) 0) && conflicts (actionAt codes jobs cells x) (actionBy k j (getD cells x 0))
+
+-- a line of xs conflicts with one of ys on cells of the set alone
+abbrev pub Masked : List ℕ → List ℕ → List ℕ → ℕ → List ℕ → List ℕ → Type 0
+Masked codes jobs cells mask xs ys = (x y : ℕ) → member x xs ≡ true → member y ys ≡ true → clashing codes jobs cells x y ≡ true → inSet mask (getD cells x 0) ≡ true
+
+-- all that the edges are worked out from
+pub record Worked (codes jobs cells : List ℕ) (done : List Bool) (lines starts lasts reads writes increments : List ℕ) : Type 0 where
+  pub parts : Parted lines starts
+  pub idle : getD done 0 false ≡ false
+  pub reach : (j : ℕ) → j < 256 → (j ≡ 0 → ⊥) → Reach codes jobs cells lasts j (partAt lines starts j)
+  pub masks : (i j m : ℕ) → i < 256 → j < 256 → (i ≡ 0 → ⊥) → (j ≡ 0 → ⊥) → ((c : ℕ) → inSet m c ≡ canConflict (touchedAt reads writes increments i) (touchedAt reads writes increments j) c) → Masked codes jobs cells m (partAt lines starts i) (partAt lines starts j)

@@ -1,0 +1,96 @@
+// What of each job's lines counts: which jobs have a c, and from which line on (01, The judge's rules: the committed part).
+use terms::limits::JUDGED_LINES;
+ghost use mathlib.Core.Path.{_≡_};
+ghost use Prim.Native.Nat.{ℕ, _≤_, _<_};
+ghost use lib.ListN.{getD};
+ghost use Rattle.judge_core.specs.Lists.{tab};
+ghost use Rattle.judge_core.specs.Counted.{hasCommit, countedFrom, ownerAt, ownersBy};
+
+// A byte as a place in an array.
+pub fn place(byte: u8) -> usize
+    ensures { λ r. ⌜ (r ≡ byte) × (r < 256) ⌝ }
+{
+    byte as usize
+}
+
+// Which jobs have a c among the first n lines.
+pub fn committed_jobs<'a>(
+    codes: &'a [u8; JUDGED_LINES],
+    jobs: &'a [u8; JUDGED_LINES],
+    n: usize,
+) -> [bool; 256]
+    requires { ⌜ n ≤ 4096 ⌝ }
+    ensures { λ r. ⌜ r ≡ tab (hasCommit (now (codes .entry)) (now (jobs .entry)) n) 256 ⌝ }
+    ensures { λ r. ⌜ ((p : ℕ) → p < n → getD (now (jobs .entry)) p 0 < 256) ⌝ }
+{
+    let mut done = [false; 256];
+    let mut p = 0;
+    while p < n {
+        let j = place(jobs[p]);
+        if codes[p] == 3 {
+            done[j] = true;
+        }
+        p += 1;
+    }
+    done
+}
+
+// For each job the line from which its actions count: the one after its last k among the first n lines, or the first.
+pub fn counted_from<'a>(
+    codes: &'a [u8; JUDGED_LINES],
+    jobs: &'a [u8; JUDGED_LINES],
+    n: usize,
+) -> [usize; 256]
+    requires { ⌜ n ≤ 4096 ⌝ }
+    ensures { λ r. ⌜ r ≡ tab (countedFrom (now (codes .entry)) (now (jobs .entry)) n) 256 ⌝ }
+{
+    let mut since = [0; 256];
+    let mut p = 0;
+    while p < n {
+        let j = place(jobs[p]);
+        if 4 < codes[p] {
+            since[j] = p + 1;
+        }
+        p += 1;
+    }
+    since
+}
+
+// The job whose action line p is, if it is an action and stands where that job's count, and else 0.
+fn owner<'a>(
+    codes: &'a [u8; JUDGED_LINES],
+    jobs: &'a [u8; JUDGED_LINES],
+    since: &'a [usize; 256],
+    p: usize,
+) -> u8
+    requires { ⌜ p < 4096 ⌝ }
+    ensures { λ r. ⌜ r ≡ ownerAt (now (codes .entry)) (now (jobs .entry)) (now (since .entry)) p ⌝ }
+{
+    if 3 <= codes[p] {
+        return 0;
+    }
+    let j = place(jobs[p]);
+    if p < since[j] {
+        return 0;
+    }
+    jobs[p]
+}
+
+// For each of the first n lines its owner.
+pub fn owners<'a>(
+    codes: &'a [u8; JUDGED_LINES],
+    jobs: &'a [u8; JUDGED_LINES],
+    since: &'a [usize; 256],
+    n: usize,
+) -> [u8; JUDGED_LINES]
+    requires { ⌜ n ≤ 4096 ⌝ }
+    ensures { λ r. ⌜ r ≡ tab (ownersBy (now (codes .entry)) (now (jobs .entry)) (now (since .entry)) n) 4096 ⌝ }
+{
+    let mut all = [0; JUDGED_LINES];
+    let mut p = 0;
+    while p < n {
+        all[p] = owner(codes, jobs, since, p);
+        p += 1;
+    }
+    all
+}

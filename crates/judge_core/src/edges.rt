@@ -1,0 +1,250 @@
+// Which job has an edge to which: an earlier action of the one conflicts with a later one of the other (01, The judge's rules).
+use crate::sets::last_key;
+use crate::sets::touched;
+use conflict::action::Action;
+use conflict::action::Kind;
+use conflict::action::actions_conflict;
+use conflict::cells::has_cell;
+use conflict::cells::meeting_cells;
+use terms::limits::JUDGED_LINES;
+ghost use mathlib.Core.Path.{_≡_};
+ghost use mathlib.Core.Bool.{true};
+ghost use Prim.Native.Nat.{ℕ, _/_, _%_, _≤_, _<_};
+ghost use lib.ListN.{getD};
+ghost use Rattle.laws.specs.Lists.{member};
+ghost use Rattle.judge_core.specs.Lists.{tab};
+ghost use Rattle.judge_core.specs.Meeting.{kindBy, actionAt, clashing, meetings};
+ghost use Rattle.judge_core.specs.Grouped.{Lined, Parted, partAt, edgeBy};
+ghost use Rattle.judge_core.specs.Reaching.{Reach, Masked, Worked, lastMet};
+
+// The kind of action that a number stands for.
+fn kind_of(code: u8) -> Kind
+    ensures { λ r. ⌜ r ≡ kindBy code ⌝ }
+{
+    if code == 0 {
+        return Kind::Read;
+    }
+    if code == 1 {
+        return Kind::Write;
+    }
+    Kind::Increment
+}
+
+// A byte as a number of 32 bits.
+pub fn wide(byte: u8) -> u32
+    ensures { λ r. ⌜ r ≡ byte ⌝ }
+{
+    byte as u32
+}
+
+// A kept line number as a place.
+fn far(line: u16) -> usize
+    ensures { λ r. ⌜ r ≡ line ⌝ }
+{
+    line as usize
+}
+
+// The action on a line.
+fn action_at<'a>(
+    codes: &'a [u8; JUDGED_LINES],
+    jobs: &'a [u8; JUDGED_LINES],
+    cells: &'a [u8; JUDGED_LINES],
+    p: usize,
+) -> Action
+    requires { ⌜ p < 4096 ⌝ }
+    ensures { λ r. ⌜ r ≡ actionAt (now (codes .entry)) (now (jobs .entry)) (now (cells .entry)) p ⌝ }
+{
+    Action {
+        kind: kind_of(codes[p]),
+        job: wide(jobs[p]),
+        cell: wide(cells[p]),
+    }
+}
+
+// Whether no line of ys stands after one of xs, both in ascending order.
+fn apart<'a>(xs: &'a [u16], ys: &'a [u16]) -> bool
+    requires { ⌜ Lined (now xs) × Lined (now ys) ⌝ }
+    ensures { λ r. ⌜ (r ≡ true → (x y : ℕ) → member x (now (xs .entry)) ≡ true → member y (now (ys .entry)) ≡ true → y ≤ x) ⌝ }
+{
+    if xs.len() == 0 {
+        return true;
+    }
+    let n = ys.len();
+    if n == 0 {
+        return true;
+    }
+    ys[n - 1] <= xs[0]
+}
+
+// Whether job j's last action of a kind on line x's cell stands after line x, and the action there conflicts with it.
+fn meets_last<'a>(
+    codes: &'a [u8; JUDGED_LINES],
+    jobs: &'a [u8; JUDGED_LINES],
+    cells: &'a [u8; JUDGED_LINES],
+    lasts: &'a [u16; 65536],
+    x: usize,
+    j: usize,
+    kind: u8,
+) -> bool
+    requires { ⌜ (x < 4096) × (j < 256) × (kind < 3) × (getD (now cells) x 0 < 64) ⌝ }
+    ensures { λ r. ⌜ r ≡ lastMet (now (codes .entry)) (now (jobs .entry)) (now (cells .entry)) (now (lasts .entry)) j x kind ⌝ }
+{
+    let cell = cells[x];
+    let key = last_key(j, kind, cell);
+    if far(lasts[key]) <= x + 1 {
+        return false;
+    }
+    let other = Action {
+        kind: kind_of(kind),
+        job: j as u32,
+        cell: wide(cell),
+    };
+    actions_conflict(action_at(codes, jobs, cells, x), other)
+}
+
+// Whether a line of xs stands before a line of ys, job j's, that it conflicts with. The lines of xs are looked at from the last back, since a job mostly writes what it has read before; those on cells where the two jobs do not meet are passed over; of job j's lines on a cell the last of each kind decides; and the search is left at the first two found.
+fn meets<'a>(
+    codes: &'a [u8; JUDGED_LINES],
+    jobs: &'a [u8; JUDGED_LINES],
+    cells: &'a [u8; JUDGED_LINES],
+    lasts: &'a [u16; 65536],
+    mask: u64,
+    xs: &'a [u16],
+    ys: &'a [u16],
+    j: usize,
+) -> bool
+    requires { ⌜ (j < 256) × Lined (now xs) × Lined (now ys) ⌝ }
+    requires { ⌜ Reach (now codes) (now jobs) (now cells) (now lasts) j (now ys) × Masked (now codes) (now jobs) (now cells) mask (now xs) (now ys) ⌝ }
+    ensures { λ r. ⌜ r ≡ meetings (clashing (now (codes .entry)) (now (jobs .entry)) (now (cells .entry))) (now (xs .entry)) (now (ys .entry)) ⌝ }
+{
+    if apart(xs, ys) {
+        return false;
+    }
+    let mut found = false;
+    let mut i = xs.len();
+    'outer: while 0 < i {
+        i -= 1;
+        let x = xs[i] as usize;
+        if !has_cell(mask, wide(cells[x])) {
+            continue;
+        }
+        let mut k = 0;
+        while k < 3 {
+            if meets_last(codes, jobs, cells, lasts, x, j, k) {
+                found = true;
+                break 'outer;
+            }
+            k += 1;
+        }
+    }
+    found
+}
+
+// Whether job i has an edge to job j, two jobs that are done, given the cells on which they can conflict.
+fn parts_meet<'a>(
+    codes: &'a [u8; JUDGED_LINES],
+    jobs: &'a [u8; JUDGED_LINES],
+    cells: &'a [u8; JUDGED_LINES],
+    lasts: &'a [u16; 65536],
+    lines: &'a [u16],
+    starts: &'a [usize; 257],
+    mask: u64,
+    i: usize,
+    j: usize,
+) -> bool
+    requires { ⌜ (i < 256) × (j < 256) × Parted (now lines) (now starts) ⌝ }
+    requires { ⌜ Reach (now codes) (now jobs) (now cells) (now lasts) j (partAt (now lines) (now starts) j) × Masked (now codes) (now jobs) (now cells) mask (partAt (now lines) (now starts) i) (partAt (now lines) (now starts) j) ⌝ }
+    ensures { λ r. ⌜ r ≡ meetings (clashing (now (codes .entry)) (now (jobs .entry)) (now (cells .entry))) (partAt (now (lines .entry)) (now (starts .entry)) i) (partAt (now (lines .entry)) (now (starts .entry)) j) ⌝ }
+{
+    let a = starts[i];
+    let b = starts[i + 1];
+    let c = starts[j];
+    let d = starts[j + 1];
+    meets(
+        codes,
+        jobs,
+        cells,
+        lasts,
+        mask,
+        &lines[a..b],
+        &lines[c..d],
+        j,
+    )
+}
+
+// Whether job i has an edge to job j.
+fn edge_between<'a>(
+    codes: &'a [u8; JUDGED_LINES],
+    jobs: &'a [u8; JUDGED_LINES],
+    cells: &'a [u8; JUDGED_LINES],
+    done: &'a [bool; 256],
+    lines: &'a [u16],
+    starts: &'a [usize; 257],
+    lasts: &'a [u16; 65536],
+    reads: &'a [u64; 256],
+    writes: &'a [u64; 256],
+    increments: &'a [u64; 256],
+    i: usize,
+    j: usize,
+) -> bool
+    requires { ⌜ (i < 256) × (j < 256) × Worked (now codes) (now jobs) (now cells) (now done) (now lines) (now starts) (now lasts) (now reads) (now writes) (now increments) ⌝ }
+    ensures { λ r. ⌜ r ≡ edgeBy (now (codes .entry)) (now (jobs .entry)) (now (cells .entry)) (now (done .entry)) (now (lines .entry)) (now (starts .entry)) i j ⌝ }
+{
+    if i == j {
+        return false;
+    }
+    if !done[i] {
+        return false;
+    }
+    if !done[j] {
+        return false;
+    }
+    let mask = meeting_cells(
+        touched(reads, writes, increments, i),
+        touched(reads, writes, increments, j),
+    );
+    if mask == 0 {
+        return false;
+    }
+    parts_meet(codes, jobs, cells, lasts, lines, starts, mask, i, j)
+}
+
+// All edges: at place 256 times i and j whether job i has one to job j.
+pub fn edge_table<'a>(
+    codes: &'a [u8; JUDGED_LINES],
+    jobs: &'a [u8; JUDGED_LINES],
+    cells: &'a [u8; JUDGED_LINES],
+    done: &'a [bool; 256],
+    lines: &'a [u16],
+    starts: &'a [usize; 257],
+    lasts: &'a [u16; 65536],
+    reads: &'a [u64; 256],
+    writes: &'a [u64; 256],
+    increments: &'a [u64; 256],
+) -> [bool; 65536]
+    requires { ⌜ Worked (now codes) (now jobs) (now cells) (now done) (now lines) (now starts) (now lasts) (now reads) (now writes) (now increments) ⌝ }
+    ensures { λ r. ⌜ r ≡ tab (λ x. edgeBy (now (codes .entry)) (now (jobs .entry)) (now (cells .entry)) (now (done .entry)) (now (lines .entry)) (now (starts .entry)) (x / 256) (x % 256)) 65536 ⌝ }
+{
+    let mut table = [false; 65536];
+    let mut x = 0;
+    while x < 65536 {
+        let i = x / 256;
+        let j = x % 256;
+        table[x] = edge_between(
+            codes,
+            jobs,
+            cells,
+            done,
+            lines,
+            starts,
+            lasts,
+            reads,
+            writes,
+            increments,
+            i,
+            j,
+        );
+        x += 1;
+    }
+    table
+}

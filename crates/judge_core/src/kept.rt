@@ -1,0 +1,127 @@
+// The judge on lines that are kept as numbers, for any arrays and any buffer: what the table says of them, and else the verdict (01, Refusals by number).
+use crate::counted::place;
+use crate::decide::decide;
+use crate::edges::wide;
+use judge_rules::verdict::Verdict;
+use terms::limits::CELLS;
+use terms::limits::JUDGED_JOBS;
+use terms::limits::JUDGED_LINES;
+use terms::refusals::Refusal;
+ghost use mathlib.Core.Path.{_≡_};
+ghost use mathlib.Core.Bool.{_&&_, _||_};
+ghost use mathlib.Core.List.{[]};
+ghost use lib.Dec.{eqb, ltb, leb};
+ghost use Prim.Native.Nat.{_+_, _<_};
+ghost use Rattle.terms.specs.Limits.{cells};
+ghost use Rattle.judge_rules.specs.Arrays.{historyBy};
+ghost use Rattle.judge_core.specs.Kept.{eventAt, eventFault, firstFault, keptJudgement, dueOf, Flagged};
+
+// What is wrong with a line.
+pub enum Fault {
+    Nothing,
+    Due(Refusal),
+}
+
+// What is found of lines: no fault, or the first faulty one with its number and refusal.
+pub enum Found {
+    Faultless,
+    Faulty { line: usize, why: Refusal },
+}
+
+// Whether no line of its job may follow a line: after a commit and a give-up.
+fn ends_job(code: u8) -> bool
+    ensures { λ r. ⌜ r ≡ (eqb code 3 || eqb code 4) ⌝ }
+{
+    if code == 3 {
+        return true;
+    }
+    code == 4
+}
+
+// Whether a line has a cell above 63: actions alone have a cell.
+fn cell_above(code: u8, cell: u8) -> bool
+    ensures { λ r. ⌜ r ≡ (ltb code 3 && leb cells cell) ⌝ }
+{
+    if code >= 3 {
+        return false;
+    }
+    wide(cell) >= CELLS
+}
+
+// The fault of a line that is no line too many, given the jobs that have committed or given up: 12, then 2, then 13. A job above 255 has no place in a byte.
+fn fault_at<'a>(
+    codes: &'a [u8; JUDGED_LINES],
+    jobs: &'a [u8; JUDGED_LINES],
+    cells: &'a [u8; JUDGED_LINES],
+    ended: &'a [bool; 256],
+    p: usize,
+) -> Fault
+    requires { ⌜ (p < 4096) × Flagged (now ended) (historyBy (now codes) (now jobs) (now cells) p) ⌝ }
+    ensures { λ r. ⌜ dueOf r ≡ eventFault (p + 1) (historyBy (now (codes .entry)) (now (jobs .entry)) (now (cells .entry)) p) (eventAt (now (codes .entry)) (now (jobs .entry)) (now (cells .entry)) p) ⌝ }
+{
+    let job = place(jobs[p]);
+    if job == 0 {
+        return Fault::Due(Refusal::JobOutside);
+    }
+    if cell_above(codes[p], cells[p]) {
+        return Fault::Due(Refusal::CellAbove);
+    }
+    if ended[job] {
+        return Fault::Due(Refusal::Ended);
+    }
+    Fault::Nothing
+}
+
+// The first n lines in order, up to the first faulty one.
+fn first_fault<'a>(
+    codes: &'a [u8; JUDGED_LINES],
+    jobs: &'a [u8; JUDGED_LINES],
+    cells: &'a [u8; JUDGED_LINES],
+    n: usize,
+) -> Found
+    ensures { λ r. ⌜ r ≡ firstFault 1 [] (historyBy (now (codes .entry)) (now (jobs .entry)) (now (cells .entry)) n) ⌝ }
+{
+    let mut ended = [false; 256];
+    let mut p = 0;
+    while p < n {
+        if p >= JUDGED_LINES {
+            return Found::Faulty {
+                line: p + 1,
+                why: Refusal::TooManyLines,
+            };
+        }
+        match fault_at(codes, jobs, cells, &ended, p) {
+            Fault::Nothing => {}
+            Fault::Due(why) => {
+                return Found::Faulty { line: p + 1, why };
+            }
+        }
+        let job = place(jobs[p]);
+        ended[job] = ends_job(codes[p]);
+        p += 1;
+    }
+    Found::Faultless
+}
+
+// The verdict on the first n lines, and its jobs in the first places of the buffer; or 14 for a short buffer, and else the refusal of the first faulty line, and the buffer stays.
+pub fn judge_kept<'a>(
+    codes: &'a [u8; JUDGED_LINES],
+    jobs: &'a [u8; JUDGED_LINES],
+    cells: &'a [u8; JUDGED_LINES],
+    n: usize,
+    order: &mut [u8],
+) -> Verdict
+    ensures { λ r. ⌜ r ≡ keptJudgement (now (codes .entry)) (now (jobs .entry)) (now (cells .entry)) (now (order .entry)) n .said ⌝ }
+    ensures { λ r. ⌜ now (order .exit) ≡ keptJudgement (now (codes .entry)) (now (jobs .entry)) (now (cells .entry)) (now (order .entry)) n .order ⌝ }
+{
+    if order.len() < JUDGED_JOBS {
+        return Verdict::No {
+            line: 0,
+            why: Refusal::ShortOrder,
+        };
+    }
+    match first_fault(codes, jobs, cells, n) {
+        Found::Faultless => decide(codes, jobs, cells, n, order),
+        Found::Faulty { line, why } => Verdict::No { line, why },
+    }
+}

@@ -1,0 +1,99 @@
+// The knot: from the smallest job that remains back along smallest predecessors, until one comes again (01, The judge's rules: Knot).
+use crate::order::NOBODY;
+use crate::order::predecessor;
+ghost use mathlib.Core.Path.{_≡_};
+ghost use mathlib.Core.List.{[], _++_};
+ghost use Prim.Native.Nat.{_+_, _≤_, _<_};
+ghost use lib.ListN.{length, take, drop};
+ghost use Rattle.laws.specs.Lists.{pos};
+ghost use Rattle.judge_rules.specs.Knot.{walk, turn};
+ghost use Rattle.judge_rules.specs.Judgement.{filled};
+ghost use Rattle.judge_core.specs.Grouped.{edgesIn};
+ghost use Rattle.judge_core.specs.Left.{leftOf};
+ghost use Rattle.judge_core.specs.Rounds.{RoundAt, putIn};
+
+// A part of a trail: from a place up to another.
+pub struct Round {
+    pub from: usize,
+    pub to: usize,
+}
+
+// The first place of the trail, from a place on, at which job j stands, or the trail's end.
+fn place_of(trail: &[u8; 257], at: usize, j: u8) -> usize
+    requires { ⌜ (length (now trail) ≡ 257) × (at ≤ 257) ⌝ }
+    ensures { λ r. ⌜ r ≡ at + pos (drop at (now (trail .entry))) j ⌝ }
+{
+    let mut p = at;
+    while p < 257 {
+        if trail[p] == j {
+            return p;
+        }
+        p += 1;
+    }
+    p
+}
+
+// The walk back from a job, each job put before the one that it was come from, until one comes again: the trail from its second coming up to its first is the cycle.
+pub fn walk_back<'a>(
+    table: &'a [bool; 65536],
+    left: &'a [bool; 256],
+    start: usize,
+    trail: &mut [u8; 257],
+) -> Round
+    requires { ⌜ (start < 256) × (length (now trail) ≡ 257) ⌝ }
+    ensures { λ r. ⌜ RoundAt (walk (edgesIn (now (table .entry))) (leftOf (now (left .entry))) 257 [] start) (now (trail .exit)) (r .from) (r .to) ⌝ }
+{
+    let mut at: usize = 257;
+    let mut j = start;
+    while 0 < at {
+        let p = place_of(trail, at, j as u8);
+        at -= 1;
+        trail[at] = j as u8;
+        if p < 257 {
+            return Round { from: at, to: p };
+        }
+        j = predecessor(table, left, j);
+        if j == NOBODY {
+            return Round { from: 0, to: 0 };
+        }
+    }
+    Round { from: 0, to: 0 }
+}
+
+// The place of the smallest job of a round.
+fn smallest_place(round: &[u8]) -> usize
+    ensures { λ r. ⌜ (r ≤ length (now (round .entry))) × (turn (now (round .entry)) ≡ drop r (now (round .entry)) ++ take r (now (round .entry))) ⌝ }
+{
+    let mut best = 0;
+    let mut i = 0;
+    while i < round.len() {
+        if round[i] < round[best] {
+            best = i;
+        }
+        i += 1;
+    }
+    best
+}
+
+// A part put into a buffer from a place on.
+pub fn put(buffer: &mut [u8], at: usize, part: &[u8])
+    requires { ⌜ at + length (now part) ≤ length (now buffer) ⌝ }
+    ensures { λ r. ⌜ now (buffer .exit) ≡ putIn (now (buffer .entry)) at (now (part .entry)) ⌝ }
+{
+    let mut i = 0;
+    while i < part.len() {
+        buffer[at + i] = part[i];
+        i += 1;
+    }
+}
+
+// A round put into the first places of a buffer, from its smallest job on.
+pub fn put_turned(buffer: &mut [u8], round: &[u8])
+    requires { ⌜ length (now round) ≤ length (now buffer) ⌝ }
+    ensures { λ r. ⌜ now (buffer .exit) ≡ filled (turn (now (round .entry))) (now (buffer .entry)) ⌝ }
+{
+    let n = round.len();
+    let m = smallest_place(round);
+    put(buffer, 0, &round[m..n]);
+    put(buffer, n - m, &round[0..m]);
+}

@@ -1,0 +1,81 @@
+// What is looked at first of two jobs: the cells that each has actions on, kind by kind, and its last action of each kind on each cell (01, The judge's rules).
+use crate::counted::place;
+use crate::edges::wide;
+use conflict::cells::Touched;
+use conflict::cells::with_cell;
+use terms::limits::JUDGED_LINES;
+ghost use mathlib.Core.Path.{_≡_};
+ghost use Prim.Native.Nat.{_≤_, _<_};
+ghost use Rattle.judge_core.specs.Reaching.{Acting, Covered, Lasts, touchedAt, lastKey};
+
+// For each job the cells of the lines of one kind that it owns, of the first n.
+pub fn cells_of<'a>(
+    codes: &'a [u8; JUDGED_LINES],
+    cells: &'a [u8; JUDGED_LINES],
+    owners: &'a [u8; JUDGED_LINES],
+    n: usize,
+    kind: u8,
+) -> [u64; 256]
+    requires { ⌜ n ≤ 4096 ⌝ }
+    ensures { λ r. ⌜ Covered (now (codes .entry)) (now (cells .entry)) (now (owners .entry)) n kind r ⌝ }
+{
+    let mut sets = [0; 256];
+    let mut p = 0;
+    while p < n {
+        let j = place(owners[p]);
+        if codes[p] == kind {
+            sets[j] = with_cell(sets[j], wide(cells[p]));
+        }
+        p += 1;
+    }
+    sets
+}
+
+// The sets of one job.
+pub fn touched<'a>(
+    reads: &'a [u64; 256],
+    writes: &'a [u64; 256],
+    increments: &'a [u64; 256],
+    j: usize,
+) -> Touched
+    requires { ⌜ j < 256 ⌝ }
+    ensures { λ r. ⌜ r ≡ touchedAt (now (reads .entry)) (now (writes .entry)) (now (increments .entry)) j ⌝ }
+{
+    Touched {
+        reads: reads[j],
+        writes: writes[j],
+        increments: increments[j],
+    }
+}
+
+// The place of job j's last action of a kind on a cell.
+pub fn last_key(j: usize, kind: u8, cell: u8) -> usize
+    requires { ⌜ (j < 256) × (kind < 3) × (cell < 64) ⌝ }
+    ensures { λ r. ⌜ (r ≡ lastKey j kind cell) × (r < 65536) ⌝ }
+{
+    place(cell) * 1024 + j * 4 + place(kind)
+}
+
+// One more than each job's last line of each kind on each cell, of the first n lines, and 0 where it has none.
+pub fn last_lines<'a>(
+    codes: &'a [u8; JUDGED_LINES],
+    jobs: &'a [u8; JUDGED_LINES],
+    cells: &'a [u8; JUDGED_LINES],
+    owners: &'a [u8; JUDGED_LINES],
+    n: usize,
+) -> [u16; 65536]
+    requires { ⌜ (n ≤ 4096) × Acting (now codes) (now jobs) (now cells) (now owners) n ⌝ }
+    ensures { λ r. ⌜ Lasts (now (codes .entry)) (now (cells .entry)) (now (owners .entry)) n r ⌝ }
+{
+    let mut lasts = [0; 65536];
+    let mut p = 0;
+    while p < n {
+        let j = place(owners[p]);
+        if j != 0 {
+            let key = last_key(j, codes[p], cells[p]);
+            lasts[key] = (p + 1) as u16;
+        }
+        p += 1;
+    }
+    lasts
+}

@@ -1,0 +1,120 @@
+// Lines of a word and numbers: a line that fits is written whole, from the buffer's first byte on, and of one that does not nothing is written (01, The judge's rules; refusal 15).
+use terms::Refusal;
+use terms::Word;
+use terms::spelled;
+use text::width;
+use text::write_end;
+use text::write_field;
+use text::write_word;
+use text_rules::Written;
+ghost use mathlib.Core.Path.{_≡_};
+ghost use mathlib.Core.List.{[], _∷_};
+ghost use Prim.Native.Nat.{_+_, _≤_, _<_};
+ghost use lib.Dec.{leb};
+ghost use lib.ListN.{length};
+ghost use Rattle.terms.specs.declared.words.Word.the-variants.{No};
+ghost use Rattle.terms.specs.Words.{tab, newline, spelt};
+ghost use Rattle.text_rules.specs.Decimal.{decimal};
+ghost use Rattle.text_rules.specs.Records.{told, left, tabbed, wordLine};
+ghost use Rattle.text_rules.specs.Wrote.{Wrote};
+
+// A word that there is room for, and the place after it.
+fn put_word(out: &mut [u8], at: usize, word: Word) -> usize
+    requires { ⌜ at + length (spelt word) ≤ length (now out) ⌝ }
+    ensures { λ r. ⌜ Wrote at r (spelt word) (now (out .entry)) (now (out .exit)) ⌝ }
+{
+    let w = write_word(out, at, word);
+    match w {
+        Written::Next(next) => next,
+        Written::Refused(_) => at,
+    }
+}
+
+// A further field that there is room for, and the place after it.
+fn put_field(out: &mut [u8], at: usize, n: u64) -> usize
+    requires { ⌜ at + length (tab ∷ decimal n) ≤ length (now out) ⌝ }
+    ensures { λ r. ⌜ Wrote at r (tab ∷ decimal n) (now (out .entry)) (now (out .exit)) ⌝ }
+{
+    let w = write_field(out, at, n);
+    match w {
+        Written::Next(next) => next,
+        Written::Refused(_) => at,
+    }
+}
+
+// The newline, where there is room for it, and the place after it.
+fn put_end(out: &mut [u8], at: usize) -> usize
+    requires { ⌜ at < length (now out) ⌝ }
+    ensures { λ r. ⌜ Wrote at r (newline ∷ []) (now (out .entry)) (now (out .exit)) ⌝ }
+{
+    let w = write_end(out, at);
+    match w {
+        Written::Next(next) => next,
+        Written::Refused(_) => at,
+    }
+}
+
+// Whether there is room for a field for each job; no sum is made that could wrap.
+fn jobs_fit(jobs: &[u8], room: usize) -> bool
+    ensures { λ r. ⌜ r ≡ leb (length (tabbed (now (jobs .entry)))) room ⌝ }
+{
+    let mut spare = room;
+    let mut i: usize = 0;
+    while i < jobs.len() {
+        let digits = width(jobs[i] as u64);
+        if spare <= digits {
+            return false;
+        }
+        spare -= digits + 1;
+        i += 1;
+    }
+    true
+}
+
+// A field for each job, where there is room for them, and the place after the last.
+fn put_jobs(out: &mut [u8], at: usize, jobs: &[u8]) -> usize
+    requires { ⌜ at + length (tabbed (now jobs)) ≤ length (now out) ⌝ }
+    ensures { λ r. ⌜ Wrote at r (tabbed (now (jobs .entry))) (now (out .entry)) (now (out .exit)) ⌝ }
+{
+    let mut next = at;
+    let mut i: usize = 0;
+    while i < jobs.len() {
+        next = put_field(out, next, jobs[i] as u64);
+        i += 1;
+    }
+    next
+}
+
+// A word and jobs, tab before each.
+pub fn write_jobs(out: &mut [u8], word: Word, jobs: &[u8]) -> Written
+    ensures { λ r. ⌜ (r ≡ told (now (out .entry)) 0 (wordLine word (now (jobs .entry)))) × (now (out .exit) ≡ left (now (out .entry)) 0 (wordLine word (now (jobs .entry)))) ⌝ }
+{
+    let spelling = spelled(word);
+    let len = spelling.len;
+    let room = out.len();
+    if room <= len {
+        return Written::Refused(Refusal::NoRoom);
+    }
+    if jobs_fit(jobs, room - len - 1) {
+        let a = put_word(out, 0, word);
+        let b = put_jobs(out, a, jobs);
+        Written::Next(put_end(out, b))
+    } else {
+        Written::Refused(Refusal::NoRoom)
+    }
+}
+
+// The word no and two numbers, tab before each: a line number and a refusal's number.
+pub fn write_no(out: &mut [u8], line: u64, number: u64) -> Written
+    ensures { λ r. ⌜ (r ≡ told (now (out .entry)) 0 (wordLine No (line ∷ number ∷ []))) × (now (out .exit) ≡ left (now (out .entry)) 0 (wordLine No (line ∷ number ∷ []))) ⌝ }
+{
+    let room = out.len();
+    if width(line) + width(number) + 5 <= room {
+        let a = put_word(out, 0, Word::No);
+        let b = put_field(out, a, line);
+        let c = put_field(out, b, number);
+        Written::Next(put_end(out, c))
+    } else {
+        Written::Refused(Refusal::NoRoom)
+    }
+}

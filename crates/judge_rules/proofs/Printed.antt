@@ -1,0 +1,103 @@
+-- What the verdict program prints of every text, byte by byte: of one that is too long, that has a faulty line, that is orderly, and of a knot (01, The judge's rules).
+-- Assumes nothing.
+use Prim.Native.Nat.{ℕ, _≤_, _<_}
+use mathlib.Core.Path.{_≡_, ap, _∙_}
+use mathlib.Core.List.{List, [], _∷_, _++_, map}
+use native.Mathlib.Omega.{arith}
+use borrow.Author.Tests.{lt-ltb, le-ltb}
+use lib.ListN.{length, take, replicate, length-replicate}
+use Rattle.terms.specs.declared.words.Word.the-variants.{Orderly as the-word-orderly, Knot as the-word-knot, No as the-word-no}
+use Rattle.terms.specs.declared.refusals.Refusal.{Refusal}
+use Rattle.terms.specs.Limits.{judgedBytes, judgedJobs}
+use Rattle.terms.specs.Refusals.{numberOf}
+use Rattle.conflict.specs.Schedule.{ConflictSerializable, edge}
+use Rattle.conflict.specs.History.{History, committedPart}
+use Rattle.text_rules.specs.Decimal.{decimal, digitsIn}
+use Rattle.text_rules.specs.Records.{tabbed, wordLine}
+use Rattle.text_rules.specs.Split.{joined}
+use Rattle.text_rules.proofs.RecordBytes.{orderly-bytes, knot-bytes, refusal-bytes}
+use Rattle.judge_rules.specs.declared.verdict.Verdict.{Verdict}
+use Rattle.judge_rules.specs.declared.verdict.Verdict.the-variants.{Orderly, Knot, No}
+use Rattle.judge_rules.specs.Judged.{jobsOf}
+use Rattle.judge_rules.specs.Judgement.{judgementOf}
+use Rattle.judge_rules.specs.HistoryText.{readingsOf, eventsIn}
+use Rattle.judge_rules.specs.LineTable.{FirstFault, AllFaultless}
+use Rattle.judge_rules.specs.Meant.{SmallestFirst, Takes, Shown}
+use Rattle.judge_rules.specs.VerdictLine.{sayLine, judgedLine, verdictOf}
+use Rattle.judge_rules.proofs.Refusing.{refused-exactly}
+use Rattle.judge_rules.proofs.JudgedTexts.{orderly-said, orderly-said-exactly, knot-said, knot-said-exactly}
+
+-- the order buffer of the verdict program
+abbrev places : List ℕ
+places = replicate judgedJobs 0
+
+-- it has its 255 places
+room : judgedJobs ≤ length places
+room = omega (arith, length-replicate {A = ℕ} judgedJobs 0)
+
+-- a text that is not too long gets the judge's line
+short-text : (text : List ℕ) → length text ≤ judgedBytes → verdictOf text ≡ sayLine (judgementOf text places .said) (judgementOf text places .order)
+unfolding verdictOf judgedLine
+short-text text h = rw (le-ltb judgedBytes (length text) h)
+
+-- the line of an order, of a knot and of a refusal
+said-order : (v : Verdict) (order : List ℕ) (n : ℕ) → v ≡ Orderly n → sayLine v order ≡ wordLine the-word-orderly (take n order)
+unfolding sayLine
+said-order v order n e = rw e
+
+said-knot : (v : Verdict) (order : List ℕ) (n : ℕ) → v ≡ Knot n → sayLine v order ≡ wordLine the-word-knot (take n order)
+unfolding sayLine
+said-knot v order n e = rw e
+
+said-refusal : (v : Verdict) (order : List ℕ) (n : ℕ) (why : Refusal) → v ≡ No n why → sayLine v order ≡ wordLine the-word-no (n ∷ numberOf why ∷ [])
+unfolding sayLine
+said-refusal v order n why e = rw e
+
+-- TOO LONG: of a text of more than 65,536 bytes no, 0, 16 is printed, whatever it says
+pub printed-too-long : (text : List ℕ) → 65_536 < length text → verdictOf text ≡ 110 ∷ 111 ∷ 9 ∷ 48 ∷ 9 ∷ 49 ∷ 54 ∷ 10 ∷ []
+unfolding verdictOf wordLine tabbed decimal digitsIn
+printed-too-long text h = rw (lt-ltb judgedBytes (length text) h)
+
+module _ (text : List ℕ) (short : length text ≤ 65_536) where
+  -- the history that the text says
+  abbrev says : History
+  says = eventsIn (readingsOf text)
+
+  -- REFUSED: of the first faulty line no, its number and the refusal's are printed
+  pub printed-refusal : (n : ℕ) (why : Refusal) → FirstFault (readingsOf text) n why → verdictOf text ≡ 110 ∷ 111 ∷ 9 ∷ decimal n ++ 9 ∷ decimal (numberOf why) ++ 10 ∷ []
+  printed-refusal n why f =
+      let e = refused-exactly text places n why (f .from) .1 (room, f) in
+      short-text text short ∙ said-refusal (judgementOf text places .said) (judgementOf text places .order) n why e ∙ refusal-bytes n (numberOf why)
+
+  module _ (all : AllFaultless (readingsOf text)) where
+    -- ORDERLY: of a faultless text whose committed part is conflict-serializable, orderly and each job of its order are printed, a tab before each
+    pub printed-orderly : ConflictSerializable (committedPart says) →
+        (order : List ℕ) × SmallestFirst (edge (committedPart says)) (jobsOf says) order × (verdictOf text ≡ 111 ∷ 114 ∷ 100 ∷ 101 ∷ 114 ∷ 108 ∷ 121 ∷ joined (map (λ j. 9 ∷ decimal j) order) ++ 10 ∷ [])
+    printed-orderly c =
+        let s = orderly-said-exactly text places room all .1 c in
+        let o = orderly-said text places (s .0) (s .1) .2 in (
+          o .order,
+          o .smallest,
+          short-text text short
+              ∙ said-order (judgementOf text places .said) (judgementOf text places .order) (s .0) (s .1)
+              ∙ ap (wordLine the-word-orderly) (ap (λ n. take n (judgementOf text places .order)) (o .count) ∙ o .fills .first)
+              ∙ orderly-bytes (o .order),
+        )
+
+    -- A KNOT: of any other, knot and each job of its cycle
+    pub printed-knot : (ConflictSerializable (committedPart says) → ⊥) →
+        (knot : List ℕ) × (taken : List ℕ) × (remain : List ℕ) × Takes (edge (committedPart says)) (jobsOf says) taken remain × Shown (edge (committedPart says)) remain knot
+        × (verdictOf text ≡ 107 ∷ 110 ∷ 111 ∷ 116 ∷ joined (map (λ j. 9 ∷ decimal j) knot) ++ 10 ∷ [])
+    printed-knot c =
+        let s = knot-said-exactly text places room all .1 c in
+        let k = knot-said text places (s .0) (s .1) .2 in (
+          k .knot,
+          k .taken,
+          k .remain,
+          k .takes,
+          k .walked,
+          short-text text short
+              ∙ said-knot (judgementOf text places .said) (judgementOf text places .order) (s .0) (s .1)
+              ∙ ap (wordLine the-word-knot) (ap (λ n. take n (judgementOf text places .order)) (k .count) ∙ k .fills .first)
+              ∙ knot-bytes (k .knot),
+        )

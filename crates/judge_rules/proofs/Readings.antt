@@ -1,0 +1,28 @@
+-- How the lines of a text read: a reading for each line, in order, as the reader has it of that line's bytes (01, Lines).
+-- Assumes nothing.
+use Prim.Native.Nat.{ℕ, _-_, _+_, _<_}
+use mathlib.Core.Path.{_≡_, ap}
+use mathlib.Core.List.{List, [], _∷_, map}
+use lib.ListN.{length, drop, length-map, List·getD-map}
+use Rattle.terms.specs.Letters.{ofHistories}
+use Rattle.text_rules.specs.Lines.{readLine}
+use Rattle.text_rules.specs.Split.{linesOf, part, used}
+use Rattle.text_rules.proofs.TextLines.{next-line}
+use Rattle.judge_rules.specs.HistoryText.{readingsOf, lineAt}
+use Rattle.judge_rules.specs.LineTable.{readingAt}
+
+-- as many as there are lines
+pub readings-length : (text : List ℕ) → length (readingsOf text) ≡ length (linesOf text)
+unfolding readingsOf
+readings-length text = length-map (linesOf text) (readLine ofHistories)
+
+-- each is what the reader makes of its line
+pub reading-at : (text : List ℕ) (n : ℕ) → readingAt (readingsOf text) n ≡ readLine ofHistories (lineAt (linesOf text) n)
+unfolding readingsOf readLine
+reading-at text n = List·getD-map (readLine ofHistories) (linesOf text) (n - 1) []
+
+-- the readings from a place of a text on, for a caller who goes from line end to line end
+pub readings-next : (text : List ℕ) (from to : ℕ) → from < length text → to ≡ from + used (drop from text) →
+    readingsOf (drop from text) ≡ readLine ofHistories (part text from to) ∷ readingsOf (drop to text)
+unfolding readingsOf
+readings-next text from to h e = ap (map (readLine ofHistories)) (next-line text from to h e)

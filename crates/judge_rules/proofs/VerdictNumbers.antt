@@ -1,0 +1,26 @@
+-- The three numbers of a verdict tell verdicts apart (01, The judge's rules; 01, Refusals by number).
+-- Assumes nothing.
+use Prim.Native.Nat.{ℕ}
+use mathlib.Core.Path.{_≡_, ap, ap₂}
+use native.Mathlib.Omega.{arith}
+use Rattle.terms.specs.Refusals.{numberOf}
+use Rattle.terms.proofs.Numbers.{same-number}
+use Rattle.judge_rules.specs.declared.verdict.Verdict.{Verdict}
+use Rattle.judge_rules.specs.declared.verdict.Verdict.the-variants.{Orderly, Knot, No}
+use Rattle.judge_rules.specs.Judgement.{inNumbers}
+
+-- equal numbers, equal verdicts
+pub same-verdict : (v w : Verdict) → inNumbers v ≡ inNumbers w → v ≡ w
+unfolding inNumbers
+same-verdict (Orderly n) (Orderly m) e = let q : n ≡ m = cc in ap Orderly q
+same-verdict (Knot n) (Knot m) e = let q : n ≡ m = cc in ap Knot q
+same-verdict (No l x) (No k y) e =
+    let p : l ≡ k = cc in
+    let q : numberOf x ≡ numberOf y = cc in
+    ap₂ No p (same-number x y q)
+same-verdict (Orderly n) (Knot m) e = let z : _≡_ {A = ℕ} 0 1 = cc in absurd (omega arith)
+same-verdict (Orderly n) (No k y) e = let z : _≡_ {A = ℕ} 0 1 = cc in absurd (omega arith)
+same-verdict (Knot n) (Orderly m) e = let z : _≡_ {A = ℕ} 0 1 = cc in absurd (omega arith)
+same-verdict (Knot n) (No k y) e = let z : _≡_ {A = ℕ} 0 1 = cc in absurd (omega arith)
+same-verdict (No l x) (Orderly m) e = let z : _≡_ {A = ℕ} 0 1 = cc in absurd (omega arith)
+same-verdict (No l x) (Knot m) e = let z : _≡_ {A = ℕ} 0 1 = cc in absurd (omega arith)

@@ -1,0 +1,157 @@
+-- One line by the table and in the paper's words: it is faultless, and it gets a refusal, in both or in neither (01, Refusals by number).
+-- Assumes nothing.
+use Prim.Native.Nat.{ℕ, _≤_, _<_}
+use mathlib.Core.Path.{_≡_, refl, sym, ap, _∙_, subst}
+use mathlib.Core.Logic.{_≢_, _⊎_, inl, inr, ⊎-elim}
+use mathlib.Core.Bool.{Bool, true, false, not, _&&_}
+use mathlib.Core.List.{List}
+use mathlib.Core.Option.{Option, none, some}
+use native.Mathlib.Omega.{arith}
+use lib.Dec.{eqb, leb}
+use borrow.Author.Tests.{eqb-true, eqb-false, eq-eqb, ne-eqb, leb-true, leb-false, le-leb, lt-leb}
+use Rattle.laws.specs.Choice.{pick, by-test, not-both}
+use Rattle.laws.proofs.Parts.{and-second}
+use Rattle.terms.specs.declared.letters.Letter.{Letter}
+use Rattle.terms.specs.declared.refusals.Refusal.{Refusal}
+use Rattle.terms.specs.declared.refusals.Refusal.the-variants.{BadLine, CellAbove, TooManyLines, JobOutside, Ended}
+use Rattle.terms.specs.Letters.{hasCell}
+use Rattle.terms.specs.Refusals.{numberOf}
+use Rattle.terms.proofs.Numbers.{same-number}
+use Rattle.text_rules.specs.declared.Reading.{Reading}
+use Rattle.text_rules.specs.declared.Reading.the-variants.{Good, Bad}
+use Rattle.text_rules.specs.Split.{linesOf}
+use Rattle.judge_rules.specs.HistoryText.{readingsOf}
+use Rattle.judge_rules.specs.LineTable.{readingAt, linesBefore, endedIn, holds, order, firstOf, tableSays, Faultless, Due}
+use Rattle.judge_rules.specs.AsWorded.{LineIs, Sound, RefusedAs}
+use Rattle.judge_rules.specs.AsWorded.RefusedAs.{too-many, bad, outside, above, over}
+use Rattle.judge_rules.proofs.FewJobs.{not-outside}
+use Rattle.judge_rules.proofs.CleanLines.{Clean, clean-line, line-clean}
+use Rattle.judge_rules.proofs.OverBefore.{good-at, at-good, ended-over, over-ended}
+
+-- a job from 1 to 255 is not outside
+inside : (job : ℕ) → 1 ≤ job → job ≤ 255 → not (leb 1 job && leb job 255) ≡ false
+inside job a b = rw (le-leb 1 job a, le-leb job 255 b)
+
+-- one that is 0 or above 255 is
+not-inside : (job : ℕ) → (job ≡ 0) ⊎ (255 < job) → not (leb 1 job && leb job 255) ≡ true
+not-inside job = ⊎-elim (λ z. rw (lt-leb 1 job (omega arith))) (λ h. by-test (leb 1 job) (λ t. rw (t, lt-leb job 255 h)) (λ f. rw f))
+
+-- and the other way round
+which-side : (job : ℕ) → not (leb 1 job && leb job 255) ≡ true → (job ≡ 0) ⊎ (255 < job)
+which-side job e =
+    by-test (eqb job 0) (λ t. inl (eqb-true job 0 t))
+    (λ f. let some-job : job ≢ 0 = eqb-false job 0 f in
+    by-test (leb job 255) (λ t. not-both e (inside job (omega arith) (leb-true job 255 t))) (λ g. inr (leb-false job 255 g)))
+
+-- a cell that is not above 63, where there is one
+cell-low : (l : Letter) (cell : ℕ) → (hasCell l ≡ false → cell ≡ 0) → (hasCell l && leb 64 cell) ≡ false → cell ≤ 63
+cell-low l cell z e = by-test (hasCell l) (λ t. let h : cell < 64 = leb-false 64 cell (rw t at e) in omega arith) (λ f. let q : cell ≡ 0 = z f in omega arith)
+
+-- is not above 63
+low-cell : (l : Letter) (cell : ℕ) → cell ≤ 63 → (hasCell l && leb 64 cell) ≡ false
+low-cell l cell h = by-test (hasCell l) (λ t. rw (t, lt-leb 64 cell (omega arith))) (λ f. rw f)
+
+-- a cell above 63 is there
+high-cell : (l : Letter) (cell : ℕ) → (hasCell l ≡ false → cell ≡ 0) → 63 < cell → (hasCell l && leb 64 cell) ≡ true
+high-cell l cell z h = by-test (hasCell l) (λ t. rw (t, le-leb 64 cell (omega arith))) (λ f. let q : cell ≡ 0 = z f in absurd (omega arith))
+
+-- the rows of a line that reads as good, from the second on
+rowsOf : Bool → Bool → Bool → Option Refusal
+rowsOf a b c = pick a (some JobOutside) (pick b (some CellAbove) (pick c (some Ended) none))
+
+-- by the first that holds
+by-rows : {P : Type 0} (a b c : Bool) (why : Refusal) → rowsOf a b c ≡ some why → (a ≡ true → why ≡ JobOutside → P) → (a ≡ false → b ≡ true → why ≡ CellAbove → P) →
+    (a ≡ false → b ≡ false → c ≡ true → why ≡ Ended → P) → P
+unfolding rowsOf
+by-rows true b c why e one′ two′ three′ = one′ refl cc
+by-rows false true c why e one′ two′ three′ = two′ refl refl cc
+by-rows false false true why e one′ two′ three′ = three′ refl refl refl cc
+by-rows false false false why e one′ two′ three′ = let z : _≡_ {A = ℕ} 0 1 = cc in absurd (omega arith)
+
+module _ (text : List ℕ) (n : ℕ) where
+  -- a faultless line by its reading
+  read-sound : (r : Reading) → readingAt (readingsOf text) n ≡ r → Clean n (linesBefore (readingsOf text) n) r → Sound (linesOf text) n
+  read-sound Bad e c = not-both refl (c .good)
+  read-sound (Good l job cell) e c =
+      let g = good-at text n l job cell e in
+      let j = not-outside job (c .inside) in
+      record {
+        letter = l;
+        job = job;
+        cell = cell;
+        good = g;
+        first = j .0;
+        last = j .1;
+        below = cell-low l cell (g .5) (c .below);
+        open′ = λ o. let z : _≡_ {A = ℕ} 0 1 = absurd (not-both (over-ended text n job o) (c .open′)) in omega arith;
+      }
+
+  -- a line that the table says nothing of is faultless
+  pub faultless-sound : Faultless (readingsOf text) n → Sound (linesOf text) n
+  faultless-sound f = read-sound (readingAt (readingsOf text) n) refl (clean-line n (linesBefore (readingsOf text) n) (readingAt (readingsOf text) n) f)
+
+  -- and of a faultless one up to line 4,096 the table says nothing
+  pub sound-faultless : n ≤ 4_096 → Sound (linesOf text) n → Faultless (readingsOf text) n
+  sound-faultless h s =
+      let r : readingAt (readingsOf text) n ≡ Good (s .letter) (s .job) (s .cell) = at-good text n (s .letter) (s .job) (s .cell) (s .good) in
+      subst (λ x. tableSays n (linesBefore (readingsOf text) n) x ≡ none) (sym r) (line-clean n (linesBefore (readingsOf text) n) (Good (s .letter) (s .job) (s .cell))
+      (record {
+        few = ne-eqb n 4_097 (omega arith);
+        good = refl;
+        inside = inside (s .job) (s .first) (s .last);
+        below = low-cell (s .letter) (s .cell) (s .below);
+        open′ = by-test (endedIn (s .job) (linesBefore (readingsOf text) n)) (λ t. absurd (s .open′ (ended-over text n (s .job) t))) (λ f. f);
+      }))
+
+  -- what a good line is refused with
+  good-refused : n ≤ 4_096 → (l : Letter) (job cell : ℕ) (why : Refusal) → LineIs (linesOf text) n l job cell →
+      rowsOf (not (leb 1 job && leb job 255)) (hasCell l && leb 64 cell) (endedIn job (linesBefore (readingsOf text) n)) ≡ some why → RefusedAs (linesOf text) n (numberOf why)
+  good-refused h l job cell why g e =
+      by-rows (not (leb 1 job && leb job 255)) (hasCell l && leb 64 cell) (endedIn job (linesBefore (readingsOf text) n)) why e
+      (λ a q. rw q (outside l job cell h g (which-side job a)))
+      (λ a b q. let j = not-outside job a in rw q (above l job cell h g (j .0) (j .1) (leb-true 64 cell (and-second (hasCell l) (leb 64 cell) b))))
+      (λ a b c q. let j = not-outside job a in rw q (over l job cell h g (j .0) (j .1) (cell-low l cell (g .5) b) (ended-over text n job c)))
+
+  -- what a line is refused with, by its reading
+  read-refused : n ≤ 4_096 → (r : Reading) (why : Refusal) → readingAt (readingsOf text) n ≡ r → tableSays n (linesBefore (readingsOf text) n) r ≡ some why → RefusedAs (linesOf text) n (numberOf why)
+  unfolding tableSays firstOf holds order
+  read-refused h Bad why e d =
+      let q : some BadLine ≡ some why = rw (ne-eqb n 4_097 (omega arith)) at d in
+      let w : why ≡ BadLine = cc in
+      rw w (bad h (λ l job cell g. let z : Bad ≡ Good l job cell = sym e ∙ at-good text n l job cell g in let y : _≡_ {A = ℕ} 0 1 = cc in omega arith))
+  read-refused h (Good l job cell) why e d =
+      good-refused h l job cell why (good-at text n l job cell e) (unfold rowsOf in rw (ne-eqb n 4_097 (omega arith)) at d)
+
+  -- a refusal that is due for a line up to 4,097 is the paper's
+  pub due-worded : n ≤ 4_097 → (why : Refusal) → Due (readingsOf text) n why → RefusedAs (linesOf text) n (numberOf why)
+  unfolding tableSays firstOf holds order
+  due-worded h why d =
+      by-test (eqb n 4_097)
+      (λ t.
+      let q : some TooManyLines ≡ some why = rw t at d in
+      let w : why ≡ TooManyLines = cc in
+      rw w (too-many (eqb-true n 4_097 t)))
+      (λ f. let other′ : n ≢ 4_097 = eqb-false n 4_097 f in read-refused (omega arith) (readingAt (readingsOf text) n) why refl d)
+
+  -- the rows of a line up to 4,096 that reads as good
+  good-says : n ≤ 4_096 → (l : Letter) (job cell : ℕ) → LineIs (linesOf text) n l job cell →
+      tableSays n (linesBefore (readingsOf text) n) (readingAt (readingsOf text) n) ≡ rowsOf (not (leb 1 job && leb job 255)) (hasCell l && leb 64 cell) (endedIn job (linesBefore (readingsOf text) n))
+  unfolding tableSays firstOf holds order rowsOf
+  good-says h l job cell g = rw (at-good text n l job cell g, ne-eqb n 4_097 (omega arith))
+
+  -- a line that is none of the good ones reads as bad
+  reads-bad : ((l : Letter) (job cell : ℕ) → LineIs (linesOf text) n l job cell → ⊥) → (r : Reading) → readingAt (readingsOf text) n ≡ r → readingAt (readingsOf text) n ≡ Bad
+  reads-bad other Bad e = e
+  reads-bad other (Good l job cell) e = absurd (other l job cell (good-at text n l job cell e))
+
+  -- and the paper's refusal of a line is due for it
+  pub worded-due : {k : ℕ} → RefusedAs (linesOf text) n k → (why : Refusal) → numberOf why ≡ k → Due (readingsOf text) n why
+  unfolding tableSays firstOf holds order rowsOf
+  worded-due (too-many e) why q = rw (eq-eqb n 4_097 e) (ap some (sym (same-number why TooManyLines q)))
+  worded-due (bad h other) why q =
+      rw (reads-bad other (readingAt (readingsOf text) n) refl, ne-eqb n 4_097 (omega arith)) (ap some (sym (same-number why BadLine q)))
+  worded-due (outside l job cell h g o) why q = good-says h l job cell g ∙ rw (not-inside job o) (ap some (sym (same-number why JobOutside q)))
+  worded-due (above l job cell h g a b c) why q =
+      good-says h l job cell g ∙ rw (inside job a b, high-cell l cell (g .5) c) (ap some (sym (same-number why CellAbove q)))
+  worded-due (over l job cell h g a b c o) why q =
+      good-says h l job cell g ∙ rw (inside job a b, low-cell l cell c, over-ended text n job o) (ap some (sym (same-number why Ended q)))

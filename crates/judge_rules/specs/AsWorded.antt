@@ -1,0 +1,53 @@
+-- What a faultless text is, and when a line gets which refusal, in the paper's words and numbers: by good lines and where they stand alone, with no test and no order of tests (01, Refusals by number; 01, Lines).
+-- The numbers are written out, since these are the words of promises.
+use Prim.Native.Nat.{ℕ, _≤_, _<_}
+use mathlib.Core.Path.{_≡_}
+use mathlib.Core.Logic.{_⊎_}
+use mathlib.Core.List.{List}
+use lib.ListN.{length}
+use Rattle.terms.specs.declared.letters.Letter.{Letter}
+use Rattle.terms.specs.declared.letters.Letter.the-variants.{Commit, GiveUp}
+use Rattle.terms.specs.Letters.{ofHistories}
+use Rattle.text_rules.specs.GoodLine.{GoodLine}
+use Rattle.text_rules.specs.Split.{linesOf}
+use Rattle.judge_rules.specs.HistoryText.{lineAt}
+
+-- line n is a good line of a history: this letter, this job and this cell, 0 where the letter has none, and its newline (01, Lines)
+abbrev pub LineIs : List (List ℕ) → ℕ → Letter → ℕ → ℕ → Type 0
+LineIs ls n l job cell = GoodLine ofHistories (lineAt ls n) l job cell
+
+-- a line before line n is a c or an a of this job
+pub record OverBefore (ls : List (List ℕ)) (n job : ℕ) : Type 0 where
+  pub at : ℕ
+  pub from : 1 ≤ at
+  pub before : at < n
+  pub ends : LineIs ls at Commit job 0 ⊎ LineIs ls at GiveUp job 0
+
+-- line n is faultless: it is good, its job is 1 to 255, its cell at most 63, and no line before it is a c or an a of its job
+pub record Sound (ls : List (List ℕ)) (n : ℕ) : Type 0 where
+  pub letter : Letter
+  pub job : ℕ
+  pub cell : ℕ
+  pub good : LineIs ls n letter job cell
+  pub first : 1 ≤ job
+  pub last : job ≤ 255
+  pub below : cell ≤ 63
+  pub open′ : OverBefore ls n job → ⊥
+
+-- the first k lines are faultless, and they are at most 4,096
+pub record SoundTo (ls : List (List ℕ)) (k : ℕ) : Type 0 where
+  pub few : k ≤ 4_096
+  pub each : (n : ℕ) → 1 ≤ n → n ≤ k → Sound ls n
+
+-- a faultless text: all its lines are, and they are at most 4,096
+abbrev pub SoundText : List ℕ → Type 0
+SoundText text = SoundTo (linesOf text) (length (linesOf text))
+
+-- the refusal of line n by its number: 11 for line 4,097 whatever it is; of any other 9 where it is no good line, 12 where its job is 0 or above 255,
+-- 2 where its job is neither and its cell is above 63, and 13 where both are as they should be and a line before it is a c or an a of its job
+pub data RefusedAs (ls : List (List ℕ)) (n : ℕ) : ℕ → Type 0 where
+  too-many : n ≡ 4_097 → RefusedAs ls n 11
+  bad : n ≤ 4_096 → ((l : Letter) (job cell : ℕ) → LineIs ls n l job cell → ⊥) → RefusedAs ls n 9
+  outside : (l : Letter) (job cell : ℕ) → n ≤ 4_096 → LineIs ls n l job cell → (job ≡ 0) ⊎ (255 < job) → RefusedAs ls n 12
+  above : (l : Letter) (job cell : ℕ) → n ≤ 4_096 → LineIs ls n l job cell → 1 ≤ job → job ≤ 255 → 63 < cell → RefusedAs ls n 2
+  over : (l : Letter) (job cell : ℕ) → n ≤ 4_096 → LineIs ls n l job cell → 1 ≤ job → job ≤ 255 → cell ≤ 63 → OverBefore ls n job → RefusedAs ls n 13

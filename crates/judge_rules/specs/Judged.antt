@@ -1,0 +1,47 @@
+-- What the judge finds of jobs and their edges, and of a history; the verdict that it says of this is in Judgement.antt (01, The judge's rules).
+use Prim.Native.Nat.{ℕ}
+use mathlib.Core.Bool.{Bool, true, false}
+use mathlib.Core.List.{List, [], _∷_}
+use lib.Dec.{ltb, eqb}
+use Rattle.laws.specs.Choice.{pick}
+use Rattle.conflict.specs.Schedule.{edge}
+use Rattle.conflict.specs.History.{History, committedPart, commitOrder}
+use Rattle.judge_rules.specs.Order.{Edges, orderOf, stuck}
+use Rattle.judge_rules.specs.Knot.{knotIn}
+
+-- what is found of a history: orderly, with an order, or a knot (01, The judge's rules)
+pub data Finding : Type 0 where
+  orderly : List ℕ → Finding
+  knotted : List ℕ → Finding
+
+-- whether that is orderly
+unfoldable pub isOrderly : Finding → Bool
+isOrderly (orderly order) = true
+isOrderly (knotted js) = false
+
+-- orderly where no job remains, else the knot among those that do
+unfoldable pub findingBy : Edges → List ℕ → List ℕ → Finding
+findingBy e order [] = orderly order
+findingBy e order (j ∷ left) = knotted (knotIn e (j ∷ left))
+
+-- what is found of jobs in ascending order
+unfoldable pub judged : Edges → List ℕ → Finding
+judged e jobs = findingBy e (orderOf e jobs) (stuck e jobs)
+
+-- one more job in its place among others in ascending order, where it is not there already
+unfoldable pub insert : ℕ → List ℕ → List ℕ
+insert j [] = j ∷ []
+insert j (k ∷ ks) = pick (ltb j k) (j ∷ k ∷ ks) (pick (eqb j k) (k ∷ ks) (k ∷ insert j ks))
+
+-- the jobs in ascending order, each once
+unfoldable pub sorted : List ℕ → List ℕ
+sorted [] = []
+sorted (j ∷ js) = insert j (sorted js)
+
+-- the jobs with a c, in ascending order, each once; a committed job without actions counts too (01, The judge's rules)
+unfoldable pub jobsOf : History → List ℕ
+jobsOf h = sorted (commitOrder h)
+
+-- what is found of a history: of its committed jobs by the edges of its committed part (01, The judge's rules)
+unfoldable pub findingOf : History → Finding
+findingOf h = judged (edge (committedPart h)) (jobsOf h)

@@ -1,0 +1,97 @@
+-- The judge at texts of bytes: every refusal of a line and of the buffer, each two neighbours of 9, 12, 2, 13 on one line, what is no fault, and what is judged then (01, Refusals by number; 01, Lines).
+-- One list, with the answer in numbers, the line handed back and the buffer; that each is told so is `all-told` (proofs/Examples.antt). Refusal 11 is at line 4,097 of any text: `too-many-exactly` (proofs/AsWorded.antt).
+use Prim.Native.Nat.{ℕ, _-_}
+use Prim.Native.String.{String}
+use mathlib.Core.List.{List, [], _∷_, _++_}
+use lib.ListN.{length, replicate}
+use Rattle.text_rules.specs.Quoted.{bytes}
+use Rattle.judge_rules.specs.Judgement.{judgementOf, inNumbers}
+
+-- what is told of a text: the answer in three numbers (0 orderly and 1 knot with the length, 2 a refusal with its number and line number), the line handed back, and the buffer
+pub record Telling : Type 0 where
+  pub answer : List ℕ
+  pub line : List ℕ
+  pub order : List ℕ
+
+-- a text and how many places the order buffer has, each with a 9 in it; then the answer, the line handed back and the jobs in the first places
+pub record Case : Type 0 where
+  pub text : String
+  pub places : ℕ
+  pub answer : List ℕ
+  pub line : String
+  pub jobs : List ℕ
+
+-- a text that has a faulty line, with room for every job: the refusal's number, the line number and the line
+abbrev pub faulty : String → ℕ → ℕ → String → Case
+faulty text number n line = record { text = text; places = 255; answer = 2 ∷ number ∷ n ∷ []; line = line; jobs = [] }
+
+-- a text in which there is no fault and no knot: so many jobs, in this order
+abbrev pub fine : String → ℕ → List ℕ → Case
+fine text n jobs = record { text = text; places = 255; answer = 0 ∷ n ∷ 0 ∷ []; line = ""; jobs = jobs }
+
+-- a text in which there is no fault and a knot: so many jobs, in this order
+abbrev pub tied : String → ℕ → List ℕ → Case
+tied text n jobs = record { text = text; places = 255; answer = 1 ∷ n ∷ 0 ∷ []; line = ""; jobs = jobs }
+
+abbrev pub cases : List Case
+cases =
+    -- 14 for 254 places, before anything else and with line number 0; 255 are taken, and more stay
+    record { text = "x\n"; places = 254; answer = 2 ∷ 14 ∷ 0 ∷ []; line = ""; jobs = [] }
+    ∷ record { text = ""; places = 254; answer = 2 ∷ 14 ∷ 0 ∷ []; line = ""; jobs = [] }
+    ∷ record { text = "c\t1\n"; places = 256; answer = 0 ∷ 1 ∷ 0 ∷ []; line = ""; jobs = 1 ∷ [] }
+    ∷ fine "" 0 []
+    -- 9: another letter, an empty line, a field too many, a cell of three digits, a last line without its newline
+    ∷ faulty "x\n" 9 1 "x"
+    ∷ faulty "c\t1\n\nc\t2\n" 9 2 ""
+    ∷ faulty "c\t1\t5\n" 9 1 "c\t1\t5"
+    ∷ faulty "r\t7\t100\n" 9 1 "r\t7\t100"
+    ∷ faulty "r\t1\t5\nc\t1" 9 2 "c\t1"
+    -- 9 before 12, before 2 and before 13: a job above 255 and a cell of three digits, a cell above 63 and a field too many, a line of a job that has ended with one
+    ∷ faulty "r\t256\t100\n" 9 1 "r\t256\t100"
+    ∷ faulty "r\t1\t64\t1\n" 9 1 "r\t1\t64\t1"
+    ∷ faulty "c\t1\nk\t1\t5\n" 9 2 "k\t1\t5"
+    -- 12: job 0 with each letter, and job 256; 255 is none
+    ∷ faulty "r\t0\t5\n" 12 1 "r\t0\t5"
+    ∷ faulty "w\t0\t5\n" 12 1 "w\t0\t5"
+    ∷ faulty "i\t0\t5\n" 12 1 "i\t0\t5"
+    ∷ faulty "c\t0\n" 12 1 "c\t0"
+    ∷ faulty "a\t0\n" 12 1 "a\t0"
+    ∷ faulty "k\t0\n" 12 1 "k\t0"
+    ∷ faulty "c\t255\nc\t256\n" 12 2 "c\t256"
+    ∷ fine "c\t255\n" 1 (255 ∷ [])
+    -- 12 before 2: job 256 and cell 64
+    ∷ faulty "w\t256\t64\n" 12 1 "w\t256\t64"
+    -- 2: cell 64, with each letter that has a cell; 63 is none
+    ∷ faulty "r\t7\t64\n" 2 1 "r\t7\t64"
+    ∷ faulty "w\t7\t64\n" 2 1 "w\t7\t64"
+    ∷ faulty "i\t7\t64\n" 2 1 "i\t7\t64"
+    ∷ fine "r\t7\t63\nc\t7\n" 1 (7 ∷ [])
+    -- 2 before 13: cell 64, of a job that has committed
+    ∷ faulty "c\t1\nr\t1\t64\n" 2 2 "r\t1\t64"
+    -- 13: each letter after a c and after an a; k does not end a job
+    ∷ faulty "c\t1\nr\t1\t5\n" 13 2 "r\t1\t5"
+    ∷ faulty "c\t1\nc\t1\n" 13 2 "c\t1"
+    ∷ faulty "c\t1\na\t1\n" 13 2 "a\t1"
+    ∷ faulty "c\t1\nk\t1\n" 13 2 "k\t1"
+    ∷ faulty "a\t1\nw\t1\t5\n" 13 2 "w\t1\t5"
+    ∷ faulty "a\t1\nc\t1\n" 13 2 "c\t1"
+    ∷ faulty "a\t1\na\t1\n" 13 2 "a\t1"
+    ∷ faulty "a\t1\nk\t1\n" 13 2 "k\t1"
+    ∷ fine "k\t1\nr\t1\t5\nk\t1\nc\t1\n" 1 (1 ∷ [])
+    ∷ fine "a\t1\nc\t2\n" 1 (2 ∷ [])
+    -- a knot; what was done before a k does not count, nor does a job that gave up, nor one without a c
+    ∷ tied "w\t1\t0\nw\t2\t0\nw\t2\t1\nw\t1\t1\nc\t1\nc\t2\n" 2 (1 ∷ 2 ∷ [])
+    ∷ fine "w\t1\t0\nw\t2\t0\nw\t2\t1\nk\t1\nw\t1\t1\nc\t1\nc\t2\n" 2 (2 ∷ 1 ∷ [])
+    ∷ fine "w\t1\t0\nw\t2\t0\nw\t2\t1\nw\t1\t1\na\t1\nc\t2\n" 1 (2 ∷ [])
+    ∷ fine "w\t1\t0\nw\t2\t0\nw\t2\t1\nw\t1\t1\nc\t2\n" 1 (2 ∷ [])
+    -- the first faulty line decides, whatever follows: 13, then 9
+    ∷ faulty "c\t1\nr\t1\t5\nx\n" 13 2 "r\t1\t5"
+    ∷ []
+
+-- what the judge tells of a text
+abbrev pub tells : Case → Telling
+tells c = let j = judgementOf (bytes (c .text)) (replicate (c .places) 9) in record { answer = inNumbers (j .said); line = j .line; order = j .order }
+
+-- what it has to tell
+abbrev pub told : Case → Telling
+told c = record { answer = c .answer; line = bytes (c .line); order = c .jobs ++ replicate (c .places - length (c .jobs)) 9 }

@@ -1,0 +1,55 @@
+-- The judge whole: what it says of a text and an order buffer, and what it leaves in the buffer (01, The judge's rules; 01, Refusals by number).
+use Prim.Native.Nat.{ℕ, _+_}
+use mathlib.Core.List.{List, [], _∷_, _++_}
+use mathlib.Core.Option.{Option, none, some}
+use lib.Dec.{ltb}
+use lib.ListN.{length, drop}
+use Rattle.laws.specs.Choice.{pick}
+use Rattle.terms.specs.declared.refusals.Refusal.the-variants.{ShortOrder}
+use Rattle.terms.specs.Refusals.{numberOf}
+use Rattle.terms.specs.Limits.{judgedJobs}
+use Rattle.text_rules.specs.Split.{linesOf, joined}
+use Rattle.judge_rules.specs.declared.verdict.Verdict.{Verdict}
+use Rattle.judge_rules.specs.declared.verdict.Verdict.the-variants.{Orderly, Knot, No}
+use Rattle.judge_rules.specs.Judged.{Finding, orderly, knotted, findingOf}
+use Rattle.judge_rules.specs.HistoryText.{readingsOf, lineAt, Faulty, firstFaulty, eventsIn, bare}
+use Rattle.judge_rules.specs.LineTable.{linesBefore}
+
+-- what is said, what the buffer then holds, and the line handed back
+pub record Judgement : Type 0 where
+  pub said : Verdict
+  pub order : List ℕ
+  pub line : List ℕ
+
+-- jobs fill the first places of the buffer, and the rest stay (01, The judge's rules)
+unfoldable pub filled : List ℕ → List ℕ → List ℕ
+filled jobs buffer = jobs ++ drop (length jobs) buffer
+
+-- the verdict on a faultless history, by what is found of it: the length is said, the jobs fill the buffer, and no line is handed back
+unfoldable pub sayFinding : List ℕ → Finding → Judgement
+sayFinding buffer (orderly order) = record { said = Orderly (length order); order = filled order buffer; line = [] }
+sayFinding buffer (knotted js) = record { said = Knot (length js); order = filled js buffer; line = [] }
+
+-- a faulty line is handed back without its newline, with its number and refusal, and the buffer stays; else the verdict on what the lines say
+unfoldable pub sayLines : List ℕ → List ℕ → Option Faulty → Judgement
+sayLines buffer text none = sayFinding buffer (findingOf (eventsIn (readingsOf text)))
+sayLines buffer text (some f) = record { said = No (f .number) (f .why); order = buffer; line = bare (lineAt (linesOf text) (f .number)) }
+
+-- the judge: 14 first, with line number 0; then the lines in order (01, Refusals by number)
+unfoldable pub judgementOf : List ℕ → List ℕ → Judgement
+judgementOf text buffer =
+    pick (ltb (length buffer) judgedJobs) (record { said = No 0 ShortOrder; order = buffer; line = [] })
+    (sayLines buffer text (firstFaulty 1 [] (readingsOf text)))
+
+-- where in the text the part handed back starts: with a refusal of a line behind all lines before it; in all other answers, and for 14, whose line number is 0,
+-- at the text's start (01, Lines: as it stands in the caller's text)
+unfoldable pub lineFrom : List ℕ → Verdict → ℕ
+lineFrom text (Orderly n) = 0
+lineFrom text (Knot n) = 0
+lineFrom text (No line why) = length (joined (linesBefore (linesOf text) line))
+
+-- the answer in three numbers: 0 orderly and 1 knot with the length, 2 a refusal with its number and its line number
+unfoldable pub inNumbers : Verdict → List ℕ
+inNumbers (Orderly n) = 0 ∷ n ∷ 0 ∷ []
+inNumbers (Knot n) = 1 ∷ n ∷ 0 ∷ []
+inNumbers (No line why) = 2 ∷ numberOf why ∷ line ∷ []

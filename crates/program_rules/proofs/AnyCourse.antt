@@ -1,0 +1,107 @@
+-- However a caller goes about it, he has written out the records of the run: chunks, buffers and the times of writing out do not matter.
+-- Assumes nothing.
+use Prim.Native.Nat.{ℕ, _+_, _≤_}
+use mathlib.Core.Path.{_≡_, refl, sym, ap, ap₂, _∙_}
+use mathlib.Core.Bool.{Bool, true, false}
+use mathlib.Core.List.{List, [], _∷_, _++_, append-assoc, append-nil}
+use native.Mathlib.Omega.{arith}
+use lib.ListN.{length, take}
+use Rattle.laws.specs.Choice.{pick, by-test}
+use Rattle.text_rules.specs.declared.splitter.Splitter.{Splitter}
+use Rattle.text_rules.specs.Split.{part, following, fresh, linesOf, joined, afterAll, foundIn, foundLast, foundOver, numberedOn}
+use Rattle.text_rules.proofs.Found.{finds-all}
+use Rattle.text_rules.proofs.TextLines.{lines-one}
+use Rattle.desk_arrays.specs.Steps.{emptyDesk}
+use Rattle.program_rules.specs.declared.Clerk.{Clerk}
+use Rattle.program_rules.specs.declared.View.{View}
+use Rattle.program_rules.specs.OverLines.{Told, written}
+use Rattle.desk_arrays.specs.Seen.{onArrays}
+use Rattle.program_rules.specs.Programs.{firstNumber, arraysRun}
+use Rattle.program_rules.specs.Work.{startedClerk, viewed, roomy, unended, owing, workOf, finishOf}
+use Rattle.program_rules.specs.Callers.{Course, starts, works, empties, Standing}
+use Rattle.program_rules.specs.Tellings.{tellings, deskAfter, clerkAfter, recordsIn}
+use Rattle.program_rules.proofs.Tellings.{tellings-append, tellings-run}
+use Rattle.program_rules.proofs.Records.{written-append, clerk-append, records-append, clerk-none, records-none}
+use Rattle.program_rules.proofs.OneCall.{Did, called, put-take}
+use Rattle.program_rules.proofs.LastLine.{open-always, last-told}
+
+-- one call, whatever the chunk and the place
+pub call-did : (view : View) (c : Clerk) (chunk : List ℕ) (from : ℕ) (out : List ℕ) (at : ℕ) → at ≤ length out →
+    Did view c (part chunk from (workOf view c chunk from out at .worked .next)) out at (workOf view c chunk from out at .worked .clerk) (workOf view c chunk from out at .out) (workOf view c chunk from out at .worked .at)
+unfolding workOf
+call-did view c chunk from out at h = called (length chunk) view c chunk from out at h .did
+
+-- a call brings a course on
+did-stands : {view : View} {text sent p out then : List ℕ} {c d : Clerk} {at to : ℕ} → Standing view text sent c out at → Did view c p out at d then to → Standing view (text ++ p) sent d then to
+did-stands {view} {text} {sent} {p} {out} {c = c} {at = at} s d =
+    record {
+      clerk = d .clerk ∙ ap (λ x. clerkAfter x p) (s .clerk) ∙ sym (clerk-append startedClerk text p);
+      said =
+          ap (λ l. sent ++ l) (d .text)
+          ∙ sym (append-assoc sent (take at out) (recordsIn view c p))
+          ∙ ap₂ (λ l x. l ++ recordsIn view x p) (s .said) (s .clerk)
+          ∙ sym (records-append view startedClerk text p);
+      within = d .within;
+    }
+
+-- writing out does too
+empty-stands : {view : View} {text sent out : List ℕ} {c : Clerk} {at : ℕ} → Standing view text sent c out at → (next : List ℕ) → Standing view text (sent ++ take at out) c next 0
+empty-stands {sent = sent} {out} {at = at} s next = record { clerk = s .clerk; said = append-nil (sent ++ take at out) ∙ s .said; within = omega arith }
+
+-- EVERY COURSE: what has been written out and what still stands in the buffer are the records of the lines that have ended, and the clerk has seen all bytes
+pub course-stands : {view : View} {text sent : List ℕ} {c : Clerk} {out : List ℕ} {at : ℕ} → Course view text sent c out at → Standing view text sent c out at
+course-stands {view} (starts out) = record { clerk = sym (clerk-none startedClerk); said = sym (records-none view startedClerk); within = omega arith }
+course-stands {view} (works {c = c} {out = out} {at = at} k chunk from) = did-stands (course-stands k) (call-did view c chunk from out at (course-stands k .within))
+course-stands (empties k next) = empty-stands (course-stands k) next
+
+-- the lines that are found in a text and at its end are those of the text as one chunk
+one-chunk : (text : List ℕ) → foundIn fresh text ++ foundLast (afterAll fresh text) ≡ numberedOn 1 (linesOf text)
+unfolding foundOver joined following
+one-chunk text = finds-all (text ∷ []) ∙ ap (λ t. numberedOn 1 (linesOf t)) (append-nil text)
+
+-- told one after another they are the run
+text-told : (text : List ℕ) → tellings onArrays (emptyDesk firstNumber) (foundIn fresh text ++ foundLast (afterAll fresh text)) ≡ arraysRun text
+unfolding arraysRun
+text-told text = ap (tellings onArrays (emptyDesk firstNumber)) (one-chunk text) ∙ tellings-run onArrays (emptyDesk firstNumber) 1 (linesOf text) (lines-one text)
+
+-- what is written of a line that is owed, or of none
+owed-written : (v : Told → List ℕ) (b : Bool) (t : Told) → written v (pick b (t ∷ []) []) ≡ pick b (v t) []
+unfolding written
+owed-written v true t = append-nil (v t)
+owed-written v false t = refl
+
+-- what the end of the input adds
+pub last-records : (view : View) (text : List ℕ) →
+    recordsIn view startedClerk text ++ pick (owing (afterAll fresh text)) (viewed view (unended (afterAll fresh text .line))) [] ≡ written (viewed view) (arraysRun text)
+unfolding recordsIn startedClerk
+last-records view text =
+    let d = emptyDesk firstNumber in
+    let fs = foundIn fresh text in
+    let s = afterAll fresh text in
+    ap (λ l. written (viewed view) (tellings onArrays d fs) ++ l)
+    (sym (ap (written (viewed view)) (last-told onArrays (deskAfter onArrays d fs) s (open-always text)) ∙ owed-written (viewed view) (owing s) (unended (s .line))))
+    ∙ sym (written-append (viewed view) (tellings onArrays d fs) (tellings onArrays (deskAfter onArrays d fs) (foundLast s)))
+    ∙ ap (written (viewed view)) (sym (tellings-append onArrays d fs (foundLast s)) ∙ text-told text)
+
+-- the splitter of a clerk who has seen the text
+pub seen-splitter : {c : Clerk} (text : List ℕ) → c ≡ clerkAfter startedClerk text → c .splitter ≡ afterAll fresh text
+unfolding clerkAfter startedClerk
+seen-splitter text e = ap (λ x. x .splitter) e
+
+-- the end of the input: its record stands behind the others
+finish-take : (view : View) (c : Clerk) (out : List ℕ) (at : ℕ) → at ≤ length out → roomy out at ≡ true →
+    take (finishOf view c out at .finished .at) (finishOf view c out at .out) ≡ take at out ++ pick (owing (c .splitter)) (viewed view (unended (c .splitter .line))) []
+unfolding finishOf
+finish-take view c out at h g =
+    by-test (owing (c .splitter)) (λ e. rw (e, g) (put-take out at (viewed view (unended (c .splitter .line))) h)) (λ e. rw e (sym (append-nil (take at out))))
+
+-- EVERY COURSE TO ITS END: all that has been written out, with what stands in the buffer once the input has ended, is what is written of the run of the text
+pub course-finishes : {view : View} {text sent : List ℕ} {c : Clerk} {out : List ℕ} {at : ℕ} → Course view text sent c out at → roomy out at ≡ true →
+    sent ++ take (finishOf view c out at .finished .at) (finishOf view c out at .out) ≡ written (viewed view) (arraysRun text)
+course-finishes {view} {text} {sent} {c} {out} {at} k g =
+    let s = course-stands k in
+    let r : Splitter → List ℕ = λ x. pick (owing x) (viewed view (unended (x .line))) [] in
+    ap (λ l. sent ++ l) (finish-take view c out at (s .within) g)
+    ∙ sym (append-assoc sent (take at out) (r (c .splitter)))
+    ∙ ap₂ (λ l x. l ++ r x) (s .said) (seen-splitter text (s .clerk))
+    ∙ last-records view text

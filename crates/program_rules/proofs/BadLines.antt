@@ -1,0 +1,63 @@
+-- The desk programs answer a line with refusal 9 exactly where it is a bad line, and the desk does not see it (01, refusal 9; 01, Lines).
+-- Assumes nothing.
+use Prim.Native.Nat.{ℕ, _+_}
+use mathlib.Core.Path.{_≡_, refl, ap}
+use mathlib.Core.Logic.{_↔_}
+use mathlib.Core.List.{List, [], _∷_}
+use mathlib.Core.Option.{some}
+use native.Mathlib.Omega.{arith}
+use lib.Dec.{ltb}
+use borrow.Author.Tests.{ltb-true, ltb-false}
+use Rattle.laws.specs.Choice.{by-test}
+use Rattle.terms.specs.declared.refusals.Refusal.the-variants.{BadLine}
+use Rattle.terms.specs.Letters.{byteOf, ofRequests}
+use Rattle.terms.specs.Limits.{requestLines}
+use Rattle.text_rules.specs.declared.Reading.{Reading}
+use Rattle.text_rules.specs.declared.Reading.the-variants.{Good, Bad}
+use Rattle.text_rules.specs.Lines.{refusalOf, readLine}
+use Rattle.text_rules.specs.Split.{linesOf}
+use Rattle.desk_rules.specs.declared.Answer.the-variants.{No}
+use Rattle.desk_rules.specs.Desk.{Desk, freshDesk}
+use Rattle.desk_rules.proofs.Refusing.{refuses}
+use Rattle.program_rules.specs.OverLines.{answered, lineBy, runOf}
+use Rattle.desk_rules.specs.Step.{step}
+use Rattle.program_rules.specs.Programs.{firstNumber, runOn}
+use Rattle.program_rules.specs.LinesTold.{LinesTold, no-line, no-more, a-line}
+
+-- by what the line says: a step never answers 9
+answered-exactly : (d : Desk) (n : ℕ) (r : Reading) → (answered step d n r .told .said ≡ No BadLine) ↔ (refusalOf r ≡ some BadLine)
+unfolding answered
+answered-exactly d n Bad = (λ _. refl, λ _. refl)
+answered-exactly d n (Good l job cell) = (
+  λ e. let b = refuses d .one-to-eight (record { kind = byteOf l; job = job; cell = cell }) BadLine e in let h = b .1 in absurd (omega arith),
+  λ e. let z : _≡_ {A = ℕ} 0 1 = cc in absurd (omega arith),
+)
+
+-- a line is answered with 9 exactly where it is bad
+pub line-9-exactly : (d : Desk) (n : ℕ) (l : List ℕ) → (lineBy step d n l .told .said ≡ No BadLine) ↔ (refusalOf (readLine ofRequests l) ≡ some BadLine)
+unfolding lineBy
+line-9-exactly d n l = answered-exactly d n (readLine ofRequests l)
+
+-- and then the desk is as it was, and nobody is woken
+pub bad-line-unseen : (d : Desk) (n : ℕ) (l : List ℕ) → readLine ofRequests l ≡ Bad → (lineBy step d n l .desk ≡ d) × (lineBy step d n l .told .wakes ≡ [])
+unfolding lineBy answered
+bad-line-unseen d n l e = (ap (λ r. answered step d n r .desk) e, ap (λ r. answered step d n r .told .wakes) e)
+
+-- a line is told under its number
+line-number : (d : Desk) (n : ℕ) (r : Reading) → answered step d n r .told .line ≡ n
+unfolding answered
+line-number d n Bad = refl
+line-number d n (Good l job cell) = refl
+
+-- all lines
+lines-told : (d : Desk) (n : ℕ) (ls : List (List ℕ)) → LinesTold n ls (runOf step d n ls)
+unfolding runOf lineBy
+lines-told d n [] = no-line
+lines-told d n (l ∷ ls) =
+    by-test (ltb requestLines n) (λ t. rw t (no-more (ltb-true requestLines n t)))
+    (λ f. rw f (a-line (ltb-false requestLines n f) (line-number d n (readLine ofRequests l)) (answered-exactly d n (readLine ofRequests l)) (lines-told (answered step d n (readLine ofRequests l) .desk) (n + 1) ls)))
+
+-- NINE EXACTLY FOR A BAD LINE: each line of a text up to line 1,000,000 has its answer under its number, refusal 9 exactly where the line is bad
+pub bad-line-exactly : (text : List ℕ) → LinesTold 1 (linesOf text) (runOn text)
+unfolding runOn
+bad-line-exactly text = lines-told (freshDesk firstNumber) 1 (linesOf text)

@@ -1,0 +1,41 @@
+-- The history that is written is that of a desk started at 1, to which the good lines of the text came as requests, in their order (01, Lines).
+-- Assumes nothing.
+use Prim.Native.Nat.{ℕ, _+_}
+use mathlib.Core.Path.{_≡_, refl, ap}
+use mathlib.Core.List.{List, [], _∷_, _++_}
+use lib.Dec.{ltb}
+use Rattle.laws.specs.Choice.{by-test}
+use Rattle.terms.specs.Letters.{byteOf, ofRequests}
+use Rattle.terms.specs.Limits.{requestLines}
+use Rattle.conflict.specs.History.{History}
+use Rattle.text_rules.specs.declared.Reading.{Reading}
+use Rattle.text_rules.specs.declared.Reading.the-variants.{Good, Bad}
+use Rattle.text_rules.specs.Lines.{readLine}
+use Rattle.text_rules.specs.Split.{linesOf}
+use Rattle.desk_rules.specs.Desk.{Desk, Request, freshDesk}
+use Rattle.desk_rules.specs.Step.{recordsBy, events, recordsOf, ownRecords, wakeRecords, step}
+use Rattle.desk_rules.specs.Requests.{writes, historyOf}
+use Rattle.program_rules.specs.OverLines.{answered, lineBy, runOf}
+use Rattle.program_rules.specs.Programs.{runOn}
+use Rattle.program_rules.specs.Shown.{historyOfRun}
+use Rattle.program_rules.specs.LinesTold.{requestOf, requestsFrom}
+
+-- one line: a bad one is no request and writes nothing, and a good one is a step
+line-history : (d : Desk) (n : ℕ) (r : Reading) (rs : List Request) (h : History) → h ≡ historyOf (answered step d n r .desk) rs →
+    let t = answered step d n r .told in (recordsOf (t .request) (t .said) (t .wakes) ++ h ≡ historyOf d (requestOf r ++ rs))
+unfolding answered requestOf writes recordsBy
+line-history d n Bad rs h e = unfold recordsOf ownRecords wakeRecords in e
+line-history d n (Good l job cell) rs h e = ap (λ k. events d (record { kind = byteOf l; job = job; cell = cell }) ++ k) e
+
+-- all lines
+run-history : (d : Desk) (n : ℕ) (ls : List (List ℕ)) → historyOfRun (runOf step d n ls) ≡ historyOf d (requestsFrom n ls)
+unfolding runOf lineBy historyOfRun requestsFrom
+run-history d n [] = unfold writes in refl
+run-history d n (l ∷ ls) =
+    by-test (ltb requestLines n) (λ t. rw t (unfold writes in refl))
+    (λ f. rw f (line-history d n (readLine ofRequests l) (requestsFrom (n + 1) ls) _ (run-history (answered step d n (readLine ofRequests l) .desk) (n + 1) ls)))
+
+-- STARTED AT 1: what the history program writes is the history of a desk started at 1 after the requests that the text's lines say
+pub history-from-one : (text : List ℕ) → historyOfRun (runOn text) ≡ historyOf (freshDesk 1) (requestsFrom 1 (linesOf text))
+unfolding runOn
+history-from-one text = run-history (freshDesk 1) 1 (linesOf text)

@@ -1,0 +1,44 @@
+-- The history of a run has no more records than the run has lines: each line gives one at most, at once or when its job is woken (01, Lines).
+-- Assumes nothing.
+use Prim.Native.Nat.{ℕ, suc, _+_, _≤_}
+use mathlib.Core.Path.{ap}
+use mathlib.Core.List.{List, [], _∷_}
+use native.Mathlib.Omega.{arith}
+use lib.Dec.{ltb}
+use lib.ListN.{length, length-append}
+use Rattle.laws.specs.Choice.{by-test}
+use Rattle.terms.specs.Letters.{byteOf, ofRequests}
+use Rattle.terms.specs.Limits.{cells, requestLines}
+use Rattle.text_rules.specs.declared.Reading.{Reading}
+use Rattle.text_rules.specs.declared.Reading.the-variants.{Good, Bad}
+use Rattle.text_rules.specs.Lines.{readLine}
+use Rattle.text_rules.specs.Split.{linesOf}
+use Rattle.desk_rules.specs.Desk.{Desk, freshDesk}
+use Rattle.desk_rules.specs.Step.{recordsBy, step}
+use Rattle.desk_rules.specs.Waiting.{waitersOf}
+use Rattle.desk_rules.proofs.FewRecords.{none-standing, few-records}
+use Rattle.program_rules.specs.OverLines.{answered, lineBy, runOf}
+use Rattle.program_rules.specs.Programs.{firstNumber, runOn}
+use Rattle.program_rules.specs.Shown.{historyOfRun, historyOn}
+use Rattle.program_rules.proofs.StartedHistory.{recorded, bad-records}
+
+-- the records of a line and those who wait after it are at most one more than those who waited before
+line-few : (D : Desk) (n : ℕ) (r : Reading) → length (recorded (answered step D n r .told)) + waitersOf (answered step D n r .desk) ≤ suc (waitersOf D)
+unfolding answered recordsBy
+line-few D n Bad = omega (arith, ap length bad-records)
+line-few D n (Good l job cell) = few-records D (record { kind = byteOf l; job = job; cell = cell })
+
+-- so all lines have at most one record each, and one for each who waited before them
+run-few : (D : Desk) (n : ℕ) (ls : List (List ℕ)) → length (historyOfRun (runOf step D n ls)) ≤ waitersOf D + length ls
+unfolding runOf lineBy historyOfRun
+run-few D n [] = omega arith
+run-few D n (l ∷ ls) =
+    let o = answered step D n (readLine ofRequests l) in
+    let rest = historyOfRun (runOf step (o .desk) (n + 1) ls) in
+    by-test (ltb requestLines n) (λ e. rw e (omega arith))
+    (λ e. rw e (omega (arith, length-append (recorded (o .told)) rest, line-few D n (readLine ofRequests l), run-few (o .desk) (n + 1) ls)))
+
+-- on a fresh desk nobody waits: the history of a text has no more records than the text has lines
+pub history-no-longer : (text : List ℕ) → length (historyOn text) ≤ length (linesOf text)
+unfolding runOn
+history-no-longer text = omega (arith, run-few (freshDesk firstNumber) 1 (linesOf text), none-standing firstNumber cells)

@@ -1,0 +1,83 @@
+-- Both desk programs read 1,000,000 lines and stop: every line up to there has its answer, and what follows writes nothing (01, Lines).
+-- Assumes nothing.
+use Prim.Native.Nat.{ℕ, zero, suc, _+_, _≤_, _<_}
+use mathlib.Core.Path.{_≡_, refl, sym, ap, _∙_}
+use mathlib.Core.Bool.{Bool, true}
+use mathlib.Core.List.{List, [], _∷_, dropLast}
+use native.Mathlib.Omega.{arith}
+use lib.Dec.{ltb}
+use lib.ListN.{length, take}
+use borrow.Author.Tests.{lt-ltb, le-ltb}
+use Rattle.laws.specs.Choice.{by-test}
+use Rattle.laws.proofs.Parts.{and-first, and-second, and-both}
+use Rattle.terms.specs.Limits.{requestLines}
+use Rattle.text_rules.specs.Split.{linesOf, joined, oneLine, hasNewline, every}
+use Rattle.text_rules.proofs.TextLines.{lines-one, lines-end, lines-only}
+use Rattle.desk_rules.specs.Desk.{freshDesk}
+use Rattle.program_rules.specs.declared.View.{View}
+use Rattle.program_rules.specs.declared.View.the-variants.{Answers, History}
+use Rattle.desk_rules.specs.Step.{step}
+use Rattle.desk_rules.specs.Stepping.{Stepping}
+use Rattle.program_rules.specs.OverLines.{Told, lineBy, runOf, answerLines, historyLines, written}
+use Rattle.program_rules.specs.Programs.{firstNumber, runOn, answersOf, historyOf, programOf}
+
+-- what holds of every line holds of the first ones
+first-every : (f : List ℕ → Bool) (n : ℕ) (ls : List (List ℕ)) → every f ls ≡ true → every f (take n ls) ≡ true
+unfolding every
+first-every f zero ls h = refl
+first-every f (suc n) [] h = refl
+first-every f (suc n) (l ∷ ls) h = and-both (f l) (every f (take n ls)) (and-first (f l) (every f ls) h) (first-every f n ls (and-second (f l) (every f ls) h))
+
+-- what holds of all but the last holds of the first ones but their last
+first-but-last : (f : List ℕ → Bool) (n : ℕ) (ls : List (List ℕ)) → every f (dropLast ls) ≡ true → every f (dropLast (take n ls)) ≡ true
+unfolding every
+first-but-last f zero ls h = refl
+first-but-last f (suc zero) [] h = refl
+first-but-last f (suc zero) (l ∷ ls) h = refl
+first-but-last f (suc (suc n)) [] h = refl
+first-but-last f (suc (suc n)) (l ∷ []) h = refl
+first-but-last f (suc (suc n)) (l ∷ k ∷ ls) h =
+    and-both (f l) (every f (dropLast (take (suc n) (k ∷ ls)))) (and-first (f l) (every f (dropLast (k ∷ ls))) h) (first-but-last f (suc n) (k ∷ ls) (and-second (f l) (every f (dropLast (k ∷ ls))) h))
+
+-- the lines of the text of the first lines are these
+first-lines : (n : ℕ) (text : List ℕ) → linesOf (joined (take n (linesOf text))) ≡ take n (linesOf text)
+first-lines n text = lines-only (take n (linesOf text)) (first-every oneLine n (linesOf text) (lines-one text)) (first-but-last hasNewline n (linesOf text) (lines-end text))
+
+module _ {S : Type 0} (step : Stepping S) where
+  -- a run over lines past the 1,000,000th tells nothing
+  run-past : (d : S) (n : ℕ) (ls : List (List ℕ)) → requestLines < n → runOf step d n ls ≡ []
+  unfolding runOf
+  run-past d n [] h = refl
+  run-past d n (l ∷ ls) h = rw (lt-ltb requestLines n h)
+
+  -- a run looks at no line past the 1,000,000th
+  run-first : (d : S) (n m : ℕ) (ls : List (List ℕ)) → requestLines < n + m → runOf step d n (take m ls) ≡ runOf step d n ls
+  unfolding runOf
+  run-first d n zero ls h = sym (run-past d n ls (omega arith))
+  run-first d n (suc m) [] h = refl
+  run-first d n (suc m) (l ∷ ls) h =
+      by-test (ltb requestLines n) (λ e. rw e)
+      (λ e. rw e (ap (λ (ts : List Told). lineBy step d n l .told ∷ ts) (run-first (lineBy step d n l .desk) (n + 1) m ls (omega arith))))
+
+  -- up to there each line has its answer
+  run-all : (d : S) (n : ℕ) (ls : List (List ℕ)) → n + length ls ≤ requestLines + 1 → length (runOf step d n ls) ≡ length ls
+  unfolding runOf
+  run-all d n [] h = refl
+  run-all d n (l ∷ ls) h = rw (le-ltb requestLines n (omega arith)) (ap suc (run-all (lineBy step d n l .desk) (n + 1) ls (omega arith)))
+
+-- EACH LINE HAS ITS ANSWER: of a text of at most 1,000,000 lines as many answers are told as it has lines
+pub all-lines-told : (text : List ℕ) → length (linesOf text) ≤ 1_000_000 → length (runOn text) ≡ length (linesOf text)
+unfolding runOn
+all-lines-told text h = run-all step (freshDesk firstNumber) 1 (linesOf text) (omega arith)
+
+-- the run of a text is that of its first 1,000,000 lines
+run-million : (text : List ℕ) → runOn text ≡ runOn (joined (take 1_000_000 (linesOf text)))
+unfolding runOn
+run-million text =
+    sym (run-first step (freshDesk firstNumber) 1 1_000_000 (linesOf text) (omega arith)) ∙ ap (runOf step (freshDesk firstNumber) 1) (sym (first-lines 1_000_000 text))
+
+-- A MILLION LINES: either program writes of a text what it writes of the text's first 1,000,000 lines
+pub million-lines : (view : View) (text : List ℕ) → programOf view text ≡ programOf view (joined (take 1_000_000 (linesOf text)))
+unfolding programOf answersOf historyOf
+million-lines Answers text = ap (written answerLines) (run-million text)
+million-lines History text = ap (written historyLines) (run-million text)

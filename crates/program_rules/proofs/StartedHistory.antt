@@ -1,0 +1,85 @@
+-- The history that is written is the history of a started desk: so all that is proved of started desks and their histories holds of it.
+-- Assumes nothing.
+use Prim.Native.Nat.{ℕ, _+_, _≤_}
+use mathlib.Core.Path.{_≡_, refl, sym, ap, _∙_, subst}
+use mathlib.Core.Bool.{true}
+use mathlib.Core.List.{List, [], _∷_, _++_, append-assoc, append-nil}
+use native.Mathlib.Omega.{arith}
+use lib.Dec.{ltb}
+use lib.ListN.{length, length-append}
+use Rattle.laws.specs.Choice.{by-test}
+use Rattle.terms.specs.Letters.{byteOf, ofRequests}
+use Rattle.terms.specs.Limits.{requestLines}
+use Rattle.conflict.specs.History.{History, lineOf}
+use Rattle.text_rules.specs.declared.Reading.{Reading}
+use Rattle.text_rules.specs.declared.Reading.the-variants.{Good, Bad}
+use Rattle.text_rules.specs.Lines.{readLine}
+use Rattle.text_rules.specs.Split.{linesOf}
+use Rattle.terms.specs.declared.refusals.Refusal.the-variants.{BadLine}
+use Rattle.desk_rules.specs.declared.Answer.the-variants.{No}
+use Rattle.desk_rules.specs.Desk.{Desk, freshDesk}
+use Rattle.desk_rules.specs.Stepping.{Stepping}
+use Rattle.desk_rules.specs.Step.{ownRecords, wakeRecords, recordsOf, recordsBy, Started, StartedOn, fresh, after, step}
+use Rattle.desk_rules.specs.Requests.{numberIn, givenBy}
+use Rattle.desk_rules.proofs.Numbers.{Gives, none-given, one-given, step-gives}
+use Rattle.desk_rules.proofs.NoEventAfterEnd.{started-over}
+use Rattle.program_rules.specs.OverLines.{Told, noRequest, answered, lineBy, runOf}
+use Rattle.program_rules.specs.Programs.{firstNumber, runOn}
+use Rattle.program_rules.specs.Shown.{historyOfRun, givenIn, historyOn}
+
+-- a desk that has been started and has written this history, and its next number
+abbrev WroteTo : History → ℕ → Type 0
+WroteTo h next = (D : Desk) × Started D h × (D .next ≡ next)
+
+-- the history records of what is told
+abbrev pub recorded : Told → History
+recorded t = recordsOf (t .request) (t .said) (t .wakes)
+
+-- a bad line has none
+pub bad-records : recordsOf noRequest (No BadLine) [] ≡ []
+unfolding recordsOf ownRecords wakeRecords
+bad-records = refl
+
+-- one line, on any desk: a bad one changes nothing, and a good one is a step
+pub line-started : {S : Type 0} {does : Stepping S} {new : ℕ → S} {d : S} {h : History} → StartedOn does new d h → (n : ℕ) (r : Reading) → StartedOn does new (answered does d n r .desk) (h ++ recorded (answered does d n r .told))
+unfolding answered recordsBy
+line-started {does = does} {new} {d} {h} s n Bad = subst (StartedOn does new d) (sym (append-nil h) ∙ ap (λ k. h ++ k) (sym bad-records)) s
+line-started s n (Good l job cell) = after s (record { kind = byteOf l; job = job; cell = cell })
+
+-- the next number grows by the numbers that a line gives
+line-next : (D : Desk) (n : ℕ) (r : Reading) → let t = answered step D n r .told in (answered step D n r .desk .next ≡ D .next + length (givenBy (t .request) (t .said)))
+unfolding answered
+line-next D n Bad = unfold givenBy numberIn noRequest in omega arith
+line-next D n (Good l job cell) = by-gives (step-gives D (record { kind = byteOf l; job = job; cell = cell }))
+  where
+    by-gives : {ns : List ℕ} {e : Desk} → Gives D ns e → e .next ≡ D .next + length ns
+    by-gives (none-given q e) = rw q (omega (arith, e))
+    by-gives (one-given q l e) = rw q (omega (arith, e))
+
+-- all lines
+run-started : {D : Desk} {h : History} → Started D h → (n : ℕ) (ls : List (List ℕ)) → WroteTo (h ++ historyOfRun (runOf step D n ls)) (D .next + length (givenIn (runOf step D n ls)))
+unfolding runOf lineBy historyOfRun givenIn
+run-started {D} {h} s n [] = (D, subst (Started D) (sym (append-nil h)) s, omega arith)
+run-started {D} {h} s n (l ∷ ls) =
+    let o = answered step D n (readLine ofRequests l) in
+    let w = run-started (line-started s n (readLine ofRequests l)) (n + 1) ls in
+    let rest = runOf step (o .desk) (n + 1) ls in
+    by-test (ltb requestLines n) (λ e. rw e (D, subst (Started D) (sym (append-nil h)) s, omega arith))
+    (λ e. rw e (
+      w .0,
+      subst (Started (w .0)) (append-assoc h (recorded (o .told)) (historyOfRun rest)) (w .1),
+      omega (arith, w .2, line-next D n (readLine ofRequests l), length-append (givenBy (o .told .request) (o .told .said)) (givenIn rest)),
+    ))
+
+-- the run of a text on a fresh desk
+text-started : (text : List ℕ) → WroteTo (historyOn text) (firstNumber + length (givenIn (runOn text)))
+unfolding runOn
+text-started text = unfold freshDesk in run-started (fresh firstNumber (omega arith) (omega arith)) 1 (linesOf text)
+
+-- THE HISTORY IS A STARTED DESK'S: what the history program writes is the history of a started desk; that this desk was started at 1 is `history-from-one`
+pub history-started : (text : List ℕ) → (D : Desk) × Started D (historyOn text)
+history-started text = (text-started text .0, text-started text .1)
+
+-- its jobs are numbered from 1 on, one for each begin that goes: so no number is above how many they are
+pub history-jobs : (text : List ℕ) (j : ℕ) → lineOf j (historyOn text) ≡ true → j ≤ length (givenIn (runOn text))
+history-jobs text j l = omega (arith, started-over (text-started text .1) .given j l, text-started text .2)

@@ -1,0 +1,57 @@
+-- Who calls the clerk, and what has been written out in all: any course of calls, and the one that the programs take (01, Lines).
+use Prim.Native.Nat.{ℕ, zero, suc, _≤_}
+use mathlib.Core.Path.{_≡_}
+use mathlib.Core.List.{List, [], _∷_, _++_}
+use lib.ListN.{length, take}
+use Rattle.laws.specs.Choice.{pick}
+use Rattle.text_rules.specs.Split.{part}
+use Rattle.program_rules.specs.declared.Clerk.{Clerk}
+use Rattle.program_rules.specs.declared.View.{View}
+use Rattle.program_rules.specs.Work.{startedClerk, workOf, finishOf}
+use Rattle.program_rules.specs.Tellings.{clerkAfter, recordsIn}
+
+-- any course of calls: the bytes that the clerk has worked on, what has been written out, the clerk, the buffer, and the place after its last record
+pub data Course (view : View) : List ℕ → List ℕ → Clerk → List ℕ → ℕ → Type 0 where
+  -- a caller starts with any buffer
+  starts : (out : List ℕ) → Course view [] [] startedClerk out 0
+  -- he may call the work on any chunk, from any place
+  works : {text sent : List ℕ} {c : Clerk} {out : List ℕ} {at : ℕ} → Course view text sent c out at → (chunk : List ℕ) (from : ℕ) →
+      Course view (text ++ part chunk from (workOf view c chunk from out at .worked .next)) sent
+      (workOf view c chunk from out at .worked .clerk)
+      (workOf view c chunk from out at .out)
+      (workOf view c chunk from out at .worked .at)
+  -- and at any time he may write out what stands in the buffer, and go on with any buffer
+  empties : {text sent : List ℕ} {c : Clerk} {out : List ℕ} {at : ℕ} → Course view text sent c out at → (next : List ℕ) → Course view text (sent ++ take at out) c next 0
+
+-- where a course has come to: the clerk has seen all bytes, and what has been written out and what still stands in the buffer are the records of the lines that have ended
+pub record Standing (view : View) (text sent : List ℕ) (c : Clerk) (out : List ℕ) (at : ℕ) : Type 0 where
+  pub clerk : c ≡ clerkAfter startedClerk text
+  pub said : sent ++ take at out ≡ recordsIn view startedClerk text
+  pub within : at ≤ length out
+
+-- the programs' caller between two calls: the clerk, what has been written out, and the buffer
+pub record Calling : Type 0 where
+  pub clerk : Clerk
+  pub sent : List ℕ
+  pub out : List ℕ
+
+-- he works on a chunk from a place on, writes out what then stands in the buffer, and calls again while there was no room; at most so many calls
+unfoldable pub callsOn : ℕ → View → Calling → List ℕ → ℕ → Calling
+callsOn zero view s chunk from = s
+callsOn (suc n) view s chunk from =
+    let w = workOf view (s .clerk) chunk from (s .out) 0 in
+    let t : Calling = record { clerk = w .worked .clerk; sent = s .sent ++ take (w .worked .at) (w .out); out = w .out } in
+    let rest = callsOn n view t chunk (w .worked .next) in
+    pick (w .worked .full) rest t
+
+-- chunk after chunk; each call but the last takes a byte at least, so there is no more than one call more than there are bytes
+unfoldable pub callsOver : View → Calling → List (List ℕ) → Calling
+callsOver view s [] = s
+callsOver view s (c ∷ cs) = callsOver view (callsOn (suc (length c)) view s c 0) cs
+
+-- all that he has written out when the input has ended, for the chunks that he has read and the buffer that he has
+unfoldable pub sentOver : View → List ℕ → List (List ℕ) → List ℕ
+sentOver view out chunks =
+    let s = callsOver view (record { clerk = startedClerk; sent = []; out = out }) chunks in
+    let f = finishOf view (s .clerk) (s .out) 0 in
+    s .sent ++ take (f .finished .at) (f .out)

@@ -1,0 +1,7 @@
+pub mod OverLines
+pub mod Programs
+pub mod Work
+pub mod Tellings
+pub mod Callers
+pub mod Shown
+pub mod LinesTold

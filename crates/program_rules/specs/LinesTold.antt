@@ -1,0 +1,34 @@
+-- What a run tells of the lines of its text, line by line, and the requests that the lines say (01, Lines; 01, refusal 9).
+use Prim.Native.Nat.{ℕ, _+_, _<_, _≤_}
+use mathlib.Core.Path.{_≡_}
+use mathlib.Core.Logic.{_↔_}
+use mathlib.Core.List.{List, [], _∷_, _++_}
+use mathlib.Core.Option.{some}
+use lib.Dec.{ltb}
+use Rattle.laws.specs.Choice.{pick}
+use Rattle.terms.specs.declared.refusals.Refusal.the-variants.{BadLine}
+use Rattle.terms.specs.Letters.{ofRequests}
+use Rattle.terms.specs.Limits.{requestLines}
+use Rattle.text_rules.specs.declared.Reading.{Reading}
+use Rattle.text_rules.specs.declared.Reading.the-variants.{Good, Bad}
+use Rattle.text_rules.specs.Lines.{refusalOf, readLine}
+use Rattle.desk_rules.specs.declared.Answer.the-variants.{No}
+use Rattle.desk_rules.specs.Desk.{Request}
+use Rattle.program_rules.specs.OverLines.{Told, requestIn}
+
+-- of lines numbered from n on: each up to line 1,000,000 has its answer under its number, and that is refusal 9 exactly where the line is bad; what follows has none (01, Lines)
+pub data LinesTold : ℕ → List (List ℕ) → List Told → Type 0 where
+  no-line : {n : ℕ} → LinesTold n [] []
+  no-more : {n : ℕ} {ls : List (List ℕ)} → requestLines < n → LinesTold n ls []
+  a-line : {n : ℕ} {l : List ℕ} {ls : List (List ℕ)} {t : Told} {ts : List Told} → n ≤ requestLines → t .line ≡ n →
+      (t .said ≡ No BadLine) ↔ (refusalOf (readLine ofRequests l) ≡ some BadLine) → LinesTold (n + 1) ls ts → LinesTold n (l ∷ ls) (t ∷ ts)
+
+-- the request that a line says; a bad line says none
+unfoldable pub requestOf : Reading → List Request
+requestOf Bad = []
+requestOf (Good l job cell) = requestIn (Good l job cell) ∷ []
+
+-- the requests that lines numbered from n on say, up to line 1,000,000
+unfoldable pub requestsFrom : ℕ → List (List ℕ) → List Request
+requestsFrom n [] = []
+requestsFrom n (l ∷ ls) = pick (ltb requestLines n) [] (requestOf (readLine ofRequests l) ++ requestsFrom (n + 1) ls)

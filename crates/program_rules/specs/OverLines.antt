@@ -1,0 +1,82 @@
+-- The run of a desk over lines of text: one definition, of which the answers and the history are two views (01, Lines).
+use Prim.Native.Nat.{ℕ, _+_}
+use mathlib.Core.List.{List, [], _∷_, _++_}
+use mathlib.Core.Option.{Option, none, some}
+use lib.Dec.{ltb}
+use Rattle.laws.specs.Choice.{pick}
+use Rattle.terms.specs.declared.words.Word.the-variants.{Wake}
+use Rattle.terms.specs.declared.refusals.Refusal.{Refusal}
+use Rattle.terms.specs.Letters.{byteOf, ofRequests}
+use Rattle.terms.specs.Limits.{requestLines}
+use Rattle.conflict.specs.declared.action.Action.{Action}
+use Rattle.text_rules.specs.declared.Reading.{Reading}
+use Rattle.text_rules.specs.declared.Reading.the-variants.{Good, Bad}
+use Rattle.text_rules.specs.Lines.{refusalOf, readLine}
+use Rattle.text_rules.specs.Records.{answerRecord}
+use Rattle.desk_rules.specs.declared.Answer.{Answer}
+use Rattle.desk_rules.specs.declared.Answer.the-variants.{No}
+use Rattle.desk_rules.specs.AnswerWords.{wordOf, numberBeside}
+use Rattle.desk_rules.specs.Desk.{Request}
+use Rattle.desk_rules.specs.Stepping.{Stepping}
+use Rattle.desk_rules.specs.Step.{recordsOf}
+use Rattle.text_rules.specs.EventRecords.{textOf}
+
+-- what is known of one line when it has been answered: its number, the request that it says, the answer and the wakes
+pub record Told : Type 0 where
+  pub line : ℕ
+  pub request : Request
+  pub said : Answer
+  pub wakes : List Action
+
+-- the request of a line that says none
+unfoldable pub noRequest : Request
+noRequest = record { kind = 0; job = 0; cell = 0 }
+
+-- a line's answer, and the desk after it
+pub record Lined (S : Type 0) : Type 0 where
+  pub desk : S
+  pub told : Told
+
+-- the request that a line says; a bad line says none
+abbrev pub requestIn : Reading → Request
+requestIn Bad = noRequest
+requestIn (Good l job cell) = record { kind = byteOf l; job = job; cell = cell }
+
+-- a line that the reader refuses is answered by that refusal, and the desk does not see it; any other is a step
+abbrev pub answeredBy : {S : Type 0} → Stepping S → S → ℕ → Request → Option Refusal → Lined S
+answeredBy step d n r (some why) = record { desk = d; told = record { line = n; request = r; said = No why; wakes = [] } }
+answeredBy step d n r none = let o = step d r in record { desk = o .desk; told = record { line = n; request = r; said = o .said; wakes = o .wakes } }
+
+-- a line is answered as it reads: refusal 9 where it is bad, and else a step
+unfoldable pub answered : {S : Type 0} → Stepping S → S → ℕ → Reading → Lined S
+answered step d n r = answeredBy step d n (requestIn r) (refusalOf r)
+
+-- line n answered
+unfoldable pub lineBy : {S : Type 0} → Stepping S → S → ℕ → List ℕ → Lined S
+lineBy step d n bytes = answered step d n (readLine ofRequests bytes)
+
+-- the run over lines numbered from n on; after 1,000,000 lines nothing is read (01, Lines)
+unfoldable pub runOf : {S : Type 0} → Stepping S → S → ℕ → List (List ℕ) → List Told
+runOf step d n [] = []
+runOf step d n (l ∷ ls) =
+    let o = lineBy step d n l in
+    let rest = runOf step (o .desk) (n + 1) ls in
+    pick (ltb requestLines n) [] (o .told ∷ rest)
+
+-- one wake record for each wake (01, Lines)
+unfoldable pub wakeLines : ℕ → List Action → List ℕ
+wakeLines n [] = []
+wakeLines n (a ∷ rest) = answerRecord n Wake (a .job) ++ wakeLines n rest
+
+-- the answer records of a line: its answer, then its wakes (01, Lines)
+unfoldable pub answerLines : Told → List ℕ
+answerLines t = answerRecord (t .line) (wordOf (t .said)) (numberBeside (t .said)) ++ wakeLines (t .line) (t .wakes)
+
+-- the history records of a line: those of its step (01, Lines)
+unfoldable pub historyLines : Told → List ℕ
+historyLines t = textOf (recordsOf (t .request) (t .said) (t .wakes))
+
+-- what is written of a run, in either view
+unfoldable pub written : (Told → List ℕ) → List Told → List ℕ
+written view [] = []
+written view (t ∷ ts) = view t ++ written view ts

@@ -1,0 +1,118 @@
+-- A clerk's work: from a place of a chunk on, line after line, as long as there is a byte left and room for a line's records (01, Lines).
+use Prim.Native.Nat.{ℕ, zero, suc, _+_, _*_}
+use mathlib.Core.Bool.{Bool, true, false, not, _&&_}
+use mathlib.Core.List.{List, []}
+use lib.Dec.{ltb, leb}
+use lib.ListN.{length}
+use Rattle.laws.specs.Choice.{pick}
+use Rattle.terms.specs.declared.refusals.Refusal.the-variants.{BadLine}
+use Rattle.terms.specs.Limits.{places, requestLines}
+use Rattle.text_rules.specs.declared.splitter.Splitter.{Splitter}
+use Rattle.text_rules.specs.Records.{longestRecord}
+use Rattle.text_rules.specs.Split.{fresh, cutOf, foundAt}
+use Rattle.text_rules.specs.Wrote.{putFrom}
+use Rattle.desk_rules.specs.declared.Answer.the-variants.{No}
+use Rattle.desk_arrays.specs.Steps.{emptyDesk}
+use Rattle.desk_arrays.specs.declared.state.Desk as arrays
+use Rattle.program_rules.specs.declared.Clerk.{Clerk}
+use Rattle.program_rules.specs.declared.View.{View}
+use Rattle.program_rules.specs.declared.View.the-variants.{Answers, History}
+use Rattle.program_rules.specs.declared.Worked.{Worked}
+use Rattle.program_rules.specs.declared.Finished.{Finished}
+use Rattle.program_rules.specs.OverLines.{Told, Lined, noRequest, lineBy, answerLines, historyLines}
+use Rattle.desk_arrays.specs.Seen.{onArrays}
+use Rattle.program_rules.specs.Programs.{firstNumber}
+
+-- before any byte: the desk is started at 1
+unfoldable pub startedClerk : Clerk
+startedClerk = record { desk = emptyDesk firstNumber; splitter = fresh }
+
+-- the records of a line in a view
+unfoldable pub viewed : View → Told → List ℕ
+viewed Answers t = answerLines t
+viewed History t = historyLines t
+
+-- no more bytes of wake records follow: no more jobs wake than there are places for open ones (01, What is delivered), each with one record
+abbrev pub wakesRoom : ℕ
+wakesRoom = longestRecord * places
+
+-- no line has more bytes of records: its own record, and those of its wakes
+abbrev pub lineRoom : ℕ
+lineRoom = longestRecord + wakesRoom
+
+-- there is room for the records of any line from the place on
+unfoldable pub roomy : List ℕ → ℕ → Bool
+roomy out at = leb (at + lineRoom) (length out)
+
+-- the line in the splitter is to be answered: its newline has come, and its number is at most 1,000,000 (01, Lines)
+unfoldable pub due : Splitter → Bool
+due s = s .ended && leb (s .line) requestLines
+
+-- the clerk, the buffer, and the place after the last record
+pub record Turn : Type 0 where
+  pub clerk : Clerk
+  pub at : ℕ
+  pub out : List ℕ
+
+-- the line in the splitter is answered, and its records are put into the buffer
+unfoldable pub answering : View → Clerk → List ℕ → ℕ → Turn
+answering view c out at =
+    let l : Lined arrays.Desk = lineBy onArrays (c .desk) (c .splitter .line) (foundAt (c .splitter) .bytes) in
+    let bytes = viewed view (l .told) in
+    record { clerk = record { desk = l .desk; splitter = c .splitter }; at = at + length bytes; out = putFrom out at bytes }
+
+-- after a cut: the line is answered if it is to be, and else nothing changes
+unfoldable pub turning : View → Clerk → List ℕ → ℕ → Turn
+turning view c out at = pick (due (c .splitter)) (answering view c out at) (record { clerk = c; at = at; out = out })
+
+-- the clerk after a cut
+unfoldable pub cutting : Clerk → List ℕ → ℕ → Clerk
+cutting c chunk from = record { desk = c .desk; splitter = cutOf (c .splitter) chunk from .splitter }
+
+-- where the work has come to, and what the buffer then holds
+pub record Working : Type 0 where
+  pub worked : Worked
+  pub out : List ℕ
+
+-- the work ends here
+unfoldable pub stopped : Clerk → ℕ → List ℕ → ℕ → Bool → Working
+stopped c from out at full = record { worked = record { clerk = c; next = from; at = at; full = full }; out = out }
+
+-- at most so many lines of the chunk from the place on; the work stops before the next cut where there is no room for a line's records
+unfoldable pub workBy : ℕ → View → Clerk → List ℕ → ℕ → List ℕ → ℕ → Working
+workBy zero view c chunk from out at = stopped c from out at false
+workBy (suc n) view c chunk from out at =
+    let t = turning view (cutting c chunk from) out at in
+    let rest = workBy n view (t .clerk) chunk (cutOf (c .splitter) chunk from .next) (t .out) (t .at) in
+    pick (ltb from (length chunk)) (pick (roomy out at) rest (stopped c from out at true)) (stopped c from out at false)
+
+-- every line of the chunk from the place on: each has a byte, so there are no more lines than bytes
+unfoldable pub workOf : View → Clerk → List ℕ → ℕ → List ℕ → ℕ → Working
+workOf view c chunk from out at = workBy (length chunk) view c chunk from out at
+
+-- where the input has ended, and what the buffer then holds
+pub record Finishing : Type 0 where
+  pub finished : Finished
+  pub out : List ℕ
+
+-- what is told of a line that lacks its newline: refusal 9 (01, Lines)
+unfoldable pub unended : ℕ → Told
+unended n = record { line = n; request = noRequest; said = No BadLine; wakes = [] }
+
+-- a line is under way that is to be answered although it lacks its newline
+unfoldable pub owing : Splitter → Bool
+owing s = not (s .ended) && leb (s .line) requestLines
+
+-- every line that is to be read has been read: line 1,000,000 has its newline, or a further line has begun (01, Lines)
+unfoldable pub allRead : Splitter → Bool
+allRead s = pick (s .ended) (leb requestLines (s .line)) (ltb requestLines (s .line))
+
+-- the end of the input: a line that lacks its newline is answered by refusal 9 if its number is at most 1,000,000 (01, Lines)
+unfoldable pub finishOf : View → Clerk → List ℕ → ℕ → Finishing
+finishOf view c out at =
+    let bytes = viewed view (unended (c .splitter .line)) in
+    pick (owing (c .splitter))
+    (pick (roomy out at)
+    (record { finished = record { at = at + length bytes; full = false }; out = putFrom out at bytes })
+    (record { finished = record { at = at; full = true }; out = out }))
+    (record { finished = record { at = at; full = false }; out = out })

@@ -1,0 +1,44 @@
+// What a clerk keeps between the chunks of an input, and the runs of the desk programs as definitions (01, What is delivered).
+use desk_arrays::state::Desk;
+use text_rules::Splitter;
+ghost use mathlib.Core.Path.{_≡_};
+ghost use Rattle.program_rules.specs.Work.{startedClerk};
+
+// The desk, and the line that is being put together.
+pub struct Clerk {
+    pub desk: Desk,
+    pub splitter: Splitter,
+}
+
+// Which records are written: the answers or the history.
+pub enum View {
+    // the answers, one for each line, each with its wakes
+    Answers,
+    // what was granted and what ended, in order
+    History,
+}
+
+// Where work on a chunk has come to: the clerk, the place in the chunk, the place after the records, and whether it stopped for want of room.
+pub struct Worked {
+    pub clerk: Clerk,
+    pub next: usize,
+    pub at: usize,
+    pub full: bool,
+}
+
+// The end of the input: the place after the last record, or no room for it.
+pub struct Finished {
+    pub at: usize,
+    pub full: bool,
+}
+
+impl Clerk {
+    // A clerk who has seen no byte; the desk is started at 1.
+    pub fn started() -> Clerk
+        ensures { λ r. ⌜ r ≡ startedClerk ⌝ }
+    {
+        let desk = Desk::first();
+        let splitter = Splitter::started();
+        Clerk { desk, splitter }
+    }
+}

@@ -1,7 +1,0 @@
-pub mod Run
-pub mod Programs
-pub mod Work
-pub mod Tellings
-pub mod Callers
-pub mod Shown
-pub mod LinesTold

@@ -1,0 +1,55 @@
+-- A further field, where there is one and where there is none, each with its length.
+-- Assumes nothing.
+use Prim.Native.Nat.{ℕ, suc, _+_, _^_, _≤_, _<_}
+use mathlib.Core.Path.{_≡_, refl}
+use mathlib.Core.Bool.{Bool, true, false}
+use mathlib.Core.List.{[], _∷_, _++_, append-assoc}
+use native.Mathlib.Omega.{arith}
+use lib.ListN.{length}
+use Rattle.terms.specs.declared.letters.Letter.{Letter}
+use Rattle.terms.specs.declared.words.Word.{Word}
+use Rattle.terms.specs.Letters.{byteOf, hasJob, hasCell}
+use Rattle.terms.specs.Words.{tab, newline, spelt}
+use Rattle.text_rules.specs.Decimal.{decimal}
+use Rattle.text_rules.proofs.DigitLaws.{decimal-at-most-20, digits-at-most}
+use Rattle.text_rules.specs.Records.{field, answerRecord, lineRecord}
+
+-- a field that is there is a tab and its number
+pub field-there : (there : Bool) (n : ℕ) → there ≡ true → field there n ≡ tab ∷ decimal n
+unfolding field
+field-there there n e = rw e
+
+-- a field that is not there has no bytes
+pub field-none : (there : Bool) (n : ℕ) → there ≡ false → field there n ≡ []
+unfolding field
+field-none there n e = rw e
+
+-- a field that is there has one byte more than its number has digits
+pub field-length : (there : Bool) (n : ℕ) → there ≡ true → length (field there n) ≡ length (decimal n) + 1
+field-length there n e = rw (field-there there n e) (omega arith)
+
+-- a field that is not there has length 0
+pub no-field-length : (there : Bool) (n : ℕ) → there ≡ false → length (field there n) ≡ 0
+no-field-length there n e = rw (field-none there n e)
+
+-- a field whose number is below a power of ten has at most one byte more than the power says
+pub field-at-most : (k : ℕ) (there : Bool) (n : ℕ) → n < 10 ^ suc k → length (field there n) ≤ k + 2
+field-at-most k true n h = omega (arith, field-length true n refl, digits-at-most k n h)
+field-at-most k false n h = omega (arith, no-field-length false n refl)
+
+-- no field of a number of 64 bits has more than twenty-one bytes
+pub field-at-most-21 : (there : Bool) (n : ℕ) → n < 2 ^ 64 → length (field there n) ≤ 21
+field-at-most-21 true n h = let d = decimal-at-most-20 n h in omega (arith, field-length true n refl)
+field-at-most-21 false n h = omega (arith, no-field-length false n refl)
+
+-- an answer record: the line number, the word behind its tab, and the last field with the newline
+pub answer-is : (line : ℕ) (word : Word) (number : ℕ) →
+    answerRecord line word number ≡ decimal line ++ tab ∷ spelt word ++ (field true number ++ newline ∷ [])
+unfolding answerRecord field
+answer-is line word number = append-assoc (decimal line ++ tab ∷ spelt word) (tab ∷ decimal number) (newline ∷ [])
+
+-- a letter's line: the letter, the second field where it has one, and the last field with the newline
+pub line-is : (l : Letter) (job cell : ℕ) →
+    lineRecord l job cell ≡ (byteOf l ∷ []) ++ field (hasJob l) job ++ (field (hasCell l) cell ++ newline ∷ [])
+unfolding lineRecord
+line-is l job cell = append-assoc (byteOf l ∷ field (hasJob l) job) (field (hasCell l) cell) (newline ∷ [])

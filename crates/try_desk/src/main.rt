@@ -1,0 +1,215 @@
+// Runs the desk on steps by numbers: the first line of the input is the first number, every other one a step, `kind job cell`.
+// Writes a line for each step: the answer's word and number, then `wake`, job, cell and the kind's byte for each wake, with tabs between.
+use conflict::action::Action;
+use conflict::action::Kind;
+use desk::step::step;
+use desk_arrays::state::Desk;
+use desk_arrays::state::Said;
+use desk_arrays::state::Start;
+use desk_rules::Answer;
+use libc::STDIN_FILENO;
+use libc::STDOUT_FILENO;
+use terms::letters::INCREMENT;
+use terms::letters::READ;
+use terms::letters::WRITE;
+use terms::limits::LAST_NUMBER;
+use terms::refusals::Refusal;
+use terms::refusals::number_of;
+use terms::words::NEWLINE;
+use terms::words::TAB;
+use terms::words::Word;
+use terms::words::spelled;
+ghost use Prim.Native.Nat.{_≤_};
+
+// A number of the input, and what stands after it.
+struct Field {
+    value: u32,
+    end: u32,
+}
+
+// The desk after a step, and whether there was one and its line was taken.
+struct Turn {
+    desk: Desk,
+    done: bool,
+}
+
+// What stands for the end of the input, where a byte is at most 255.
+const END: u32 = 256;
+
+fn wide(byte: u8) -> u32 {
+    byte as u32
+}
+
+// The next byte of the input, or END.
+fn next_byte() -> u32 {
+    let mut one = [0u8; 1];
+    let got = libc::read(STDIN_FILENO, &mut one);
+    if got < 0 {
+        os::fail(b"try_desk: cannot read");
+    }
+    if got < 1 {
+        return END;
+    }
+    wide(one[0])
+}
+
+// A number with one more digit; a larger one than there can be is the largest.
+fn with_digit(value: u32, digit: u32) -> u32
+    requires { ⌜ (48 ≤ digit) × (digit ≤ 57) ⌝ }
+{
+    let v = (value as u64) * 10 + ((digit - 48) as u64);
+    if v < LAST_NUMBER as u64 {
+        return v as u32;
+    }
+    LAST_NUMBER
+}
+
+// The next number: its digits up to the first byte that is none.
+fn next_number() -> Field {
+    let mut value: u32 = 0;
+    let mut turns = u64::MAX;
+    while turns > 0 {
+        let b = next_byte();
+        if b < 48 {
+            return Field { value, end: b };
+        }
+        if b > 57 {
+            return Field { value, end: b };
+        }
+        value = with_digit(value, b);
+        turns -= 1;
+    }
+    Field { value, end: END }
+}
+
+fn put_byte(byte: u8) {
+    io::write_all(STDOUT_FILENO, &[byte]);
+}
+
+// The end of a line: whether it was taken.
+fn put_end() -> bool {
+    if io::write_all(STDOUT_FILENO, &[NEWLINE]) {
+        return true;
+    }
+    os::fail(b"try_desk: cannot write");
+    false
+}
+
+fn put_word(w: Word) {
+    let s = spelled(w);
+    let bytes = s.bytes;
+    let n = s.len;
+    io::write_all(STDOUT_FILENO, &bytes[0..n]);
+}
+
+fn put_number(n: u32) {
+    put_byte(TAB);
+    io::print_decimal(STDOUT_FILENO, n as u64);
+}
+
+fn put_wake(a: Action) {
+    put_byte(TAB);
+    put_word(Word::Wake);
+    put_number(a.job);
+    put_number(a.cell);
+    let kind = a.kind;
+    match kind {
+        Kind::Read => put_number(READ as u32),
+        Kind::Write => put_number(WRITE as u32),
+        Kind::Increment => put_number(INCREMENT as u32),
+    }
+}
+
+fn put_answer(answer: Answer) {
+    match answer {
+        Answer::Go(job) => {
+            put_word(Word::Go);
+            put_number(job);
+        }
+        Answer::Wait(job) => {
+            put_word(Word::Wait);
+            put_number(job);
+        }
+        Answer::Back(job) => {
+            put_word(Word::Back);
+            put_number(job);
+        }
+        Answer::No(why) => {
+            put_word(Word::No);
+            put_number(wide(number_of(why)));
+        }
+    }
+}
+
+// A step's line, and whether it was taken.
+fn put_said(said: Said) -> bool {
+    let answer = said.answer;
+    put_answer(answer);
+    let count = said.count;
+    let wakes = said.wakes;
+    let mut i: usize = 0;
+    while i < 32 {
+        if i < count {
+            put_wake(wakes[i]);
+        }
+        i += 1;
+    }
+    put_end()
+}
+
+// One step, if the input has one more.
+fn take_turn(d: Desk) -> Turn {
+    let kind = next_number();
+    if kind.end != 32 {
+        return Turn {
+            desk: d,
+            done: false,
+        };
+    }
+    let job = next_number();
+    let cell = next_number();
+    if kind.value > 255 {
+        return Turn {
+            desk: d,
+            done: false,
+        };
+    }
+    let o = step(d, kind.value as u8, job.value, cell.value);
+    let said = o.said;
+    let done = put_said(said);
+    let after = o.desk;
+    Turn { desk: after, done }
+}
+
+// All the steps. Nothing says that the input ends, so the turns are counted down.
+fn answer_all(d: Desk) {
+    let mut now = d;
+    let mut turns = u64::MAX;
+    while turns > 0 {
+        let t = take_turn(now);
+        if !t.done {
+            return;
+        }
+        now = t.desk;
+        turns -= 1;
+    }
+}
+
+// A start that is refused, as an answer.
+fn put_refusal(why: Refusal) {
+    put_answer(Answer::No(why));
+    put_end();
+}
+
+// The desk started at a first number, and all its steps.
+fn open(first: u32) {
+    match Desk::start(first) {
+        Start::Ready(desk) => answer_all(desk),
+        Start::Refused(why) => put_refusal(why),
+    }
+}
+
+fn main() {
+    let first = next_number();
+    open(first.value);
+}
