@@ -75,13 +75,13 @@ pub record Walked (e : Edges) (jobs : List ℕ) (start : ℕ) (trail : List ℕ)
   pub wide : length trail ≡ 257
   pub low : at ≤ 257
   pub small : j < 256
-  pub eqb : walk e jobs at (drop at trail) j ≡ walk e jobs 257 [] start
+  pub same : walk e jobs at (drop at trail) j ≡ walk e jobs 257 [] start
 
 -- the walk starts
 pub walked-none : (e : Edges) (jobs : List ℕ) (start : ℕ) (trail : List ℕ) → length trail ≡ 257 → start < 256 → Walked e jobs start trail 257 start
 walked-none e jobs start trail w b =
     let all : length trail ≤ 257 = omega arith in
-    record { wide = w; low = omega arith; small = b; eqb = rw (drop-of-length-le trail all) }
+    record { wide = w; low = omega arith; small = b; same = rw (drop-of-length-le trail all) }
 
 module _ (e : Edges) (left : List Bool) (start : ℕ) (trail : List ℕ) (m j p : ℕ) where
   module _ (walked : Walked e (leftOf left) start trail (suc m) j) (placed : p ≡ suc m + pos (drop (suc m) trail) j) where
@@ -115,7 +115,7 @@ module _ (e : Edges) (left : List Bool) (start : ℕ) (trail : List ℕ) (m j p 
             wide = length-set trail m j ∙ walked .wide;
             low = omega (arith, walked .low);
             small = by .1;
-            eqb = rw (put-front trail m j (omega (arith, walked .wide, walked .low))) (sym (sym (walked .same) ∙ rw (fresh, by .0)));
+            same = rw (put-front trail m j (omega (arith, walked .wide, walked .low))) (sym (sym (walked .same) ∙ rw (fresh, by .0)));
           }
 
       -- and if it had none there would be no cycle
