@@ -37,16 +37,19 @@ abbrev pub begins : ℕ → List Request
 begins zero = []
 begins (suc n) = request 98 0 0 ∷ begins n
 
--- the answers go, wait and back with a job, and no with a refusal
+-- the answer go with a job
 abbrev pub go : ℕ → Said
 go j = record { word = Go; number = j }
 
+-- wait with a job
 abbrev pub wait : ℕ → Said
 wait j = record { word = Wait; number = j }
 
+-- back with a job
 abbrev pub back : ℕ → Said
 back j = record { word = Back; number = j }
 
+-- no with a refusal's number
 abbrev pub no : ℕ → Said
 no n = record { word = No; number = n }
 

@@ -33,6 +33,7 @@ fine text n jobs = record { text = text; places = 255; answer = 0 ∷ n ∷ 0 �
 abbrev pub tied : String → ℕ → List ℕ → Case
 tied text n jobs = record { text = text; places = 255; answer = 1 ∷ n ∷ 0 ∷ []; line = ""; jobs = jobs }
 
+-- the texts, with what is told of each
 abbrev pub cases : List Case
 cases =
     -- 14 for 254 places, before anything else and with line number 0; 255 are taken, and more stay
