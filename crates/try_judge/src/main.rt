@@ -15,7 +15,7 @@ ghost use Prim.Native.Nat.{_≤_};
 ghost use lib.ListN.{length};
 
 // The places that there are to lend.
-const PLACES: usize = 300;
+const ORDER_PLACES: usize = 300;
 
 // What stands in a place before the judge is called.
 const UNTOUCHED: u8 = 170;
@@ -59,7 +59,7 @@ fn put_mark() {
 }
 
 // The verdict's line.
-fn put_verdict(said: Verdict, order: &[u8; PLACES]) {
+fn put_verdict(said: Verdict, order: &[u8; ORDER_PLACES]) {
     let mut out = io::buffer();
     match write_verdict(said, order, &mut out) {
         Written::Next(next) => {
@@ -99,9 +99,9 @@ fn same_verdict(said: Verdict, numbers: Numbers) -> bool {
 }
 
 // Whether two buffers agree in the first n places and all others are untouched.
-fn rest_stays<'a>(one: &'a [u8; PLACES], other: &'a [u8; PLACES], n: usize) -> bool {
+fn rest_stays<'a>(one: &'a [u8; ORDER_PLACES], other: &'a [u8; ORDER_PLACES], n: usize) -> bool {
     let mut i: usize = 0;
-    while i < PLACES {
+    while i < ORDER_PLACES {
         if one[i] != other[i] {
             return false;
         }
@@ -117,10 +117,10 @@ fn rest_stays<'a>(one: &'a [u8; PLACES], other: &'a [u8; PLACES], n: usize) -> b
 fn report(text: &[u8], places: usize)
     requires { ⌜ places ≤ 300 ⌝ }
 {
-    let mut order = [UNTOUCHED; PLACES];
+    let mut order = [UNTOUCHED; ORDER_PLACES];
     let said = judge_text(text, &mut order[0..places]);
     put_verdict(said, &order);
-    let mut again = [UNTOUCHED; PLACES];
+    let mut again = [UNTOUCHED; ORDER_PLACES];
     let mut answer = [0u32; 3];
     let line = judge(text, &mut again[0..places], &mut answer);
     let numbers = Numbers {
@@ -145,7 +145,7 @@ fn close(case: Case, text: &[u8])
     }
     let len = case.len;
     if len > JUDGED_BYTES {
-        let none = [UNTOUCHED; PLACES];
+        let none = [UNTOUCHED; ORDER_PLACES];
         put_verdict(
             Verdict::No {
                 line: 0,
@@ -164,7 +164,7 @@ fn with_digit(places: usize, digit: u8) -> usize
     ensures { λ r. ⌜ r ≤ 300 ⌝ }
 {
     let more = places * 10 + (digit - 48) as usize;
-    if more < PLACES { more } else { PLACES }
+    if more < ORDER_PLACES { more } else { ORDER_PLACES }
 }
 
 // A byte of a header: a digit, the newline that ends it, or one that says nothing.
