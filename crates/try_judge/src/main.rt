@@ -164,7 +164,11 @@ fn with_digit(places: usize, digit: u8) -> usize
     ensures { λ r. ⌜ r ≤ 300 ⌝ }
 {
     let more = places * 10 + (digit - 48) as usize;
-    if more < ORDER_PLACES { more } else { ORDER_PLACES }
+    if more < ORDER_PLACES {
+        more
+    } else {
+        ORDER_PLACES
+    }
 }
 
 // A byte of a header: a digit, the newline that ends it, or one that says nothing.

@@ -98,34 +98,7 @@ returns-5 c = (c .before .before .before .before .before .before .before .before
 
 pub serve-all-spec : {M : Type 1} → statement M
 serve-all-spec =
-    tie.close
-    (tie.spec
-    Inv-loop
-    μ-loop
-    started-requires
-    loop-holds
-    read-requires
-    same-length
-    same-length-2
-    returns
-    count-requires
-    sub-serve-chunk
-    part-serve-chunk-start
-    part-serve-chunk-end
-    serve-chunk-requires
-    same-length-3
-    same-length-4
-    returns-2
-    is-over-requires
-    same-length-5
-    same-length-6
-    returns-3
-    sub-turns
-    loop-less
-    loop-again
-    same-length-7
-    same-length-8
-    returns-4
-    same-length-9
-    same-length-10
-    returns-5)
+    let first = tie.spec Inv-loop μ-loop started-requires loop-holds read-requires same-length same-length-2 returns count-requires sub-serve-chunk in
+    let second = first part-serve-chunk-start part-serve-chunk-end serve-chunk-requires same-length-3 same-length-4 returns-2 is-over-requires in
+    let third = second same-length-5 same-length-6 returns-3 sub-turns loop-less loop-again same-length-7 same-length-8 returns-4 same-length-9 in
+    tie.close (third same-length-10 returns-5)

@@ -46,16 +46,4 @@ returns-2 c = serves-all (c .before .loop .inv .0) (omega arith)
 
 pub serve-chunk-spec : {M : Type 1} → statement M
 serve-chunk-spec =
-    tie.close
-    (tie.spec
-    Inv-loop
-    μ-loop
-    loop-holds
-    serve-some-requires
-    put-out-requires
-    same-length
-    returns
-    loop-less
-    loop-again
-    same-length-2
-    returns-2)
+    tie.close (tie.spec Inv-loop μ-loop loop-holds serve-some-requires put-out-requires same-length returns loop-less loop-again same-length-2 returns-2)

@@ -69,26 +69,6 @@ returns c = search needs
 
 pub draw-all-spec : {M : Type 1} → statement M
 draw-all-spec =
-    tie.close
-    (tie.spec
-    Inv-loop
-    μ-loop
-    loop-holds
-    hand-by-requires
-    next-requires
-    mul-cell
-    array-read-cell
-    array-read-t21
-    kind-by-requires
-    next-requires-2
-    step-on-requires
-    next-requires-3
-    hand-after-requires
-    mul-jobs
-    array-write-jobs
-    array-write-backs
-    counted-requires
-    sub-left
-    loop-less
-    loop-again
-    returns)
+    let first = tie.spec Inv-loop μ-loop loop-holds hand-by-requires next-requires mul-cell array-read-cell array-read-t21 kind-by-requires next-requires-2 in
+    let second = first step-on-requires next-requires-3 hand-after-requires mul-jobs array-write-jobs array-write-backs counted-requires sub-left in
+    tie.close (second loop-less loop-again returns)

@@ -39,16 +39,4 @@ returns-3 c = search needs
 
 pub next-number-spec : {M : Type 1} → statement M
 next-number-spec =
-    tie.close
-    (tie.spec
-    Inv-loop
-    μ-loop
-    loop-holds
-    next-byte-requires
-    returns
-    returns-2
-    with-digit-requires
-    sub-turns
-    loop-less
-    loop-again
-    returns-3)
+    tie.close (tie.spec Inv-loop μ-loop loop-holds next-byte-requires returns returns-2 with-digit-requires sub-turns loop-less loop-again returns-3)

@@ -44,17 +44,5 @@ returns c = search needs
 
 pub put-said-spec : {M : Type 1} → statement M
 put-said-spec =
-    tie.close
-    (tie.spec
-    Inv-loop
-    μ-loop
-    put-answer-requires
-    loop-holds
-    mul-put-wake
-    array-copy-out-put-wake
-    put-wake-requires
-    add-i
-    loop-less
-    loop-again
-    put-end-requires
-    returns)
+    let first = tie.spec Inv-loop μ-loop put-answer-requires loop-holds mul-put-wake array-copy-out-put-wake put-wake-requires add-i loop-less loop-again in
+    tie.close (first put-end-requires returns)

@@ -42,11 +42,4 @@ returns c = search needs
 
 pub put-word-spec : {M : Type 1} → statement M
 put-word-spec =
-    tie.close
-    (tie.spec
-    spelled-requires
-    sub-write-all
-    part-write-all-start
-    part-write-all-end
-    write-all-requires
-    returns)
+    tie.close (tie.spec spelled-requires sub-write-all part-write-all-start part-write-all-end write-all-requires returns)

@@ -45,17 +45,5 @@ returns-2 c = search needs
 
 pub put-verdict-spec : {M : Type 1} → statement M
 put-verdict-spec =
-    tie.close
-    (tie.spec
-    buffer-requires
-    slice-aggregate-write-verdict
-    write-verdict-requires
-    enum-known-next
-    sub-put-bytes
-    part-put-bytes-start
-    part-put-bytes-end
-    put-bytes-requires
-    enum-told
-    put-mark-requires
-    returns
-    returns-2)
+    let first = tie.spec buffer-requires slice-aggregate-write-verdict write-verdict-requires enum-known-next sub-put-bytes part-put-bytes-start in
+    tie.close (first part-put-bytes-end put-bytes-requires enum-told put-mark-requires returns returns-2)

@@ -44,17 +44,5 @@ returns-3 c = search needs
 
 pub rest-stays-spec : {M : Type 1} → statement M
 rest-stays-spec =
-    tie.close
-    (tie.spec
-    Inv-loop
-    μ-loop
-    loop-holds
-    element-copy-out-if1
-    element-copy-out-if1-2
-    returns
-    element-copy-out-if3
-    returns-2
-    add-i
-    loop-less
-    loop-again
-    returns-3)
+    let first = tie.spec Inv-loop μ-loop loop-holds element-copy-out-if1 element-copy-out-if1-2 returns element-copy-out-if3 returns-2 add-i loop-less in
+    tie.close (first loop-again returns-3)

@@ -57,20 +57,5 @@ returns c = search needs
 
 pub take-all-spec : {M : Type 1} → statement M
 take-all-spec =
-    tie.close
-    (tie.spec
-    Inv-loop
-    μ-loop
-    loop-holds
-    read-some-requires
-    sub-take-chunk
-    part-take-chunk-start
-    part-take-chunk-end
-    take-chunk-requires
-    sub-turns
-    loop-less
-    loop-again
-    close-requires
-    same-length
-    same-length-2
-    returns)
+    let first = tie.spec Inv-loop μ-loop loop-holds read-some-requires sub-take-chunk part-take-chunk-start part-take-chunk-end take-chunk-requires in
+    tie.close (first sub-turns loop-less loop-again close-requires same-length same-length-2 returns)

@@ -39,15 +39,4 @@ returns c = search needs
 
 pub take-chunk-spec : {M : Type 1} → statement M
 take-chunk-spec =
-    tie.close
-    (tie.spec
-    Inv-loop
-    μ-loop
-    loop-holds
-    shared-slice-read-take-byte
-    take-byte-requires
-    add-i
-    loop-less
-    loop-again
-    same-length
-    returns)
+    tie.close (tie.spec Inv-loop μ-loop loop-holds shared-slice-read-take-byte take-byte-requires add-i loop-less loop-again same-length returns)

@@ -32,13 +32,4 @@ returns-3 c = search needs
 
 pub answer-spec : {M : Type 1} → statement M
 answer-spec =
-    tie.close
-    (tie.spec
-    returns
-    write-answer-requires
-    enum-known-next
-    enum-told
-    same-length
-    returns-2
-    same-length-2
-    returns-3)
+    tie.close (tie.spec returns write-answer-requires enum-known-next enum-told same-length returns-2 same-length-2 returns-3)

@@ -29,12 +29,4 @@ returns-2 c = search needs
 
 pub good-history-spec : {M : Type 1} → statement M
 good-history-spec =
-    tie.close
-    (tie.spec
-    write-line-requires
-    enum-known-next
-    enum-told
-    same-length
-    returns
-    same-length-2
-    returns-2)
+    tie.close (tie.spec write-line-requires enum-known-next enum-told same-length returns same-length-2 returns-2)

@@ -62,21 +62,5 @@ returns c = search needs
 
 pub report-all-spec : {M : Type 1} → statement M
 report-all-spec =
-    tie.close
-    (tie.spec
-    Inv-loop
-    μ-loop
-    started-requires
-    loop-holds
-    read-some-requires
-    sub-report-chunk
-    part-report-chunk-start
-    part-report-chunk-end
-    report-chunk-requires
-    sub-turns
-    loop-less
-    loop-again
-    finish-requires
-    same-length
-    same-length-2
-    returns)
+    let first = tie.spec Inv-loop μ-loop started-requires loop-holds read-some-requires sub-report-chunk part-report-chunk-start part-report-chunk-end in
+    tie.close (first report-chunk-requires sub-turns loop-less loop-again finish-requires same-length same-length-2 returns)

@@ -52,16 +52,4 @@ returns c = search needs
 
 pub report-chunk-spec : {M : Type 1} → statement M
 report-chunk-spec =
-    tie.close
-    (tie.spec
-    Inv-loop
-    μ-loop
-    loop-holds
-    cut-requires
-    report-requires
-    loop-less
-    loop-again
-    loop-less-2
-    loop-again-2
-    same-length
-    returns)
+    tie.close (tie.spec Inv-loop μ-loop loop-holds cut-requires report-requires loop-less loop-again loop-less-2 loop-again-2 same-length returns)

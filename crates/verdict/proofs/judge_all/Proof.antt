@@ -47,17 +47,5 @@ returns-2 c =
 
 pub judge-all-spec : {M : Type 1} → statement M
 judge-all-spec =
-    tie.close
-    (tie.spec
-    take-all-requires
-    same-length
-    same-length-2
-    returns
-    sub-put-line
-    part-put-line-start
-    part-put-line-end
-    put-line-requires
-    same-length-3
-    same-length-4
-    same-length-5
-    returns-2)
+    let first = tie.spec take-all-requires same-length same-length-2 returns sub-put-line part-put-line-start part-put-line-end put-line-requires in
+    tie.close (first same-length-3 same-length-4 same-length-5 returns-2)

@@ -62,18 +62,5 @@ returns-2 c =
 
 pub keep-spec : {M : Type 1} → statement M
 keep-spec =
-    tie.close
-    (tie.spec
-    Inv-loop
-    μ-loop
-    loop-holds
-    shared-slice-read-text
-    slice-write-text
-    add-len
-    add-i
-    loop-less
-    loop-again
-    same-length
-    returns
-    same-length-2
-    returns-2)
+    let first = tie.spec Inv-loop μ-loop loop-holds shared-slice-read-text slice-write-text add-len add-i loop-less loop-again same-length returns in
+    tie.close (first same-length-2 returns-2)

@@ -33,12 +33,4 @@ returns-2 c = not-refused _ _ _ (c .before .before .before .before .before .befo
 
 pub put-line-spec : {M : Type 1} → statement M
 put-line-spec =
-    tie.close
-    (tie.spec
-    verdict-line-requires
-    enum-known-next
-    enum-told
-    same-length
-    returns
-    same-length-2
-    returns-2)
+    tie.close (tie.spec verdict-line-requires enum-known-next enum-told same-length returns same-length-2 returns-2)

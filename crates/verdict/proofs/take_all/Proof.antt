@@ -89,29 +89,6 @@ returns-4 c = c .before .loop .inv .0
 
 pub take-all-spec : {M : Type 1} → statement M
 take-all-spec =
-    tie.close
-    (tie.spec
-    Inv-loop
-    μ-loop
-    loop-holds
-    same-length
-    same-length-2
-    returns
-    read-requires
-    same-length-3
-    same-length-4
-    returns-2
-    count-requires
-    same-length-5
-    same-length-6
-    returns-3
-    sub-keep
-    part-keep-start
-    part-keep-end
-    keep-requires
-    sub-turns
-    loop-less
-    loop-again
-    same-length-7
-    same-length-8
-    returns-4)
+    let first = tie.spec Inv-loop μ-loop loop-holds same-length same-length-2 returns read-requires same-length-3 same-length-4 returns-2 count-requires in
+    let second = first same-length-5 same-length-6 returns-3 sub-keep part-keep-start part-keep-end keep-requires sub-turns loop-less loop-again in
+    tie.close (second same-length-7 same-length-8 returns-4)

@@ -62,21 +62,5 @@ returns-7 c = search needs
 
 pub kinds-agree-spec : {M : Type 1} → statement M
 kinds-agree-spec =
-    tie.close
-    (tie.spec
-    enum-told
-    enum-told-2
-    enum-told-3
-    enum-told-4
-    enum-told-5
-    enum-told-6
-    enum-told-7
-    enum-told-8
-    enum-told-9
-    returns
-    returns-2
-    returns-3
-    returns-4
-    returns-5
-    returns-6
-    returns-7)
+    let told = tie.spec enum-told enum-told-2 enum-told-3 enum-told-4 enum-told-5 enum-told-6 enum-told-7 enum-told-8 enum-told-9 in
+    tie.close (told returns returns-2 returns-3 returns-4 returns-5 returns-6 returns-7)

@@ -40,16 +40,5 @@ returns-3 c = search refusal-numbers
 
 pub in-numbers-spec : {M : Type 1} → statement M
 in-numbers-spec =
-    tie.close
-    (tie.spec
-    enum-known-said
-    cast-t7
-    enum-known-said-2
-    cast-t8
-    enum-known-said-3
-    number-of-requires
-    cast-t10
-    cast-t11
-    returns
-    returns-2
-    returns-3)
+    let first = tie.spec enum-known-said cast-t7 enum-known-said-2 cast-t8 enum-known-said-3 number-of-requires cast-t10 cast-t11 returns returns-2 in
+    tie.close (first returns-3)

@@ -32,12 +32,4 @@ returns c =
 
 pub judge-spec : {M : Type 1} → statement M
 judge-spec =
-    tie.close
-    (tie.spec
-    judgement-requires
-    in-numbers-requires
-    sub-result
-    part-result-start
-    part-result-end
-    same-length
-    returns)
+    tie.close (tie.spec judgement-requires in-numbers-requires sub-result part-result-start part-result-end same-length returns)

@@ -33,13 +33,4 @@ returns-3 c = search judged-faulty
 
 pub judgement-spec : {M : Type 1} → statement M
 judgement-spec =
-    tie.close
-    (tie.spec
-    returns
-    scan-requires
-    enum-known-n
-    judge-kept-requires
-    enum-known-line
-    same-length
-    returns-2
-    returns-3)
+    tie.close (tie.spec returns scan-requires enum-known-n judge-kept-requires enum-known-line same-length returns-2 returns-3)

@@ -33,12 +33,4 @@ returns-3 c = search (look-bad, cases)
 
 pub look-spec : {M : Type 1} → statement M
 look-spec =
-    tie.close
-    (tie.spec
-    returns
-    read-history-requires
-    enum-known-letter
-    look-good-requires
-    enum-told
-    returns-2
-    returns-3)
+    tie.close (tie.spec returns read-history-requires enum-known-letter look-good-requires enum-told returns-2 returns-3)

@@ -40,14 +40,4 @@ returns-5 c = search cases
 
 pub look-good-spec : {M : Type 1} → statement M
 look-good-spec =
-    tie.close
-    (tie.spec
-    returns
-    returns-2
-    returns-3
-    element-copy-out-if4
-    returns-4
-    code-of-requires
-    cast-t15
-    cast-t16
-    returns-5)
+    tie.close (tie.spec returns returns-2 returns-3 element-copy-out-if4 returns-4 code-of-requires cast-t15 cast-t16 returns-5)

@@ -75,27 +75,6 @@ returns-2 c = search scanning-done
 
 pub scan-spec : {M : Type 1} → statement M
 scan-spec =
-    tie.close
-    (tie.spec
-    Inv-loop
-    μ-loop
-    loop-holds
-    add-line
-    line-end-requires
-    sub-look
-    part-look-start
-    part-look-end
-    look-requires
-    enum-known-code
-    element-write-codes
-    element-write-jobs
-    element-write-cells
-    ends-job-requires
-    cast-ended
-    array-write-ended
-    enum-known-why
-    bare-end-requires
-    returns
-    loop-less
-    loop-again
-    returns-2)
+    let first = tie.spec Inv-loop μ-loop loop-holds add-line line-end-requires sub-look part-look-start part-look-end look-requires enum-known-code in
+    let second = first element-write-codes element-write-jobs element-write-cells ends-job-requires cast-ended array-write-ended enum-known-why in
+    tie.close (second bare-end-requires returns loop-less loop-again returns-2)

@@ -49,18 +49,5 @@ returns-2 c = spare-enough (c .before .loop .inv) (c .loop-test .left)
 
 pub jobs-fit-spec : {M : Type 1} → statement M
 jobs-fit-spec =
-    tie.close
-    (tie.spec
-    Inv-loop
-    μ-loop
-    loop-holds
-    shared-slice-read-width
-    cast-width
-    width-requires
-    returns
-    add-spare
-    sub-spare
-    add-i
-    loop-less
-    loop-again
-    returns-2)
+    let first = tie.spec Inv-loop μ-loop loop-holds shared-slice-read-width cast-width width-requires returns add-spare sub-spare add-i loop-less in
+    tie.close (first loop-again returns-2)

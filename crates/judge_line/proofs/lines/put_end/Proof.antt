@@ -29,12 +29,4 @@ returns-2 c = not-refused _ _ _ (c .before .before .before .before .write-end .e
 
 pub put-end-spec : {M : Type 1} → statement M
 put-end-spec =
-    tie.close
-    (tie.spec
-    write-end-requires
-    enum-known-w
-    enum-told
-    same-length
-    returns
-    same-length-2
-    returns-2)
+    tie.close (tie.spec write-end-requires enum-known-w enum-told same-length returns same-length-2 returns-2)

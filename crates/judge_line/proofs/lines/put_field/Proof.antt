@@ -28,12 +28,4 @@ returns-2 c = not-refused _ _ _ (c .before .before .before .before .write-field 
 
 pub put-field-spec : {M : Type 1} → statement M
 put-field-spec =
-    tie.close
-    (tie.spec
-    write-field-requires
-    enum-known-w
-    enum-told
-    same-length
-    returns
-    same-length-2
-    returns-2)
+    tie.close (tie.spec write-field-requires enum-known-w enum-told same-length returns same-length-2 returns-2)

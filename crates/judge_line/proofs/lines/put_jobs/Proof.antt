@@ -52,16 +52,5 @@ returns c = wrote-as (c .before .loop .inv .1) (tabbed-all _ _ (c .loop-test .le
 
 pub put-jobs-spec : {M : Type 1} → statement M
 put-jobs-spec =
-    tie.close
-    (tie.spec
-    Inv-loop
-    μ-loop
-    loop-holds
-    shared-slice-read-put-field
-    cast-put-field
-    put-field-requires
-    add-i
-    loop-less
-    loop-again
-    same-length
-    returns)
+    let first = tie.spec Inv-loop μ-loop loop-holds shared-slice-read-put-field cast-put-field put-field-requires add-i loop-less loop-again same-length in
+    tie.close (first returns)

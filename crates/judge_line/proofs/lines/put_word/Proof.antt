@@ -28,12 +28,4 @@ returns-2 c = not-refused _ _ _ (c .before .before .before .before .write-word .
 
 pub put-word-spec : {M : Type 1} → statement M
 put-word-spec =
-    tie.close
-    (tie.spec
-    write-word-requires
-    enum-known-w
-    enum-told
-    same-length
-    returns
-    same-length-2
-    returns-2)
+    tie.close (tie.spec write-word-requires enum-known-w enum-told same-length returns same-length-2 returns-2)

@@ -67,16 +67,5 @@ returns-3 c =
 
 pub write-jobs-spec : {M : Type 1} → statement M
 write-jobs-spec =
-    tie.close
-    (tie.spec
-    spelled-requires
-    returns
-    sub-jobs-fit
-    sub-jobs-fit-2
-    jobs-fit-requires
-    put-word-requires
-    put-jobs-requires
-    put-end-requires
-    same-length
-    returns-2
-    returns-3)
+    let first = tie.spec spelled-requires returns sub-jobs-fit sub-jobs-fit-2 jobs-fit-requires put-word-requires put-jobs-requires put-end-requires in
+    tie.close (first same-length returns-2 returns-3)

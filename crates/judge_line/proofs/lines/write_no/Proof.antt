@@ -49,16 +49,5 @@ returns-2 c =
 
 pub write-no-spec : {M : Type 1} → statement M
 write-no-spec =
-    tie.close
-    (tie.spec
-    width-requires
-    width-requires-2
-    add-if1
-    add-if1-2
-    put-word-requires
-    put-field-requires
-    put-field-requires-2
-    put-end-requires
-    same-length
-    returns
-    returns-2)
+    let first = tie.spec width-requires width-requires-2 add-if1 add-if1-2 put-word-requires put-field-requires put-field-requires-2 put-end-requires in
+    tie.close (first same-length returns returns-2)

@@ -40,16 +40,5 @@ returns-2 c = says-judged _ _ _ _ (c .before .before .before .before .before .be
 
 pub verdict-line-spec : {M : Type 1} → statement M
 verdict-line-spec =
-    tie.close
-    (tie.spec
-    number-of-requires
-    cast-write-no
-    write-no-requires
-    same-length
-    returns
-    slice-aggregate-judge-text
-    judge-text-requires
-    slice-aggregate-write-verdict
-    write-verdict-requires
-    same-length-2
-    returns-2)
+    let first = tie.spec number-of-requires cast-write-no write-no-requires same-length returns slice-aggregate-judge-text judge-text-requires in
+    tie.close (first slice-aggregate-write-verdict write-verdict-requires same-length-2 returns-2)

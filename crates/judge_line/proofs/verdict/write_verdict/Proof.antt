@@ -55,21 +55,6 @@ returns-3 c = says-no _ _ _ _ _ _ (c .before .before .before .before .before .be
 
 pub write-verdict-spec : {M : Type 1} → statement M
 write-verdict-spec =
-    tie.close
-    (tie.spec
-    enum-known-said
-    first-places-requires
-    write-jobs-requires
-    enum-known-said-2
-    first-places-requires-2
-    write-jobs-requires-2
-    enum-known-said-3
-    number-of-requires
-    cast-write-no
-    write-no-requires
-    same-length
-    returns
-    same-length-2
-    returns-2
-    same-length-3
-    returns-3)
+    let first = tie.spec enum-known-said first-places-requires write-jobs-requires enum-known-said-2 first-places-requires-2 write-jobs-requires-2 in
+    let second = first enum-known-said-3 number-of-requires cast-write-no write-no-requires same-length returns same-length-2 returns-2 same-length-3 in
+    tie.close (second returns-3)

@@ -35,14 +35,5 @@ returns-3 c = search (cell-none, cases)
 
 pub cell-part-spec : {M : Type 1} → statement M
 cell-part-spec =
-    tie.close
-    (tie.spec
-    has-cell-requires
-    number-at-requires
-    enum-known-value
-    ending-at-requires
-    enum-told
-    ending-at-requires-2
-    returns
-    returns-2
-    returns-3)
+    let first = tie.spec has-cell-requires number-at-requires enum-known-value ending-at-requires enum-told ending-at-requires-2 returns returns-2 in
+    tie.close (first returns-3)

@@ -78,22 +78,5 @@ returns-3 c =
 
 pub digits-at-spec : {M : Type 1} → statement M
 digits-at-spec =
-    tie.close
-    (tie.spec
-    Inv-loop
-    μ-loop
-    loop-holds
-    shared-slice-read-byte
-    is-digit-requires
-    returns
-    cast-more
-    mul-more
-    sub-more
-    cast-more-2
-    add-more
-    returns-2
-    cast-value
-    add-next
-    loop-less
-    loop-again
-    returns-3)
+    let first = tie.spec Inv-loop μ-loop loop-holds shared-slice-read-byte is-digit-requires returns cast-more mul-more sub-more cast-more-2 add-more in
+    tie.close (first returns-2 cast-value add-next loop-less loop-again returns-3)

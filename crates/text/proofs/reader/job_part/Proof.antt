@@ -35,14 +35,4 @@ returns-3 c = search (job-none, cases)
 
 pub job-part-spec : {M : Type 1} → statement M
 job-part-spec =
-    tie.close
-    (tie.spec
-    has-job-requires
-    number-at-requires
-    enum-known-value
-    cell-part-requires
-    enum-told
-    cell-part-requires-2
-    returns
-    returns-2
-    returns-3)
+    tie.close (tie.spec has-job-requires number-at-requires enum-known-value cell-part-requires enum-told cell-part-requires-2 returns returns-2 returns-3)

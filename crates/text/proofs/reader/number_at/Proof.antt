@@ -32,13 +32,4 @@ returns-4 c = search (number-placed, cases)
 
 pub number-at-spec : {M : Type 1} → statement M
 number-at-spec =
-    tie.close
-    (tie.spec
-    shared-slice-read-if2
-    add-start
-    shortest-at-requires
-    digits-at-requires
-    returns
-    returns-2
-    returns-3
-    returns-4)
+    tie.close (tie.spec shared-slice-read-if2 add-start shortest-at-requires digits-at-requires returns returns-2 returns-3 returns-4)

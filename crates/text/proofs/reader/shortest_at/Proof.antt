@@ -32,13 +32,4 @@ returns-4 c = search (shortest-placed, cases)
 
 pub shortest-at-spec : {M : Type 1} → statement M
 shortest-at-spec =
-    tie.close
-    (tie.spec
-    shared-slice-read-first
-    is-digit-requires
-    add-digit-ahead
-    digit-ahead-requires
-    returns
-    returns-2
-    returns-3
-    returns-4)
+    tie.close (tie.spec shared-slice-read-first is-digit-requires add-digit-ahead digit-ahead-requires returns returns-2 returns-3 returns-4)

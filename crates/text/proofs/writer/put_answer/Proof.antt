@@ -61,18 +61,5 @@ returns c =
 
 pub put-answer-spec : {M : Type 1} → statement M
 put-answer-spec =
-    tie.close
-    (tie.spec
-    put-number-requires
-    sub-put-second
-    part-put-second-start
-    part-put-second-end
-    put-second-requires
-    add-b
-    sub-put-last
-    part-put-last-start
-    part-put-last-end
-    put-last-requires
-    add-result
-    same-length
-    returns)
+    let first = tie.spec put-number-requires sub-put-second part-put-second-start part-put-second-end put-second-requires add-b sub-put-last in
+    tie.close (first part-put-last-start part-put-last-end put-last-requires add-result same-length returns)

@@ -70,15 +70,5 @@ returns-2 c = rw (field-none _ _ (c .if1 .left)) (wrote-none (search needs))
 
 pub put-field-spec : {M : Type 1} → statement M
 put-field-spec =
-    tie.close
-    (tie.spec
-    slice-write-part
-    sub-put-number
-    part-put-number-start
-    part-put-number-end
-    sub-put-number-2
-    put-number-requires
-    add-result
-    same-length
-    returns
-    returns-2)
+    let first = tie.spec slice-write-part sub-put-number part-put-number-start part-put-number-end sub-put-number-2 put-number-requires add-result in
+    tie.close (first same-length returns returns-2)

@@ -83,21 +83,5 @@ returns c =
 
 pub put-line-spec : {M : Type 1} → statement M
 put-line-spec =
-    tie.close
-    (tie.spec
-    byte-of-requires
-    put-byte-requires
-    sub-put-field
-    part-put-field-start
-    part-put-field-end
-    has-job-requires
-    put-field-requires
-    add-b
-    sub-put-last
-    part-put-last-start
-    part-put-last-end
-    has-cell-requires
-    put-last-requires
-    add-result
-    same-length
-    returns)
+    let first = tie.spec byte-of-requires put-byte-requires sub-put-field part-put-field-start part-put-field-end has-job-requires put-field-requires add-b in
+    tie.close (first sub-put-last part-put-last-start part-put-last-end has-cell-requires put-last-requires add-result same-length returns)

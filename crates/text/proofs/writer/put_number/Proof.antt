@@ -46,16 +46,4 @@ returns c = record { ends = omega arith; within = omega arith; holds = none-to-w
 
 pub put-number-spec : {M : Type 1} → statement M
 put-number-spec =
-    tie.close
-    (tie.spec
-    Inv-loop
-    μ-loop
-    loop-holds
-    sub-i
-    cast-part
-    add-part
-    slice-write-part
-    loop-less
-    loop-again
-    same-length
-    returns)
+    tie.close (tie.spec Inv-loop μ-loop loop-holds sub-i cast-part add-part slice-write-part loop-less loop-again same-length returns)

@@ -31,13 +31,4 @@ returns c = wrote-more (c .before .before .before .before .before .before .put-b
 
 pub put-second-spec : {M : Type 1} → statement M
 put-second-spec =
-    tie.close
-    (tie.spec
-    put-byte-requires
-    sub-put-word
-    part-put-word-start
-    part-put-word-end
-    put-word-requires
-    add-result
-    same-length
-    returns)
+    tie.close (tie.spec put-byte-requires sub-put-word part-put-word-start part-put-word-end put-word-requires add-result same-length returns)

@@ -42,16 +42,4 @@ returns c = copying-all _ (c .before .before .before .before .before .args .word
 
 pub put-word-spec : {M : Type 1} → statement M
 put-word-spec =
-    tie.close
-    (tie.spec
-    Inv-loop
-    μ-loop
-    spelled-requires
-    loop-holds
-    array-read-part
-    slice-write-part
-    add-i
-    loop-less
-    loop-again
-    same-length
-    returns)
+    tie.close (tie.spec Inv-loop μ-loop spelled-requires loop-holds array-read-part slice-write-part add-i loop-less loop-again same-length returns)

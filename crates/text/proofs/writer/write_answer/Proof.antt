@@ -95,20 +95,5 @@ returns-2 c = refused _ _ _ (no-room-for _ _ _ _ (c .before .has-room .ensures) 
 
 pub write-answer-spec : {M : Type 1} → statement M
 write-answer-spec =
-    tie.close
-    (tie.spec
-    spelled-requires
-    width-requires
-    field-width-requires
-    add-has-room
-    add-has-room-2
-    add-has-room-3
-    has-room-requires
-    sub-put-answer
-    part-put-answer-start
-    part-put-answer-end
-    put-answer-requires
-    add-t18
-    same-length
-    returns
-    returns-2)
+    let first = tie.spec spelled-requires width-requires field-width-requires add-has-room add-has-room-2 add-has-room-3 has-room-requires sub-put-answer in
+    tie.close (first part-put-answer-start part-put-answer-end put-answer-requires add-t18 same-length returns returns-2)

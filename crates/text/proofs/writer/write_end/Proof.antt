@@ -49,14 +49,4 @@ returns-2 c = refused _ _ _ (no-room-for _ _ _ _ (c .before .has-room .ensures) 
 
 pub write-end-spec : {M : Type 1} → statement M
 write-end-spec =
-    tie.close
-    (tie.spec
-    has-room-requires
-    sub-put-byte
-    part-put-byte-start
-    part-put-byte-end
-    put-byte-requires
-    add-t8
-    same-length
-    returns
-    returns-2)
+    tie.close (tie.spec has-room-requires sub-put-byte part-put-byte-start part-put-byte-end put-byte-requires add-t8 same-length returns returns-2)

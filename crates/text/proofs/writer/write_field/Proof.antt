@@ -62,15 +62,5 @@ returns-2 c = refused _ _ _ (no-room-for _ _ _ _ (c .before .has-room .ensures) 
 
 pub write-field-spec : {M : Type 1} → statement M
 write-field-spec =
-    tie.close
-    (tie.spec
-    field-width-requires
-    has-room-requires
-    sub-put-field
-    part-put-field-start
-    part-put-field-end
-    put-field-requires
-    add-t10
-    same-length
-    returns
-    returns-2)
+    let first = tie.spec field-width-requires has-room-requires sub-put-field part-put-field-start part-put-field-end put-field-requires add-t10 in
+    tie.close (first same-length returns returns-2)

@@ -99,20 +99,5 @@ returns-2 c = refused _ _ _ (no-room-for _ _ _ _ (c .before .has-room .ensures) 
 
 pub write-line-spec : {M : Type 1} → statement M
 write-line-spec =
-    tie.close
-    (tie.spec
-    has-job-requires
-    field-width-requires
-    has-cell-requires
-    field-width-requires-2
-    add-has-room
-    add-has-room-2
-    has-room-requires
-    sub-put-line
-    part-put-line-start
-    part-put-line-end
-    put-line-requires
-    add-t16
-    same-length
-    returns
-    returns-2)
+    let first = tie.spec has-job-requires field-width-requires has-cell-requires field-width-requires-2 add-has-room add-has-room-2 has-room-requires in
+    tie.close (first sub-put-line part-put-line-start part-put-line-end put-line-requires add-t16 same-length returns returns-2)

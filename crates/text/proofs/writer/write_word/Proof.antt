@@ -58,15 +58,5 @@ returns-2 c = refused _ _ _ (no-room-for _ _ _ _ (c .before .has-room .ensures) 
 
 pub write-word-spec : {M : Type 1} → statement M
 write-word-spec =
-    tie.close
-    (tie.spec
-    spelled-requires
-    has-room-requires
-    sub-put-word
-    part-put-word-start
-    part-put-word-end
-    put-word-requires
-    add-t11
-    same-length
-    returns
-    returns-2)
+    let first = tie.spec spelled-requires has-room-requires sub-put-word part-put-word-start part-put-word-end put-word-requires add-t11 same-length in
+    tie.close (first returns returns-2)

@@ -41,15 +41,4 @@ returns c = stored-all _ _ _ (c .before .loop .i) (c .before .before .args .n) _
 
 pub filled-spec : {M : Type 1} → statement M
 filled-spec =
-    tie.close
-    (tie.spec
-    Inv-loop
-    μ-loop
-    loop-holds
-    shared-slice-read-all
-    add-all
-    array-write-all
-    add-i
-    loop-less
-    loop-again
-    returns)
+    tie.close (tie.spec Inv-loop μ-loop loop-holds shared-slice-read-all add-all array-write-all add-i loop-less loop-again returns)

@@ -41,15 +41,4 @@ returns-2 c = end-at-end _ _ (omega arith) ∙ c .before .loop .inv
 
 pub line-end-spec : {M : Type 1} → statement M
 line-end-spec =
-    tie.close
-    (tie.spec
-    Inv-loop
-    μ-loop
-    loop-holds
-    shared-slice-read-if1
-    add-result
-    returns
-    add-at
-    loop-less
-    loop-again
-    returns-2)
+    tie.close (tie.spec Inv-loop μ-loop loop-holds shared-slice-read-if1 add-result returns add-at loop-less loop-again returns-2)

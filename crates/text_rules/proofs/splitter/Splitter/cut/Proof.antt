@@ -39,15 +39,5 @@ returns-3 c = search cut-on
 
 pub cut-spec : {M : Type 1} → statement M
 cut-spec =
-    tie.close
-    (tie.spec
-    line-end-requires
-    returns
-    sub-part
-    part-part-start
-    part-part-end
-    next-line-requires
-    grown-requires
-    returns-2
-    grown-requires-2
-    returns-3)
+    let first = tie.spec line-end-requires returns sub-part part-part-start part-part-end next-line-requires grown-requires returns-2 grown-requires-2 in
+    tie.close (first returns-3)
