@@ -69,6 +69,7 @@ module _ (codes cells owners : List ℕ) where
       record {
         wide = length-replicate {A = ℕ} 65536 0;
         far = λ p h. absurd (omega arith);
+        any = λ p h. absurd (omega arith);
         line = λ j k c a b d h. absurd (nothing 65536 (lastKey j k c) (key-low j k c a b d) h);
         owner = λ j k c a b d h. absurd (nothing 65536 (lastKey j k c) (key-low j k c a b d) h);
         code = λ j k c a b d h. absurd (nothing 65536 (lastKey j k c) (key-low j k c a b d) h);
@@ -82,11 +83,33 @@ module _ (codes cells owners : List ℕ) where
         record {
           wide = s .wide;
           far = λ q h n. by-test (eqb q p) (λ t. absurd (n (ap (λ y. getD owners y 0) (eqb-true q p t) ∙ z))) (λ g. s .far q (omega (arith, eqb-false q p g)) n);
+          any = λ q h n. by-test (eqb q p) (λ t. absurd (n (ap (λ y. getD owners y 0) (eqb-true q p t) ∙ z))) (λ g. s .any q (omega (arith, eqb-false q p g)) n);
           line = λ j k c a b d h. omega (arith, s .line j k c a b d h);
           owner = s .owner;
           code = s .code;
           cell = s .cell;
         }
+
+    -- a line in the place for any kind: it stands there, and the table has what it had
+    pub lasts-any : (j i v : ℕ) → getD owners p 0 < 256 → getD cells p 0 < 64 → j ≡ getD owners p 0 → i ≡ lastKey j 3 (getD cells p 0) → v ≡ p + 1 →
+        Lasts codes cells owners p (set lasts i v) × (p < getD (set lasts i v) (lastKey (getD owners p 0) 3 (getD cells p 0)) 0)
+    lasts-any j i v small low o e f =
+        let there : getD (set lasts i v) i 0 ≡ v = getD-set-same lasts i v 0 (omega (arith, s .wide)) in
+        let here′ : i ≡ lastKey (getD owners p 0) 3 (getD cells p 0) = omega arith in
+        let same′ : (j k c : ℕ) → k < 3 → getD (set lasts i v) (lastKey j k c) 0 ≡ getD lasts (lastKey j k c) 0 = λ j k c b. getD-set-other lasts i (lastKey j k c) v 0 (λ q. omega arith) in
+        let far′ : (q y : ℕ) → q < p → q < getD lasts y 0 → q < getD (set lasts i v) y 0 =
+        λ q y h l. by-test (eqb y i) (λ t. rw (eqb-true y i t) (omega (arith, there))) (λ g. rw (getD-set-other lasts i y v 0 (eqb-false y i g)) l) in (
+          record {
+            wide = length-set lasts i v ∙ s .wide;
+            far = λ q h n. far′ q (lastKey (getD owners q 0) (getD codes q 0) (getD cells q 0)) h (s .far q h n);
+            any = λ q h n. far′ q (lastKey (getD owners q 0) 3 (getD cells q 0)) h (s .any q h n);
+            line = λ j k c a b d. rw (same′ j k c b) (s .line j k c a b d);
+            owner = λ j k c a b d. rw (same′ j k c b) (s .owner j k c a b d);
+            code = λ j k c a b d. rw (same′ j k c b) (s .code j k c a b d);
+            cell = λ j k c a b d. rw (same′ j k c b) (s .cell j k c a b d);
+          },
+          rw (← here′) (omega (arith, there)),
+        )
 
     module _ (small : getD owners p 0 < 256) (act : getD codes p 0 < 3) (low : getD cells p 0 < 64) where
       -- one key stands for one job, kind and cell
@@ -115,9 +138,9 @@ module _ (codes cells owners : List ℕ) where
           let same′ = at-other (lastKey j k c) (eqb-false (lastKey j k c) (lastKey (getD owners p 0) (getD codes p 0) (getD cells p 0)) g) in
           ap (λ v. getD of (v - 1) 0) same′ ∙ old (omega (arith, same′)))
 
-      -- one line more
-      pub lasts-more : (j i v : ℕ) → j ≡ getD owners p 0 → i ≡ lastKey j (getD codes p 0) (getD cells p 0) → v ≡ p + 1 → Lasts codes cells owners (p + 1) (set lasts i v)
-      lasts-more j i v q e f =
+      -- one line more, where the place for any kind has it
+      pub lasts-more : p < getD lasts (lastKey (getD owners p 0) 3 (getD cells p 0)) 0 → (j i v : ℕ) → j ≡ getD owners p 0 → i ≡ lastKey j (getD codes p 0) (getD cells p 0) → v ≡ p + 1 → Lasts codes cells owners (p + 1) (set lasts i v)
+      lasts-more after j i v q e f =
           rw (e, q, f)
           (record {
             wide = length-set lasts (lastKey (getD owners p 0) (getD codes p 0) (getD cells p 0)) (p + 1) ∙ s .wide;
@@ -128,6 +151,9 @@ module _ (codes cells owners : List ℕ) where
                 let other′ = eqb-false (lastKey (getD owners q 0) (getD codes q 0) (getD cells q 0)) (lastKey (getD owners p 0) (getD codes p 0) (getD cells p 0)) g in
                 let less : q < p = by-test (eqb q p) (λ u. absurd (other′ (ap (λ y. lastKey (getD owners y 0) (getD codes y 0) (getD cells y 0)) (eqb-true q p u)))) (λ u. omega (arith, eqb-false q p u)) in
                 rw (at-other (lastKey (getD owners q 0) (getD codes q 0) (getD cells q 0)) other′) (s .far q less n));
+            any = λ q h n.
+                rw (at-other (lastKey (getD owners q 0) 3 (getD cells q 0)) (λ e. omega arith))
+                (by-test (eqb q p) (λ t. rw (eqb-true q p t) after) (λ g. s .any q (omega (arith, eqb-false q p g)) n));
             line = λ j k c a b d h.
                 by-test (eqb (lastKey j k c) (lastKey (getD owners p 0) (getD codes p 0) (getD cells p 0)))
                 (λ t. omega (arith, at-key (lastKey j k c) (eqb-true (lastKey j k c) (lastKey (getD owners p 0) (getD codes p 0) (getD cells p 0)) t)))

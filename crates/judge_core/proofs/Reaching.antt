@@ -22,7 +22,7 @@ use Rattle.judge_rules.specs.Order.{under, ascending}
 use Rattle.judge_rules.proofs.Firsts.{under-each}
 use Rattle.judge_core.specs.Meeting.{kindBy, actionBy, actionAt, clashing, meetsLater, meetings}
 use Rattle.judge_core.specs.Grouped.{Lined}
-use Rattle.judge_core.specs.Reaching.{lastKey, Reach, lastMet, Masked}
+use Rattle.judge_core.specs.Reaching.{lastKey, Reach, lastMet, mayMeet, Masked}
 use Rattle.judge_core.proofs.Meetings.{none-later}
 use Rattle.judge_core.proofs.Searching.{up-to}
 
@@ -139,16 +139,39 @@ module _ (codes jobs cells lasts : List ℕ) (j : ℕ) where
         not-both (and-both (ltb (x + 1) v) (conflicts (actionAt codes jobs cells x) (actionBy k j (getD cells x 0))) (lt-ltb (x + 1) v (omega (arith, y .2))) clash′) (h k (r .code (y .0) (y .1))))
         (λ f. f)
 
-    -- on a cell where the jobs do not meet none is
-    pub masked-none : (mask : ℕ) (xs : List ℕ) (c : ℕ) (b : Bool) → Masked codes jobs cells mask xs ys → member x xs ≡ true → c ≡ getD cells x 0 → b ≡ (ltb c 64 && inSet mask c) → not b ≡ true → meetsLater (clashing codes jobs cells) x ys ≡ false
-    masked-none mask xs c b m i q e f =
+    -- on a cell where the jobs do not meet, or where the last line stands too early, none is
+    pub passed-none : (mask : ℕ) (xs : List ℕ) (b : Bool) → Masked codes jobs cells mask xs ys → member x xs ≡ true → b ≡ mayMeet cells lasts mask j x → not b ≡ true → meetsLater (clashing codes jobs cells) x ys ≡ false
+    unfolding mayMeet
+    passed-none mask xs b m i e f =
         by-test (meetsLater (clashing codes jobs cells) x ys)
         (λ t.
         let y = later-by (clashing codes jobs cells) x ys t in
-        let on : inSet mask (getD cells x 0) ≡ true = m x (y .0) i (y .1) (y .3) in
-        let low : getD cells x 0 < 64 = omega (arith, r .cell (y .0) (y .1), one-cell codes jobs cells x (y .0) (y .3)) in
-        not-both (and-both (ltb c 64) (inSet mask c) (lt-ltb c 64 (omega arith)) (rw q on)) (sym e ∙ not-true b f))
+        let c = getD cells x 0 in
+        let at = one-cell codes jobs cells x (y .0) (y .3) in
+        let low : c < 64 = omega (arith, r .cell (y .0) (y .1), at) in
+        let v = getD lasts (lastKey j 3 c) 0 in
+        let far′ : y .0 < v = rw at (r .any (y .0) (y .1)) in
+        not-both
+        (and-both (ltb c 64 && inSet mask c) (ltb (x + 1) v) (and-both (ltb c 64) (inSet mask c) (lt-ltb c 64 low) (m x (y .0) i (y .1) (y .3))) (lt-ltb (x + 1) v (omega (arith, y .2))))
+        (sym e ∙ not-true b f))
         (λ g. g)
+
+-- a line that is not passed over is on one of 64 cells
+pub passed-cell : (cells lasts : List ℕ) (mask j x : ℕ) (b : Bool) → b ≡ mayMeet cells lasts mask j x → not b ≡ false → getD cells x 0 < 64
+unfolding mayMeet
+passed-cell cells lasts mask j x b e f =
+    let c = getD cells x 0 in
+    ltb-true c 64 (and-first (ltb c 64) (inSet mask c) (and-first (ltb c 64 && inSet mask c) (ltb (x + 1) (getD lasts (lastKey j 3 c) 0)) (sym e ∙ not-false b f)))
+
+-- a line on no cell of the set is passed over
+pub may-not : (cells lasts : List ℕ) (mask j x c : ℕ) (b : Bool) → c ≡ getD cells x 0 → b ≡ (ltb c 64 && inSet mask c) → not b ≡ true → false ≡ mayMeet cells lasts mask j x
+unfolding mayMeet
+may-not cells lasts mask j x c b q e f = rw (← q, ← e, not-true b f)
+
+-- and one on a cell of it where the last line stands too early
+pub may-late : (cells lasts : List ℕ) (mask j x c key v : ℕ) (b : Bool) → c ≡ getD cells x 0 → b ≡ (ltb c 64 && inSet mask c) → not b ≡ false → key ≡ lastKey j 3 (getD cells x 0) → v ≡ getD lasts key 0 → ltb (x + 1) v ≡ mayMeet cells lasts mask j x
+unfolding mayMeet
+may-late cells lasts mask j x c key v b q e f i g = rw (← i, ← g, ← q, ← e, not-false b f)
 
 -- a cell in the set is one of 64
 pub in-mask : (mask c d : ℕ) (b : Bool) → c ≡ d → b ≡ (ltb c 64 && inSet mask c) → not b ≡ false → d < 64

@@ -64,6 +64,7 @@ module _ (codes jobs cells owners : List ℕ) (n : ℕ) (act : Acting codes jobs
         code = λ y m. let r = its-line j y m in act .code y (r .0) (λ q. z (sym (r .1) ∙ q));
         cell = λ y m. let r = its-line j y m in act .cell y (r .0) (λ q. z (sym (r .1) ∙ q));
         far = λ y m. let r = its-line j y m in subst (λ o. y < getD lasts (lastKey o (getD codes y 0) (getD cells y 0)) 0) (r .1) (s .far y (r .0) (λ q. z (sym (r .1) ∙ q)));
+        any = λ y m. let r = its-line j y m in subst (λ o. y < getD lasts (lastKey o 3 (getD cells y 0)) 0) (r .1) (s .any y (r .0) (λ q. z (sym (r .1) ∙ q)));
         there = λ k c l d h. listed-has (λ p. eqb (getD owners p 0) j) 0 n (getD lasts (lastKey j k c) 0 - 1) (omega arith) (omega (arith, s .line j k c b l d h)) (eq-eqb (getD owners (getD lasts (lastKey j k c) 0 - 1) 0) j (s .owner j k c b l d h));
         there-code = λ k c l d h. s .code j k c b l d h;
         there-cell = λ k c l d h. s .cell j k c b l d h;

@@ -28,14 +28,15 @@ pub record Covered (codes cells owners : List ℕ) (n kind : ℕ) (sets : List �
 unfoldable pub touchedAt : List ℕ → List ℕ → List ℕ → ℕ → Touched
 touchedAt reads writes increments j = record { reads = getD reads j 0; writes = getD writes j 0; increments = getD increments j 0 }
 
--- the place of job j's last action of a kind on cell c
+-- the place of job j's last action of a kind on cell c; 3 is for its last one of any kind
 abbrev pub lastKey : ℕ → ℕ → ℕ → ℕ
 lastKey j k c = c * 1024 + j * 4 + k
 
--- at each place stands one more than the last line of that job, kind and cell, or 0 where there is none
+-- at each place stands one more than the last line of that job, kind and cell, or 0 where there is none; and no line of the job on the cell stands behind the place for any kind
 pub record Lasts (codes cells owners : List ℕ) (n : ℕ) (lasts : List ℕ) : Type 0 where
   pub wide : length lasts ≡ 65536
   pub far : (p : ℕ) → p < n → (getD owners p 0 ≡ 0 → ⊥) → p < getD lasts (lastKey (getD owners p 0) (getD codes p 0) (getD cells p 0)) 0
+  pub any : (p : ℕ) → p < n → (getD owners p 0 ≡ 0 → ⊥) → p < getD lasts (lastKey (getD owners p 0) 3 (getD cells p 0)) 0
   pub line : (j k c : ℕ) → j < 256 → k < 3 → c < 64 → 0 < getD lasts (lastKey j k c) 0 → getD lasts (lastKey j k c) 0 ≤ n
   pub owner : (j k c : ℕ) → j < 256 → k < 3 → c < 64 → 0 < getD lasts (lastKey j k c) 0 → getD owners (getD lasts (lastKey j k c) 0 - 1) 0 ≡ j
   pub code : (j k c : ℕ) → j < 256 → k < 3 → c < 64 → 0 < getD lasts (lastKey j k c) 0 → getD codes (getD lasts (lastKey j k c) 0 - 1) 0 ≡ k
@@ -47,6 +48,7 @@ pub record Reach (codes jobs cells lasts : List ℕ) (j : ℕ) (ys : List ℕ) :
   pub code : (y : ℕ) → member y ys ≡ true → getD codes y 0 < 3
   pub cell : (y : ℕ) → member y ys ≡ true → getD cells y 0 < 64
   pub far : (y : ℕ) → member y ys ≡ true → y < getD lasts (lastKey j (getD codes y 0) (getD cells y 0)) 0
+  pub any : (y : ℕ) → member y ys ≡ true → y < getD lasts (lastKey j 3 (getD cells y 0)) 0
   pub there : (k c : ℕ) → k < 3 → c < 64 → 0 < getD lasts (lastKey j k c) 0 → member (getD lasts (lastKey j k c) 0 - 1) ys ≡ true
   pub there-code : (k c : ℕ) → k < 3 → c < 64 → 0 < getD lasts (lastKey j k c) 0 → getD codes (getD lasts (lastKey j k c) 0 - 1) 0 ≡ k
   pub there-cell : (k c : ℕ) → k < 3 → c < 64 → 0 < getD lasts (lastKey j k c) 0 → getD cells (getD lasts (lastKey j k c) 0 - 1) 0 ≡ c
@@ -54,6 +56,10 @@ pub record Reach (codes jobs cells lasts : List ℕ) (j : ℕ) (ys : List ℕ) :
 -- job j's last action of a kind on line x's cell stands after line x, and conflicts with the action there
 unfoldable pub lastMet : List ℕ → List ℕ → List ℕ → List ℕ → ℕ → ℕ → ℕ → Bool
 lastMet codes jobs cells lasts j x k = ltb (x + 1) (getD lasts (lastKey j k (getD cells x 0)) 0) && conflicts (actionAt codes jobs cells x) (actionBy k j (getD cells x 0))
+
+-- line x is on a cell of the set, and job j's last action on that cell stands after it
+unfoldable pub mayMeet : List ℕ → List ℕ → ℕ → ℕ → ℕ → Bool
+mayMeet cells lasts mask j x = (ltb (getD cells x 0) 64 && inSet mask (getD cells x 0)) && ltb (x + 1) (getD lasts (lastKey j 3 (getD cells x 0)) 0)
 
 -- a line of xs conflicts with one of ys on cells of the set alone
 abbrev pub Masked : List ℕ → List ℕ → List ℕ → ℕ → List ℕ → List ℕ → Type 0

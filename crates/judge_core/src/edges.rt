@@ -1,4 +1,5 @@
 // Which job has an edge to which: an earlier action of the one conflicts with a later one of the other (01, The judge's rules).
+use crate::sets::ANY;
 use crate::sets::last_key;
 use crate::sets::touched;
 use conflict::action::Action;
@@ -15,7 +16,7 @@ ghost use Rattle.laws.specs.Lists.{member};
 ghost use Rattle.judge_core.specs.Lists.{tab};
 ghost use Rattle.judge_core.specs.Meeting.{kindBy, actionAt, clashing, meetings};
 ghost use Rattle.judge_core.specs.Grouped.{Lined, Parted, partAt, edgeBy};
-ghost use Rattle.judge_core.specs.Reaching.{Reach, Masked, Worked, lastMet};
+ghost use Rattle.judge_core.specs.Reaching.{Reach, Masked, Worked, lastMet, mayMeet};
 
 // The kind of action that a number stands for.
 fn kind_of(code: u8) -> Kind
@@ -102,7 +103,26 @@ fn meets_last<'a>(
     actions_conflict(action_at(codes, jobs, cells, x), other)
 }
 
-// Whether a line of xs stands before a line of ys, job j's, that it conflicts with. The lines of xs are looked at from the last back, since a job mostly writes what it has read before; those on cells where the two jobs do not meet are passed over; of job j's lines on a cell the last of each kind decides; and the search is left at the first two found.
+// Whether line x is on a cell of the set, and job j's last action on that cell stands after it.
+fn may_meet<'a>(
+    cells: &'a [u8; JUDGED_LINES],
+    lasts: &'a [u16; 65536],
+    mask: u64,
+    x: usize,
+    j: usize,
+) -> bool
+    requires { ⌜ (x < 4096) × (j < 256) ⌝ }
+    ensures { λ r. ⌜ r ≡ mayMeet (now (cells .entry)) (now (lasts .entry)) mask j x ⌝ }
+{
+    let cell = cells[x];
+    if !has_cell(mask, wide(cell)) {
+        return false;
+    }
+    let key = last_key(j, ANY, cell);
+    x + 1 < far(lasts[key])
+}
+
+// Whether a line of xs stands before a line of ys, job j's, that it conflicts with. The lines of xs are looked at from the last back, since a job mostly writes what it has read before; those on cells where the two jobs do not meet, or where job j's last line stands too early, are passed over; of job j's lines on a cell the last of each kind decides; and the search is left at the first two found.
 fn meets<'a>(
     codes: &'a [u8; JUDGED_LINES],
     jobs: &'a [u8; JUDGED_LINES],
@@ -125,7 +145,7 @@ fn meets<'a>(
     'outer: while 0 < i {
         i -= 1;
         let x = xs[i] as usize;
-        if !has_cell(mask, wide(cells[x])) {
+        if !may_meet(cells, lasts, mask, x, j) {
             continue;
         }
         let mut k = 0;

@@ -8,6 +8,9 @@ ghost use mathlib.Core.Path.{_≡_};
 ghost use Prim.Native.Nat.{_≤_, _<_};
 ghost use Rattle.judge_core.specs.Reaching.{Acting, Covered, Lasts, touchedAt, lastKey};
 
+// Stands beside the numbers of the three kinds for a line of whatever kind.
+pub const ANY: u8 = 3;
+
 // For each job the cells of the lines of one kind that it owns, of the first n.
 pub fn cells_of<'a>(
     codes: &'a [u8; JUDGED_LINES],
@@ -48,15 +51,15 @@ pub fn touched<'a>(
     }
 }
 
-// The place of job j's last action of a kind on a cell.
+// The place of job j's last action of a kind on a cell, and of its last one of any kind by ANY.
 pub fn last_key(j: usize, kind: u8, cell: u8) -> usize
-    requires { ⌜ (j < 256) × (kind < 3) × (cell < 64) ⌝ }
+    requires { ⌜ (j < 256) × (kind < 4) × (cell < 64) ⌝ }
     ensures { λ r. ⌜ (r ≡ lastKey j kind cell) × (r < 65536) ⌝ }
 {
     place(cell) * 1024 + j * 4 + place(kind)
 }
 
-// One more than each job's last line of each kind on each cell, of the first n lines, and 0 where it has none.
+// One more than each job's last line of each kind on each cell, and of any kind, of the first n lines, and 0 where it has none.
 pub fn last_lines<'a>(
     codes: &'a [u8; JUDGED_LINES],
     jobs: &'a [u8; JUDGED_LINES],
@@ -72,6 +75,8 @@ pub fn last_lines<'a>(
     while p < n {
         let j = place(owners[p]);
         if j != 0 {
+            let any = last_key(j, ANY, cells[p]);
+            lasts[any] = (p + 1) as u16;
             let key = last_key(j, codes[p], cells[p]);
             lasts[key] = (p + 1) as u16;
         }

@@ -11,7 +11,7 @@ use Rattle.laws.specs.Choice.{was-true, was-false}
 use Rattle.judge_core.specs.Meeting.{clashing, meetings}
 use Rattle.judge_core.specs.Reaching.{lastMet}
 use Rattle.judge_core.proofs.Searching.{member-at, meets-whole, meets-past, meets-found, meets-end}
-use Rattle.judge_core.proofs.Reaching.{apart-none, reach-found, reach-none, masked-none, in-mask}
+use Rattle.judge_core.proofs.Reaching.{apart-none, reach-found, reach-none, passed-none, passed-cell}
 use Rattle.judge_core.proofs.edges.meets.Statement.{statement}
 use Rattle.judge_core.proofs.edges.meets.Tie as tie
 
@@ -48,14 +48,8 @@ shared-slice-read-x c = omega arith
 cast-x : tie.Need-cast-x Inv-loop μ-loop Inv-outer μ-outer
 cast-x c = omega (arith, c .shared-slice-known3 .given (c .before .before .outer .i - 1))
 
-element-copy-out-wide : tie.Need-element-copy-out-wide Inv-loop μ-loop Inv-outer μ-outer
-element-copy-out-wide c = c .before .before .before .before .before .before .before .pre .0 .1 .known _
-
-wide-requires : tie.Need-wide-requires Inv-loop μ-loop Inv-outer μ-outer
-wide-requires c κs = search needs
-
-has-cell-requires : tie.Need-has-cell-requires Inv-loop μ-loop Inv-outer μ-outer
-has-cell-requires c κs = search needs
+may-meet-requires : tie.Need-may-meet-requires Inv-loop μ-loop Inv-outer μ-outer
+may-meet-requires c κs = (c .before .before .before .before .before .before .before .pre .0 .1 .known _, c .before .before .before .before .before .before .before .pre .0 .0)
 
 outer-less : tie.Need-outer-less Inv-loop μ-loop Inv-outer μ-outer
 outer-less c = omega arith
@@ -63,14 +57,14 @@ outer-less c = omega arith
 outer-again : tie.Need-outer-again Inv-loop μ-loop Inv-outer μ-outer
 outer-again c = (
   omega arith,
-  c .before .before .before .before .before .before .outer .inv .1,
-  meets-past _ _ _ (c .before .before .before .before .before .before .outer .i) (omega arith) (omega arith)
-      (masked-none _ _ _ _ _ _ (c .before .before .before .before .before .before .before .before .before .before .before .pre .1 .0) _ _ _ _ _ (c .before .before .before .before .before .before .before .before .before .before .before .pre .1 .1) (member-at _ _ (omega arith)) (c .before .before .wide .ensures) (c .before .has-cell .ensures) (c .if2 .taken))
-      (c .before .before .before .before .before .before .outer .inv .2),
+  c .before .before .before .before .outer .inv .1,
+  meets-past _ _ _ (c .before .before .before .before .outer .i) (omega arith) (omega arith)
+      (passed-none _ _ _ _ _ _ (c .before .before .before .before .before .before .before .before .before .pre .1 .0) _ _ _ _ (c .before .before .before .before .before .before .before .before .before .pre .1 .1) (member-at _ _ (omega arith)) (c .before .may-meet .ensures) (c .if2 .taken))
+      (c .before .before .before .before .outer .inv .2),
 )
 
 loop-holds : tie.Need-loop-holds Inv-loop μ-loop Inv-outer μ-outer
-loop-holds c = (omega arith, c .before .before .before .before .before .before .outer .inv .1, below-none _)
+loop-holds c = (omega arith, c .before .before .before .before .outer .inv .1, below-none _)
 
 outer-less-2 : tie.Need-outer-less-2 Inv-loop μ-loop Inv-outer μ-outer
 outer-less-2 c = omega arith
@@ -79,11 +73,11 @@ outer-again-2 : tie.Need-outer-again-2 Inv-loop μ-loop Inv-outer μ-outer
 outer-again-2 c = (
   omega arith,
   c .before .loop .inv .1,
-  meets-past _ _ _ (c .before .before .before .before .before .before .before .before .outer .i) (omega arith) (omega arith) (reach-none _ _ _ _ _ _ (c .before .before .before .before .before .before .before .before .before .before .before .before .before .pre .1 .0) _ (λ y h. c .before .loop .inv .2 y (omega arith))) (c .before .before .before .before .before .before .before .before .outer .inv .2),
+  meets-past _ _ _ (c .before .before .before .before .before .before .outer .i) (omega arith) (omega arith) (reach-none _ _ _ _ _ _ (c .before .before .before .before .before .before .before .before .before .before .before .pre .1 .0) _ (λ y h. c .before .loop .inv .2 y (omega arith))) (c .before .before .before .before .before .before .outer .inv .2),
 )
 
 meets-last-requires : tie.Need-meets-last-requires Inv-loop μ-loop Inv-outer μ-outer
-meets-last-requires c κs = (c .before .before .before .before .before .before .before .before .before .before .before .before .before .pre .0 .1 .known _, c .before .before .before .before .before .before .before .before .before .before .before .before .before .pre .0 .0, omega arith, in-mask _ _ _ _ (c .before .before .before .before .wide .ensures) (c .before .before .before .has-cell .ensures) (c .before .before .if2 .left))
+meets-last-requires c κs = (c .before .before .before .before .before .before .before .before .before .before .before .pre .0 .1 .known _, c .before .before .before .before .before .before .before .before .before .before .before .pre .0 .0, omega arith, passed-cell _ _ _ _ _ _ (c .before .before .before .may-meet .ensures) (c .before .before .if2 .left))
 
 add-k : tie.Need-add-k Inv-loop μ-loop Inv-outer μ-outer
 add-k c = omega arith
@@ -99,9 +93,9 @@ returns-2 c = c .before .outer .inv .1 ∙ meets-end _ _ _ (c .before .outer .i)
 
 returns-3 : tie.Need-returns-3 Inv-loop μ-loop Inv-outer μ-outer
 returns-3 c =
-    meets-found _ _ _ (c .before .before .before .before .before .before .before .before .before .before .outer .i) (omega arith) (omega arith)
-    (reach-found _ _ _ _ _ _ (c .before .before .before .before .before .before .before .before .before .before .before .before .before .before .before .pre .1 .0) _ _ (omega arith) (in-mask _ _ _ _ (c .before .before .before .before .before .before .wide .ensures) (c .before .before .before .before .before .has-cell .ensures) (c .before .before .before .before .if2 .left)) (was-true _ (c .before .meets-last .ensures) (c .if3 .taken)))
-    (c .before .before .before .before .before .before .before .before .before .before .outer .inv .2)
+    meets-found _ _ _ (c .before .before .before .before .before .before .before .before .outer .i) (omega arith) (omega arith)
+    (reach-found _ _ _ _ _ _ (c .before .before .before .before .before .before .before .before .before .before .before .before .before .pre .1 .0) _ _ (omega arith) (passed-cell _ _ _ _ _ _ (c .before .before .before .before .before .may-meet .ensures) (c .before .before .before .before .if2 .left)) (was-true _ (c .before .meets-last .ensures) (c .if3 .taken)))
+    (c .before .before .before .before .before .before .before .before .outer .inv .2)
 
 pub meets-spec : {M : Type 1} → statement M
 meets-spec =
@@ -118,9 +112,7 @@ meets-spec =
     mul-x
     shared-slice-read-x
     cast-x
-    element-copy-out-wide
-    wide-requires
-    has-cell-requires
+    may-meet-requires
     outer-less
     outer-again
     loop-holds

@@ -6,7 +6,7 @@ use mathlib.Core.Logic.{⊎-elim}
 use native.Mathlib.Omega.{arith}
 use borrow.Author.Needs.{needs}
 use Rattle.judge_core.specs.Reaching.{Lasts}
-use Rattle.judge_core.proofs.Covering.{lasts-none, lasts-keep, lasts-more, lasts-all}
+use Rattle.judge_core.proofs.Covering.{lasts-none, lasts-keep, lasts-any, lasts-more, lasts-all}
 use Rattle.judge_core.proofs.sets.last_lines.Statement.{statement}
 use Rattle.judge_core.proofs.sets.last_lines.Tie as tie
 
@@ -28,11 +28,8 @@ place-requires c κs = search needs
 element-copy-out-last-key : tie.Need-element-copy-out-last-key Inv-loop μ-loop
 element-copy-out-last-key c = omega arith
 
-element-copy-out-last-key-2 : tie.Need-element-copy-out-last-key-2 Inv-loop μ-loop
-element-copy-out-last-key-2 c = omega arith
-
 last-key-requires : tie.Need-last-key-requires Inv-loop μ-loop
-last-key-requires c κs = (c .before .before .before .place .ensures .1, c .before .before .before .before .before .before .before .pre .1 .code _ (omega arith) (λ z. c .before .before .if1 .taken (c .before .before .before .place .ensures .0 ∙ z)), c .before .before .before .before .before .before .before .pre .1 .cell _ (omega arith) (λ z. c .before .before .if1 .taken (c .before .before .before .place .ensures .0 ∙ z)))
+last-key-requires c κs = (c .before .before .place .ensures .1, omega arith, c .before .before .before .before .before .before .pre .1 .cell _ (omega arith) (λ z. c .before .if1 .taken (c .before .before .place .ensures .0 ∙ z)))
 
 add-lasts : tie.Need-add-lasts Inv-loop μ-loop
 add-lasts c = omega arith
@@ -46,6 +43,27 @@ mul-lasts c = omega (arith, c .last-key .ensures .1)
 array-write-lasts : tie.Need-array-write-lasts Inv-loop μ-loop
 array-write-lasts c = c .last-key .ensures .1
 
+element-copy-out-last-key-2 : tie.Need-element-copy-out-last-key-2 Inv-loop μ-loop
+element-copy-out-last-key-2 c = omega arith
+
+element-copy-out-last-key-3 : tie.Need-element-copy-out-last-key-3 Inv-loop μ-loop
+element-copy-out-last-key-3 c = omega arith
+
+last-key-requires-2 : tie.Need-last-key-requires-2 Inv-loop μ-loop
+last-key-requires-2 c κs = (c .before .before .before .before .before .place .ensures .1, omega (arith, c .before .before .before .before .before .before .before .before .before .pre .1 .code _ (omega arith) (λ z. c .before .before .before .before .if1 .taken (c .before .before .before .before .before .place .ensures .0 ∙ z))), c .before .before .before .before .before .before .before .before .before .pre .1 .cell _ (omega arith) (λ z. c .before .before .before .before .if1 .taken (c .before .before .before .before .before .place .ensures .0 ∙ z)))
+
+add-lasts-2 : tie.Need-add-lasts-2 Inv-loop μ-loop
+add-lasts-2 c = omega arith
+
+cast-lasts-2 : tie.Need-cast-lasts-2 Inv-loop μ-loop
+cast-lasts-2 c = omega arith
+
+mul-lasts-2 : tie.Need-mul-lasts-2 Inv-loop μ-loop
+mul-lasts-2 c = omega (arith, c .last-key2 .ensures .1)
+
+array-write-lasts-2 : tie.Need-array-write-lasts-2 Inv-loop μ-loop
+array-write-lasts-2 c = c .last-key2 .ensures .1
+
 add-p : tie.Need-add-p Inv-loop μ-loop
 add-p c = omega arith
 
@@ -56,9 +74,11 @@ loop-again : tie.Need-loop-again Inv-loop μ-loop
 loop-again c = (
   omega arith,
   ⊎-elim
-      (λ w. rw (w .4)
-      (lasts-more _ _ _ _ _ (c .before .before .before .before .loop .inv .1) (c .before .before .before .before .before .pre .1 .small _ (omega arith)) (c .before .before .before .before .before .pre .1 .code _ (omega arith) (λ z. w .0 .taken (c .before .place .ensures .0 ∙ z))) (c .before .before .before .before .before .pre .1 .cell _ (omega arith) (λ z. w .0 .taken (c .before .place .ensures .0 ∙ z)))
-      _ _ _ (c .before .place .ensures .0) (w .3 .ensures .0) refl))
+      (λ w.
+      let small = c .before .before .before .before .before .pre .1 .small _ (omega arith) in
+      let low = c .before .before .before .before .before .pre .1 .cell _ (omega arith) (λ z. w .0 .taken (c .before .place .ensures .0 ∙ z)) in
+      let any = lasts-any _ _ _ _ _ (c .before .before .before .before .loop .inv .1) _ _ _ small low (c .before .place .ensures .0) (w .2 .ensures .0) refl in
+      rw (w .6) (lasts-more _ _ _ _ _ (any .0) small (c .before .before .before .before .before .pre .1 .code _ (omega arith) (λ z. w .0 .taken (c .before .place .ensures .0 ∙ z))) low (any .1) _ _ _ (c .before .place .ensures .0) (w .5 .ensures .0) refl))
       (λ w. rw (w .1) (lasts-keep _ _ _ _ _ (c .before .before .before .before .loop .inv .1) (sym (c .before .place .ensures .0) ∙ w .0 .left)))
       (c .if1 .came),
 )
@@ -76,12 +96,18 @@ last-lines-spec =
     element-copy-out-place
     place-requires
     element-copy-out-last-key
-    element-copy-out-last-key-2
     last-key-requires
     add-lasts
     cast-lasts
     mul-lasts
     array-write-lasts
+    element-copy-out-last-key-2
+    element-copy-out-last-key-3
+    last-key-requires-2
+    add-lasts-2
+    cast-lasts-2
+    mul-lasts-2
+    array-write-lasts-2
     add-p
     loop-less
     loop-again
