@@ -1,24 +1,27 @@
 -- Rule 4 as the code comes along it: a grant, one cell more, and a cell that nobody waits for passed over; with the places woken laid over a list.
 -- Assumes nothing.
-use Prim.Native.Nat.{ℕ, _+_, _≤_, _<_}
-use mathlib.Core.Path.{_≡_, sym, ap, subst, _∙_}
-use mathlib.Core.Bool.{Bool, true, false}
+use Prim.Native.Nat.{ℕ, zero, suc, _+_, _≤_, _<_}
+use mathlib.Core.Path.{_≡_, refl, sym, ap, subst, _∙_}
+use mathlib.Core.Bool.{Bool, true, false, not}
 use mathlib.Core.List.{List, [], _∷_}
 use native.Mathlib.Numerals.{add-one}
 use native.Mathlib.Omega.{arith}
+use lib.Dec.{eqb}
 use lib.ListN.{length, getD, set, take, length-append}
+use borrow.Author.Tests.{not-true}
 use Rattle.laws.specs.Choice.{by-test, not-both}
 use Rattle.terms.specs.Limits.{places, cells}
 use Rattle.conflict.specs.declared.modes.Mode.{Mode}
 use Rattle.conflict.specs.Modes.{codeOf}
-use Rattle.desk_arrays.specs.Codes.{runningCode, askOf}
+use Rattle.desk_arrays.specs.Codes.{runningCode, waitingCode, askOf}
 use Rattle.desk_arrays.specs.Places.{spot, waitsAt, waiters}
 use Rattle.desk_arrays.specs.Settling.{Settling, granted, settleCell, settleAll}
+use Rattle.desk_arrays.proofs.EveryPlace.{all-each}
 use Rattle.desk_arrays.proofs.Front.{no-youngest}
 use Rattle.desk_arrays.proofs.EveryGrant.{waits-code}
 use Rattle.desk_plan.specs.declared.grants.Grant.{Grant}
 use Rattle.desk_plan.specs.declared.grants.Grant.the-variants.{Nobody, To}
-use Rattle.desk_plan.specs.Grants.{wanted, frontGrant}
+use Rattle.desk_plan.specs.Grants.{noneWaits, wanted, frontGrant}
 use Rattle.desk_plan.proofs.Wanted.{unwanted}
 use Rattle.desk.specs.InPlace.{laid, Reached}
 use Rattle.desk.proofs.Laid.{laid-take, laid-length, laid-more, laid-again}
@@ -137,6 +140,19 @@ module _ (number cell ask : List ℕ) (s : Settling) (c : ℕ) {l held status wo
       nobody =
           no-youngest number (x .status) cell c places
           (λ q k. by-test (waitsAt (x .status) cell c q) (λ t. not-both (still-waits x s cell c q (all-waiting number cell ask s c) t) (unwanted (s .status) cell c places b unmarked q k)) (λ t. t))
+
+-- where nobody waits, nobody waits for a cell
+none-waits-there : (status cell : List ℕ) (c q : ℕ) → noneWaits status ≡ true → q < places → waitsAt status cell c q ≡ false
+unfolding noneWaits waitsAt
+none-waits-there status cell c q h l = rw (not-true (eqb (getD status q 0) waitingCode) (all-each (λ k. not (eqb (getD status k 0) waitingCode)) places h q l))
+
+-- where nobody waits at all, settling changes nothing (01, rule 4)
+pub none-settled : (number cell ask : List ℕ) (s : Settling) → noneWaits (s .status) ≡ true → (n : ℕ) → settleAll number cell ask n s ≡ s
+unfolding settleAll settleCell
+none-settled number cell ask s h zero = refl
+none-settled number cell ask s h (suc c) =
+    ap (settleCell number cell ask c places) (none-settled number cell ask s h c)
+    ∙ sym (settle-stop number cell ask c s 0 places (stands-empty number cell ask c s (no-youngest number (s .status) cell c places (λ q l. none-waits-there (s .status) cell c q h l))) (omega arith))
 
 -- the same of arrays by other names
 pub reached-by : {s : Settling} {l held status woken held′ status′ woken′ : List ℕ} {count count′ : ℕ} → Reached s l held status woken count →

@@ -7,6 +7,7 @@ use desk_arrays::moves::Ending;
 use desk_arrays::state::SPOTS;
 use desk_plan::grants::Grant;
 use desk_plan::grants::front_grant;
+use desk_plan::grants::none_waits;
 use desk_plan::grants::wanted_cells;
 use terms::limits::PLACES;
 ghost use Prim.Native.Nat.{_+_, _≤_, _<_};
@@ -87,6 +88,24 @@ fn settle_all<'a>(
     k
 }
 
+// Rule 4 once locks were dropped. Mostly nobody waits at all: one look over the places tells so, and then nothing changes.
+fn settle<'a>(
+    held: &mut [u8; SPOTS],
+    status: &mut [u8; PLACES],
+    woken: &mut [u8; PLACES],
+    number: &'a [u32; PLACES],
+    cell: &'a [u8; PLACES],
+    ask: &'a [u8; PLACES],
+) -> usize
+    requires { ⌜ length (now woken) ≡ 32 ⌝ }
+    ensures { λ r. ⌜ Reached (settleAll (now (number .entry)) (now (cell .entry)) (now (ask .entry)) 64 (record { held = now (held .entry); status = now (status .entry); woken = [] })) (now (woken .entry)) (now (held .exit)) (now (status .exit)) (now (woken .exit)) r ⌝ }
+{
+    if none_waits(status) {
+        return 0;
+    }
+    settle_all(held, status, woken, number, cell, ask)
+}
+
 // What a place is once its run has ended: free, or sent back.
 fn code_after(e: Ending) -> u8
     ensures { λ r. ⌜ r ≡ codeAfter e ⌝ }
@@ -113,5 +132,5 @@ pub fn end_run<'a>(
 {
     status[p] = code_after(e);
     drop_locks(held, p);
-    settle_all(held, status, woken, number, cell, ask)
+    settle(held, status, woken, number, cell, ask)
 }

@@ -29,6 +29,16 @@ all-fails f (suc n) q h e =
     by-test (eqb q n) (λ t. rw (sym (ap f (eqb-true q n t)) ∙ e))
     (λ t. let g : q ≡ n → ⊥ = eqb-false q n t in let l : q < n = omega arith in and-fails (f n) (all-fails f n q l e))
 
+-- a loop that passes every place and keeps what it has found: at one place it fails
+pub all-failed : (f : ℕ → Bool) (n : ℕ) {y : Bool} → f n ≡ false → y ≡ false → y ≡ allBelow f (n + 1)
+unfolding allBelow
+all-failed f n e g = rw (add-one, e) g
+
+-- and where it holds, what was found stands
+pub all-kept : (f : ℕ → Bool) (n : ℕ) {x y : Bool} → x ≡ allBelow f n → f n ≡ true → y ≡ x → y ≡ allBelow f (n + 1)
+unfolding allBelow
+all-kept f n h e g = rw (add-one, e) (g ∙ h)
+
 -- a loop that has passed every place has shown it of all
 pub all-end : (f : ℕ → Bool) (q n : ℕ) → allBelow f q ≡ true → q ≡ n → true ≡ allBelow f n
 all-end f q n h e = sym (ap (allBelow f) (sym e) ∙ h)

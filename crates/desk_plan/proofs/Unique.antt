@@ -1,9 +1,11 @@
--- No second result meets the contracts of the plan, of the cells that somebody waits for and of the next grant.
+-- No second result meets the contracts of the plan, of whether nobody waits, of the cells that somebody waits for and of the next grant.
 -- Assumes nothing.
 use mathlib.Core.Path.{sym, _∙_}
 use Rattle.laws.specs.Unique.{Unique}
 use Rattle.desk_plan.proofs.grants.front_grant.Reads as front-grant
 use Rattle.desk_plan.proofs.grants.front_grant.Kinds as front-grantK
+use Rattle.desk_plan.proofs.grants.none_waits.Reads as none-waits
+use Rattle.desk_plan.proofs.grants.none_waits.Kinds as none-waitsK
 use Rattle.desk_plan.proofs.grants.wanted_cells.Reads as wanted-cells
 use Rattle.desk_plan.proofs.grants.wanted_cells.Kinds as wanted-cellsK
 use Rattle.desk_plan.proofs.plan.plan.Reads as plan
@@ -11,6 +13,9 @@ use Rattle.desk_plan.proofs.plan.plan.Kinds as planK
 
 pub front-grant-unique : Unique front-grantK.ps front-grantK.r front-grant.Post
 front-grant-unique κs a x y e f p q = p ∙ sym q
+
+pub none-waits-unique : Unique none-waitsK.ps none-waitsK.r none-waits.Post
+none-waits-unique κs a x y e f p q = p ∙ sym q
 
 pub wanted-cells-unique : Unique wanted-cellsK.ps wanted-cellsK.r wanted-cells.Post
 wanted-cells-unique κs a x y e f p q = p ∙ sym q

@@ -1,15 +1,19 @@
 -- What rule 4 has to find out: the cells that somebody waits for, and whom it grants next on a cell, and what (01, rule 4).
 use Prim.Native.Nat.{ℕ, zero, suc}
-use mathlib.Core.Bool.{Bool, true, false, _&&_}
+use mathlib.Core.Bool.{Bool, true, false, not, _&&_}
 use mathlib.Core.List.{List}
 use lib.Dec.{eqb, ltb}
 use lib.ListN.{getD, set, replicate}
 use Rattle.laws.specs.Choice.{pick}
 use Rattle.terms.specs.Limits.{places, cells}
 use Rattle.desk_arrays.specs.Codes.{waitingCode, askOf}
-use Rattle.desk_arrays.specs.Places.{youngest, wantsAt, agreesAt}
+use Rattle.desk_arrays.specs.Places.{allBelow, youngest, wantsAt, agreesAt}
 use Rattle.desk_plan.specs.declared.grants.Grant.{Grant}
 use Rattle.desk_plan.specs.declared.grants.Grant.the-variants.{Nobody, To}
+
+-- no place waits, for whatever cell
+unfoldable pub noneWaits : List ℕ → Bool
+noneWaits status = allBelow (λ q. not (eqb (getD status q 0) waitingCode)) places
 
 -- the cells that some place below n waits for
 unfoldable pub wanted : List ℕ → List ℕ → ℕ → List Bool

@@ -15,12 +15,27 @@ use terms::limits::PLACES;
 ghost use Prim.Native.Nat.{_<_};
 ghost use mathlib.Core.Path.{_≡_};
 ghost use Rattle.desk_arrays.specs.Places.{wantsAt};
-ghost use Rattle.desk_plan.specs.Grants.{wanted, frontGrant};
+ghost use Rattle.desk_plan.specs.Grants.{noneWaits, wanted, frontGrant};
 
 // Who is granted next: nobody, or a place, with the mode that it gets.
 pub enum Grant {
     Nobody,
     To(usize, Mode),
+}
+
+// Whether nobody waits, for whatever cell.
+pub fn none_waits(status: &[u8; PLACES]) -> bool
+    ensures { λ r. ⌜ r ≡ noneWaits (now (status .entry)) ⌝ }
+{
+    let mut none = true;
+    let mut q: usize = 0;
+    while q < PLACES {
+        if status[q] == WAITING {
+            none = false;
+        }
+        q += 1;
+    }
+    none
 }
 
 // The cells that somebody waits for.

@@ -14,13 +14,13 @@ element-write-status c = search needs
 drop-locks-requires : tie.Need-drop-locks-requires
 drop-locks-requires c κs = search needs
 
-settle-all-requires : tie.Need-settle-all-requires
-settle-all-requires c κs = search needs
+settle-requires : tie.Need-settle-requires
+settle-requires c κs = search needs
 
 returns : tie.Need-returns
 unfolding settled
 returns c =
-    rw (← c .before .before .before .before .drop-locks .ensures, ← c .before .before .before .before .before .before .code-after .ensures) (c .settle-all .ensures)
+    rw (← c .before .before .before .before .drop-locks .ensures, ← c .before .before .before .before .before .before .code-after .ensures) (c .settle .ensures)
 
 pub end-run-spec : {M : Type 1} → statement M
-end-run-spec = tie.close (tie.spec code-after-requires element-write-status drop-locks-requires settle-all-requires returns)
+end-run-spec = tie.close (tie.spec code-after-requires element-write-status drop-locks-requires settle-requires returns)
