@@ -1,14 +1,13 @@
 // Line after line of a chunk: cut, read, step the desk, write the records (01, Lines).
 use crate::records::put_bad;
 use crate::records::put_records;
-use desk::step::step_on;
+use desk::step::step_for;
 use desk_arrays::state::Desk;
 use desk_arrays::state::SPOTS;
 use program_rules::Clerk;
 use program_rules::Finished;
 use program_rules::View;
 use program_rules::Worked;
-use terms::letters::byte_of;
 use terms::limits::PLACES;
 use terms::limits::REQUEST_LINES;
 use text::reader::read_request;
@@ -93,7 +92,7 @@ fn answer_line(
 {
     match reading_of(s) {
         Reading::Good { letter, job, cell } => {
-            let t = step_on(
+            let t = step_for(
                 next,
                 number,
                 status,
@@ -101,7 +100,7 @@ fn answer_line(
                 ask,
                 held,
                 woken,
-                byte_of(letter),
+                letter,
                 job,
                 cell,
             );

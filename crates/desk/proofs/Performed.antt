@@ -1,19 +1,26 @@
 -- A move carried out in place, way by way: what the code leaves in the fields, with what it tells, is what the definition makes of the move.
 -- Assumes nothing.
 use Prim.Native.Nat.{ℕ, _<_, _+_}
-use mathlib.Core.Path.{_≡_, ap, _∙_}
+use mathlib.Core.Path.{_≡_, refl, sym, ap, subst, _∙_}
 use mathlib.Core.List.{List}
 use lib.Dec.{eqb}
 use lib.ListN.{length, set}
 use Rattle.laws.specs.Choice.{by-test}
 use Rattle.terms.specs.declared.letters.Ask.{Ask}
+use Rattle.terms.specs.declared.letters.Letter.{Letter}
+use Rattle.terms.specs.declared.letters.Lettered.{Lettered}
+use Rattle.terms.specs.declared.letters.Lettered.the-variants.{Known, Unknown}
 use Rattle.terms.specs.declared.refusals.Refusal.{Refusal}
-use Rattle.terms.specs.Letters.{letterOf}
+use Rattle.terms.specs.declared.refusals.Refusal.the-variants.{UnknownKind}
+use Rattle.terms.specs.Letters.{byteOf, letterOf}
+use Rattle.terms.proofs.Alphabet.{byte-of-letter}
 use Rattle.terms.specs.Limits.{places, cells}
 use Rattle.conflict.specs.declared.modes.Mode.{Mode}
 use Rattle.conflict.specs.Modes.{codeOf}
 use Rattle.desk_rules.specs.declared.Answer.{Answer}
+use Rattle.desk_rules.specs.declared.Answer.the-variants.{No}
 use Rattle.desk_arrays.specs.declared.state.Desk.{Desk}
+use Rattle.desk_arrays.specs.declared.state.Told.{Told}
 use Rattle.desk_arrays.specs.declared.moves.Ending.{Ending}
 use Rattle.desk_arrays.specs.declared.moves.Move.{Move}
 use Rattle.desk_arrays.specs.declared.moves.Move.the-variants.{Refuse, Begin, Keep, Take, Stay, End, Retry}
@@ -30,7 +37,11 @@ retried-status : (d : Desk) (job : ℕ) → withStatus d (retriedJob d job .stat
 unfolding retriedJob retried
 retried-status d job = by-test (eqb (statusOf (d .number) (d .status) job) sentBackCode) (λ t. rw t) (λ f. rw f)
 
-module _ (d : Desk) (l : List ℕ) (kind job c : ℕ) {m : Move} (planned : m ≡ moveFor (d .next) (d .number) (d .status) (d .cell) (d .held) job c (letterOf kind)) where
+module _ (d : Desk) (l : List ℕ) (kind job c : ℕ) {letter : Lettered} (of-kind : letterOf kind ≡ letter) {m : Move} (plans : m ≡ moveFor (d .next) (d .number) (d .status) (d .cell) (d .held) job c letter) where
+  -- the plan by the letter is the plan by its byte
+  planned : m ≡ moveFor (d .next) (d .number) (d .status) (d .cell) (d .held) job c (letterOf kind)
+  planned = plans ∙ ap (moveFor (d .next) (d .number) (d .status) (d .cell) (d .held) job c) (sym of-kind)
+
   -- the plan speaks of places and cells that there are
   pub fits : length (d .status) ≡ places → Fits c m
   fits e = rw planned (plan-fits (d .next) (d .number) (d .status) (d .cell) (d .held) job c (letterOf kind) e)
@@ -101,3 +112,12 @@ module _ (d : Desk) (l : List ℕ) (kind job c : ℕ) {m : Move} (planned : m �
     pub tried : {status : List ℕ} → m ≡ Retry → status ≡ retriedJob d job .status → StepsTo d l kind job c (withStatus d status) l (record { answer = a; count = 0 })
     unfolding carried laid
     tried e h = steps (rw e (ap (withStatus d) h ∙ retried-status d job)) (rw e) (rw e)
+
+-- a byte that is no letter's is refused
+pub refused-byte : (d : Desk) (l : List ℕ) (kind job c : ℕ) → letterOf kind ≡ Unknown → StepsTo d l kind job c d l (record { answer = No UnknownKind; count = 0 })
+unfolding moveFor answerTo
+refused-byte d l kind job c h = refused d l kind job c h {m = Refuse UnknownKind} refl {a = No UnknownKind} refl {why = UnknownKind} refl
+
+-- the step by the letter of a byte is the step by the byte
+pub by-letter : {d e : Desk} {l w : List ℕ} {kind job c : ℕ} {letter : Letter} {t : Told} → letterOf kind ≡ Known letter → StepsTo d l (byteOf letter) job c e w t → StepsTo d l kind job c e w t
+by-letter {d} {e} {l} {w} {kind} {job} {c} {letter} {t} h s = subst (λ k. StepsTo d l k job c e w t) (byte-of-letter kind letter h) s

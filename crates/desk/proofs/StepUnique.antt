@@ -1,4 +1,4 @@
--- No second result, and no second content of a field or of the list, meets the contract of the step in place; no second result that of the step by value and of the wakes.
+-- No second result, and no second content of a field or of the list, meets the contracts of the step in place, by letter and by byte; no second result that of the step by value and of the wakes.
 -- Assumes nothing.
 use mathlib.Core.Path.{_≡_, sym, _∙_}
 use mathlib.Core.List.{List}
@@ -13,6 +13,8 @@ use Rattle.desk.proofs.step.step.Reads as step
 use Rattle.desk.proofs.step.step.Kinds as stepK
 use Rattle.desk.proofs.step.step_on.Reads as step-on
 use Rattle.desk.proofs.step.step_on.Kinds as step-onK
+use Rattle.desk.proofs.step.step_for.Reads as step-for
+use Rattle.desk.proofs.step.step_for.Kinds as step-forK
 use Rattle.desk.proofs.wakes.wake_at.Reads as wake-at
 use Rattle.desk.proofs.wakes.wake_at.Kinds as wake-atK
 use Rattle.desk.proofs.wakes.tell.Reads as tell
@@ -34,6 +36,10 @@ same-end p q = (
   λ i. record { answer = (p .answer ∙ sym (q .answer)) i; count = (p .count ∙ sym (q .count)) i },
   λ i. record { desk = (p .desk ∙ sym (q .desk)) i; woken = (p .places ∙ sym (q .places)) i },
 )
+
+pub step-for-unique : UniqueLent step-forK.ps step-forK.r step-for.Post
+    (λ κs e. lent (deskOf (now (e .0)) (now (e .1 .0)) (now (e .1 .1 .0)) (now (e .1 .1 .1 .0)) (now (e .1 .1 .1 .1 .0)) (now (e .1 .1 .1 .1 .1 .0))) (now (e .1 .1 .1 .1 .1 .1 .0)))
+step-for-unique κs a x y e f p q = same-end p q
 
 pub step-on-unique : UniqueLent step-onK.ps step-onK.r step-on.Post
     (λ κs e. lent (deskOf (now (e .0)) (now (e .1 .0)) (now (e .1 .1 .0)) (now (e .1 .1 .1 .0)) (now (e .1 .1 .1 .1 .0)) (now (e .1 .1 .1 .1 .1 .0))) (now (e .1 .1 .1 .1 .1 .1 .0)))

@@ -12,12 +12,17 @@ use desk_arrays::state::Outcome;
 use desk_arrays::state::SPOTS;
 use desk_arrays::state::Said;
 use desk_arrays::state::Told;
-use desk_plan::plan::plan;
+use desk_plan::plan::plan_for;
 use desk_rules::Answer;
+use terms::letters::Letter;
+use terms::letters::Lettered;
+use terms::letters::letter_of;
 use terms::limits::PLACES;
+use terms::refusals::Refusal;
 ghost use Prim.Native.Nat.{_<_};
 ghost use mathlib.Core.Path.{_≡_};
 ghost use lib.ListN.{length};
+ghost use Rattle.terms.specs.Letters.{byteOf};
 ghost use Rattle.desk_arrays.specs.Steps.{deskOf, retriedJob, numbersAfter, answerAfter, answerTo, stepOf};
 ghost use Rattle.desk.specs.InPlace.{StepsTo};
 
@@ -74,9 +79,9 @@ fn sized(status: [u8; PLACES], woken: [u8; PLACES]) -> bool
     true
 }
 
-// One step by numbers, the kind's byte, the job and the cell, on the desk's fields, each lent and changed where it stands.
+// One step by its letter, the job and the cell, on the desk's fields, each lent and changed where it stands.
 // The places woken are put first into a list lent for them, and the answer tells how many they are.
-pub fn step_on(
+pub fn step_for(
     next: &mut u64,
     number: &mut [u32; PLACES],
     status: &mut [u8; PLACES],
@@ -84,14 +89,14 @@ pub fn step_on(
     ask: &mut [u8; PLACES],
     held: &mut [u8; SPOTS],
     woken: &mut [u8; PLACES],
-    kind: u8,
+    letter: Letter,
     job: u32,
     cell: u32,
 ) -> Told
-    ensures { λ r. ⌜ StepsTo (deskOf (now (next .entry)) (now (number .entry)) (now (status .entry)) (now (at .entry)) (now (ask .entry)) (now (held .entry))) (now (woken .entry)) kind job cell (deskOf (now (next .exit)) (now (number .exit)) (now (status .exit)) (now (at .exit)) (now (ask .exit)) (now (held .exit))) (now (woken .exit)) r ⌝ }
+    ensures { λ r. ⌜ StepsTo (deskOf (now (next .entry)) (now (number .entry)) (now (status .entry)) (now (at .entry)) (now (ask .entry)) (now (held .entry))) (now (woken .entry)) (byteOf letter) job cell (deskOf (now (next .exit)) (now (number .exit)) (now (status .exit)) (now (at .exit)) (now (ask .exit)) (now (held .exit))) (now (woken .exit)) r ⌝ }
 {
     sized(*status, *woken);
-    let m = plan(*next, number, status, at, held, kind, job, cell);
+    let m = plan_for(*next, number, status, at, held, letter, job, cell);
     let answer = answer_to(m, job);
     match m {
         Move::Refuse(_) => Told { answer, count: 0 },
@@ -129,6 +134,30 @@ pub fn step_on(
             *status = status_retried(d, job);
             Told { answer, count: 0 }
         }
+    }
+}
+
+// The same by a byte, which may be no letter's and is refused then.
+pub fn step_on(
+    next: &mut u64,
+    number: &mut [u32; PLACES],
+    status: &mut [u8; PLACES],
+    at: &mut [u8; PLACES],
+    ask: &mut [u8; PLACES],
+    held: &mut [u8; SPOTS],
+    woken: &mut [u8; PLACES],
+    kind: u8,
+    job: u32,
+    cell: u32,
+) -> Told
+    ensures { λ r. ⌜ StepsTo (deskOf (now (next .entry)) (now (number .entry)) (now (status .entry)) (now (at .entry)) (now (ask .entry)) (now (held .entry))) (now (woken .entry)) kind job cell (deskOf (now (next .exit)) (now (number .exit)) (now (status .exit)) (now (at .exit)) (now (ask .exit)) (now (held .exit))) (now (woken .exit)) r ⌝ }
+{
+    match letter_of(kind) {
+        Lettered::Unknown => Told {
+            answer: Answer::No(Refusal::UnknownKind),
+            count: 0,
+        },
+        Lettered::Known(l) => { step_for(next, number, status, at, ask, held, woken, l, job, cell) }
     }
 }
 

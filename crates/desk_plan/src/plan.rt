@@ -33,6 +33,7 @@ ghost use mathlib.Core.Path.{_≡_};
 ghost use mathlib.Core.Bool.{_&&_};
 ghost use lib.ListN.{length};
 ghost use Rattle.terms.specs.Letters.{letterOf};
+ghost use Rattle.terms.specs.declared.letters.Lettered.the-variants.{Known};
 ghost use Rattle.desk_arrays.specs.Places.{modeAt, nobodyWaits, agreesAt, olderAt, oldestOf};
 ghost use Rattle.desk_arrays.specs.Moves.{foundAt, standingOf, beginMove, commitMove, giveUpMove, retryMove, promotes, enters, decided, askMove, moveFor};
 
@@ -253,7 +254,31 @@ fn ask_move<'a>(
     }
 }
 
-// What a request is to do, by its kind.
+// What a request is to do, by its letter.
+pub fn plan_for<'a>(
+    next: u64,
+    number: &'a [u32; PLACES],
+    status: &'a [u8; PLACES],
+    cell: &'a [u8; PLACES],
+    held: &'a [u8; SPOTS],
+    letter: Letter,
+    job: u32,
+    c: u32,
+) -> Move
+    ensures { λ r. ⌜ r ≡ moveFor next (now (number .entry)) (now (status .entry)) (now (cell .entry)) (now (held .entry)) job c (Known letter) ⌝ }
+{
+    sized(*number, *status);
+    match letter {
+        Letter::Back => Move::Refuse(Refusal::UnknownKind),
+        Letter::Begin => begin_move(next, number),
+        Letter::Commit => commit_move(find(number, status, job)),
+        Letter::GiveUp => give_up_move(find(number, status, job)),
+        Letter::Retry => retry_move(find(number, status, job)),
+        Letter::Asks(a) => ask_move(held, number, status, cell, job, c, a),
+    }
+}
+
+// The same by a byte, which may be no letter's.
 pub fn plan<'a>(
     next: u64,
     number: &'a [u32; PLACES],
@@ -266,16 +291,8 @@ pub fn plan<'a>(
 ) -> Move
     ensures { λ r. ⌜ r ≡ moveFor next (now (number .entry)) (now (status .entry)) (now (cell .entry)) (now (held .entry)) job c (letterOf kind) ⌝ }
 {
-    sized(*number, *status);
     match letter_of(kind) {
         Lettered::Unknown => Move::Refuse(Refusal::UnknownKind),
-        Lettered::Known(l) => match l {
-            Letter::Back => Move::Refuse(Refusal::UnknownKind),
-            Letter::Begin => begin_move(next, number),
-            Letter::Commit => commit_move(find(number, status, job)),
-            Letter::GiveUp => give_up_move(find(number, status, job)),
-            Letter::Retry => retry_move(find(number, status, job)),
-            Letter::Asks(a) => ask_move(held, number, status, cell, job, c, a),
-        },
+        Lettered::Known(l) => plan_for(next, number, status, cell, held, l, job, c),
     }
 }

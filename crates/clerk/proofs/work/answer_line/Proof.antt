@@ -1,6 +1,7 @@
 -- `clerk::work::answer_line` meets its contract: a good line is answered by the step, and a bad one by refusal 9.
 -- Assumes nothing.
 use borrow.Author.Needs.{needs}
+use mathlib.Core.Path.{refl}
 use Rattle.text_rules.proofs.WroteLaws.{wrote-length}
 use Rattle.program_rules.proofs.Turns.{due-line}
 use Rattle.clerk.proofs.Answering.{answered-bad, answered-good}
@@ -13,15 +14,12 @@ reading-of-requires c κs = search needs
 enum-known-letter : tie.Need-enum-known-letter
 enum-known-letter c = search needs
 
-byte-of-requires : tie.Need-byte-of-requires
-byte-of-requires c κs = search needs
-
-step-on-requires : tie.Need-step-on-requires
-step-on-requires c κs = search needs
+step-for-requires : tie.Need-step-for-requires
+step-for-requires c κs = search needs
 
 put-records-requires : tie.Need-put-records-requires
 put-records-requires c κs =
-    (due-line (c .before .before .before .before .before .before .before .before .before .before .before .before .before .before .before .before .before .before .before .args .s) (c .before .before .before .before .before .before .before .before .before .before .before .before .before .before .before .before .before .before .before .pre .0), c .before .before .before .before .before .before .before .before .before .before .before .before .before .before .before .before .before .before .before .pre .1)
+    (due-line (c .before .before .before .before .before .before .before .before .before .before .before .before .before .before .before .before .before .before .args .s) (c .before .before .before .before .before .before .before .before .before .before .before .before .before .before .before .before .before .before .pre .0), c .before .before .before .before .before .before .before .before .before .before .before .before .before .before .before .before .before .before .pre .1)
 
 enum-told : tie.Need-enum-told
 enum-told c = search needs
@@ -35,8 +33,8 @@ same-length c = wrote-length (c .before .before .put-records .ensures)
 
 returns : tie.Need-returns
 returns c =
-    let a = c .before .before .before .before .before .before .before .before .before .before .before .before .before .before .before .before .before .before .before .before .before .before .args in
-    (answered-good (a .view) (a .s) (a .out .now) (a .at) (c .before .before .before .before .before .before .before .before .before .before .before .before .before .before .before .before .before .before .before .before .before .before .pre .0) (c .before .before .before .before .before .before .before .before .before .before .before .before .before .before .before .before .before .before .before .before .reading-of .ensures) (c .before .before .before .before .before .before .before .before .before .before .before .before .before .before .before .before .before .before .letter .given .1) (c .before .before .before .before .before .before .before .before .before .byte-of .ensures) (c .before .before .before .before .before .before .before .before .step-on .ensures) (c .before .before .put-records .ensures), wrote-length (c .before .before .put-records .ensures))
+    let a = c .before .before .before .before .before .before .before .before .before .before .before .before .before .before .before .before .before .before .before .before .before .args in
+    (answered-good (a .view) (a .s) (a .out .now) (a .at) (c .before .before .before .before .before .before .before .before .before .before .before .before .before .before .before .before .before .before .before .before .before .pre .0) (c .before .before .before .before .before .before .before .before .before .before .before .before .before .before .before .before .before .before .before .reading-of .ensures) (c .before .before .before .before .before .before .before .before .before .before .before .before .before .before .before .before .before .letter .given .1) refl (c .before .before .before .before .before .before .before .before .step-for .ensures) (c .before .before .put-records .ensures), wrote-length (c .before .before .put-records .ensures))
 
 same-length-2 : tie.Need-same-length-2
 same-length-2 c = wrote-length (c .before .before .put-bad .ensures)
@@ -52,8 +50,7 @@ answer-line-spec =
     (tie.spec
     reading-of-requires
     enum-known-letter
-    byte-of-requires
-    step-on-requires
+    step-for-requires
     put-records-requires
     enum-told
     put-bad-requires

@@ -1,13 +1,10 @@
--- `desk_plan::plan::plan` meets its contract: the letter decides.
+-- `desk_plan::plan::plan` meets its contract: the byte's letter decides, and a byte that has none is refused.
 -- Assumes nothing.
 use borrow.Author.Needs.{needs}
-use mathlib.Core.Path.{sym, ap, _∙_}
-use Rattle.desk_arrays.specs.Moves.{commitMove, giveUpMove, retryMove, moveFor}
+use mathlib.Core.Path.{sym, _∙_}
+use Rattle.desk_arrays.specs.Moves.{moveFor}
 use Rattle.desk_plan.proofs.plan.plan.Statement.{statement}
 use Rattle.desk_plan.proofs.plan.plan.Tie as tie
-
-sized-requires : tie.Need-sized-requires
-sized-requires c κs = search needs
 
 letter-of-requires : tie.Need-letter-of-requires
 letter-of-requires c κs = search needs
@@ -18,107 +15,15 @@ enum-told c = search needs
 enum-known-l : tie.Need-enum-known-l
 enum-known-l c = search needs
 
-enum-told-2 : tie.Need-enum-told-2
-enum-told-2 c = search needs
-
-enum-told-3 : tie.Need-enum-told-3
-enum-told-3 c = search needs
-
-begin-move-requires : tie.Need-begin-move-requires
-begin-move-requires c κs = search needs
-
-enum-told-4 : tie.Need-enum-told-4
-enum-told-4 c = search needs
-
-find-requires : tie.Need-find-requires
-find-requires c κs = search needs
-
-commit-move-requires : tie.Need-commit-move-requires
-commit-move-requires c κs = search needs
-
-enum-told-5 : tie.Need-enum-told-5
-enum-told-5 c = search needs
-
-find-requires-2 : tie.Need-find-requires-2
-find-requires-2 c κs = search needs
-
-give-up-move-requires : tie.Need-give-up-move-requires
-give-up-move-requires c κs = search needs
-
-enum-told-6 : tie.Need-enum-told-6
-enum-told-6 c = search needs
-
-find-requires-3 : tie.Need-find-requires-3
-find-requires-3 c κs = search needs
-
-retry-move-requires : tie.Need-retry-move-requires
-retry-move-requires c κs = search needs
-
-enum-known-l-2 : tie.Need-enum-known-l-2
-enum-known-l-2 c = search needs
-
-ask-move-requires : tie.Need-ask-move-requires
-ask-move-requires c κs = search needs
+plan-for-requires : tie.Need-plan-for-requires
+plan-for-requires c κs = search needs
 
 returns : tie.Need-returns
 unfolding moveFor
 returns c = rw (sym (c .before .before .letter-of .ensures) ∙ c .enum-told .given .1)
 
 returns-2 : tie.Need-returns-2
-unfolding moveFor
-returns-2 c = rw (sym (c .before .before .before .before .before .letter-of .ensures) ∙ c .before .before .before .l .given .1, c .enum-told2 .given .1)
-
-returns-3 : tie.Need-returns-3
-unfolding moveFor
-returns-3 c =
-    rw (sym (c .before .before .before .before .before .before .letter-of .ensures) ∙ c .before .before .before .before .l .given .1, c .before .enum-told3 .given .1) (c .begin-move .ensures)
-
-returns-4 : tie.Need-returns-4
-unfolding moveFor
-returns-4 c =
-    rw (sym (c .before .before .before .before .before .before .before .letter-of .ensures) ∙ c .before .before .before .before .before .l .given .1, c .before .before .enum-told4 .given .1) (c .commit-move .ensures ∙ ap commitMove (c .before .find .ensures))
-
-returns-5 : tie.Need-returns-5
-unfolding moveFor
-returns-5 c =
-    rw (sym (c .before .before .before .before .before .before .before .letter-of .ensures) ∙ c .before .before .before .before .before .l .given .1, c .before .before .enum-told5 .given .1) (c .give-up-move .ensures ∙ ap giveUpMove (c .before .find2 .ensures))
-
-returns-6 : tie.Need-returns-6
-unfolding moveFor
-returns-6 c =
-    rw (sym (c .before .before .before .before .before .before .before .letter-of .ensures) ∙ c .before .before .before .before .before .l .given .1, c .before .before .enum-told6 .given .1) (c .retry-move .ensures ∙ ap retryMove (c .before .find3 .ensures))
-
-returns-7 : tie.Need-returns-7
-unfolding moveFor
-returns-7 c =
-    rw (sym (c .before .before .before .before .before .before .before .letter-of .ensures) ∙ c .before .before .before .before .before .l .given .1, c .before .before .l2 .given .1) (c .ask-move .ensures)
+returns-2 c = rw (sym (c .before .before .before .before .letter-of .ensures) ∙ c .before .before .l .given .1) (c .plan-for .ensures)
 
 pub plan-spec : {M : Type 1} → statement M
-plan-spec =
-    tie.close
-    (tie.spec
-    sized-requires
-    letter-of-requires
-    enum-told
-    enum-known-l
-    enum-told-2
-    enum-told-3
-    begin-move-requires
-    enum-told-4
-    find-requires
-    commit-move-requires
-    enum-told-5
-    find-requires-2
-    give-up-move-requires
-    enum-told-6
-    find-requires-3
-    retry-move-requires
-    enum-known-l-2
-    ask-move-requires
-    returns
-    returns-2
-    returns-3
-    returns-4
-    returns-5
-    returns-6
-    returns-7)
+plan-spec = tie.close (tie.spec letter-of-requires enum-told enum-known-l plan-for-requires returns returns-2)
