@@ -2,7 +2,7 @@
 -- Assumes nothing.
 use Prim.Native.Nat.{ℕ, suc, _+_, _-_, _≤_, _<_}
 use mathlib.Core.Path.{_≡_, refl, sym, ap, ap₂, _∙_}
-use mathlib.Core.Bool.{Bool, true, false, not, _&&_}
+use mathlib.Core.Bool.{Bool, true, false, not, _&&_, and-true, and-false}
 use mathlib.Core.List.{List, [], _∷_}
 use native.Mathlib.Omega.{arith}
 use lib.Dec.{ltb, eqb}
@@ -163,16 +163,18 @@ passed-cell cells lasts mask j x b e f =
     let c = getD cells x 0 in
     ltb-true c 64 (and-first (ltb c 64) (inSet mask c) (and-first (ltb c 64 && inSet mask c) (ltb (x + 1) (getD lasts (lastKey j 3 c) 0)) (sym e ∙ not-false b f)))
 
--- a line on no cell of the set is passed over
-pub may-not : (cells lasts : List ℕ) (mask j x c : ℕ) (b : Bool) → c ≡ getD cells x 0 → b ≡ (ltb c 64 && inSet mask c) → not b ≡ true → false ≡ mayMeet cells lasts mask j x
-unfolding mayMeet
-may-not cells lasts mask j x c b q e f = rw (← q, ← e, not-true b f)
+module _ (cells lasts : List ℕ) (mask j x : ℕ) where
+  -- a line on none of 64 cells is passed over
+  pub may-nowhere : 64 ≤ getD cells x 0 → false ≡ mayMeet cells lasts mask j x
+  unfolding mayMeet
+  may-nowhere h = rw (le-ltb (getD cells x 0) 64 h)
 
--- and one on a cell of it where the last line stands too early
-pub may-late : (cells lasts : List ℕ) (mask j x c key v : ℕ) (b : Bool) → c ≡ getD cells x 0 → b ≡ (ltb c 64 && inSet mask c) → not b ≡ false → key ≡ lastKey j 3 (getD cells x 0) → v ≡ getD lasts key 0 → ltb (x + 1) v ≡ mayMeet cells lasts mask j x
-unfolding mayMeet
-may-late cells lasts mask j x c key v b q e f i g = rw (← i, ← g, ← q, ← e, not-false b f)
+  -- and so is one on a cell where the last line stands too early
+  pub may-early : (key v : ℕ) → key ≡ lastKey j 3 (getD cells x 0) → v ≡ getD lasts key 0 → v ≤ x + 1 → false ≡ mayMeet cells lasts mask j x
+  unfolding mayMeet
+  may-early key v i e h = rw (← i, ← e, le-ltb (x + 1) v h) (sym (and-false (ltb (getD cells x 0) 64 && inSet mask (getD cells x 0))))
 
--- a cell in the set is one of 64
-pub in-mask : (mask c d : ℕ) (b : Bool) → c ≡ d → b ≡ (ltb c 64 && inSet mask c) → not b ≡ false → d < 64
-in-mask mask c d b q e f = omega (arith, ltb-true c 64 (and-first (ltb c 64) (inSet mask c) (sym e ∙ not-false b f)))
+  -- of others the set decides
+  pub may-set : (key v c : ℕ) (b : Bool) → key ≡ lastKey j 3 (getD cells x 0) → v ≡ getD lasts key 0 → x + 1 < v → c ≡ getD cells x 0 → b ≡ (ltb c 64 && inSet mask c) → b ≡ mayMeet cells lasts mask j x
+  unfolding mayMeet
+  may-set key v c b i e h q f = rw (← i, ← e, lt-ltb (x + 1) v h, ← q, ← f) (sym (and-true b))

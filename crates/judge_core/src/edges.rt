@@ -7,6 +7,7 @@ use conflict::action::Kind;
 use conflict::action::actions_conflict;
 use conflict::cells::has_cell;
 use conflict::cells::meeting_cells;
+use terms::limits::CELLS;
 use terms::limits::JUDGED_LINES;
 ghost use mathlib.Core.Path.{_≡_};
 ghost use mathlib.Core.Bool.{true};
@@ -103,7 +104,7 @@ fn meets_last<'a>(
     actions_conflict(action_at(codes, jobs, cells, x), other)
 }
 
-// Whether line x is on a cell of the set, and job j's last action on that cell stands after it.
+// Whether line x is on a cell of the set, and job j's last action on that cell stands after it. The last action is looked at first: for two jobs the answer is mostly the same on all cells, where the set's is not.
 fn may_meet<'a>(
     cells: &'a [u8; JUDGED_LINES],
     lasts: &'a [u16; 65536],
@@ -115,11 +116,14 @@ fn may_meet<'a>(
     ensures { λ r. ⌜ r ≡ mayMeet (now (cells .entry)) (now (lasts .entry)) mask j x ⌝ }
 {
     let cell = cells[x];
-    if !has_cell(mask, wide(cell)) {
+    if wide(cell) >= CELLS {
         return false;
     }
     let key = last_key(j, ANY, cell);
-    x + 1 < far(lasts[key])
+    if far(lasts[key]) <= x + 1 {
+        return false;
+    }
+    has_cell(mask, wide(cell))
 }
 
 // Whether a line of xs stands before a line of ys, job j's, that it conflicts with. The lines of xs are looked at from the last back, since a job mostly writes what it has read before; those on cells where the two jobs do not meet, or where job j's last line stands too early, are passed over; of job j's lines on a cell the last of each kind decides; and the search is left at the first two found.

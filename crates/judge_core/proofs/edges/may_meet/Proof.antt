@@ -1,8 +1,8 @@
--- `judge_core::edges::may_meet` meets its contract: the cell is looked for in the set, and then the last line on it.
+-- `judge_core::edges::may_meet` meets its contract: the last line on the cell is looked at, and then the cell is looked for in the set.
 -- Assumes nothing.
 use native.Mathlib.Omega.{arith}
 use borrow.Author.Needs.{needs}
-use Rattle.judge_core.proofs.Reaching.{in-mask, may-not, may-late}
+use Rattle.judge_core.proofs.Reaching.{may-nowhere, may-early, may-set}
 use Rattle.judge_core.proofs.edges.may_meet.Statement.{statement}
 use Rattle.judge_core.proofs.edges.may_meet.Tie as tie
 
@@ -12,17 +12,11 @@ element-copy-out-cell c = search needs
 wide-requires : tie.Need-wide-requires
 wide-requires c κs = search needs
 
-has-cell-requires : tie.Need-has-cell-requires
-has-cell-requires c κs = search needs
-
 returns : tie.Need-returns
-returns c = may-not _ _ _ _ _ _ _ (c .before .before .wide .ensures) (c .before .has-cell .ensures) (c .if1 .taken)
+returns c = may-nowhere _ _ _ _ _ (omega (arith, c .before .wide .ensures))
 
 last-key-requires : tie.Need-last-key-requires
-last-key-requires c κs = (c .before .before .before .before .pre .1, omega arith, in-mask _ _ _ _ (c .before .before .wide .ensures) (c .before .has-cell .ensures) (c .if1 .left))
-
-add-result : tie.Need-add-result
-add-result c = search needs
+last-key-requires c κs = (c .before .before .before .pre .1, omega arith, omega (arith, c .before .wide .ensures))
 
 mul-far : tie.Need-mul-far
 mul-far c = search needs
@@ -33,10 +27,20 @@ element-copy-out-far c = search needs
 far-requires : tie.Need-far-requires
 far-requires c κs = search needs
 
+add-if2 : tie.Need-add-if2
+add-if2 c = search needs
+
 returns-2 : tie.Need-returns-2
-returns-2 c =
-    may-late _ _ _ _ _ _ _ _ _ (c .before .before .before .before .before .wide .ensures) (c .before .before .before .before .has-cell .ensures) (c .before .before .before .if1 .left)
-    (c .before .before .last-key .ensures .0) (c .far .ensures)
+returns-2 c = may-early _ _ _ _ _ _ _ (c .before .before .before .last-key .ensures .0) (c .before .far .ensures) (omega arith)
+
+wide-requires-2 : tie.Need-wide-requires-2
+wide-requires-2 c κs = search needs
+
+has-cell-requires : tie.Need-has-cell-requires
+has-cell-requires c κs = search needs
+
+returns-3 : tie.Need-returns-3
+returns-3 c = may-set _ _ _ _ _ _ _ _ _ (c .before .before .before .before .before .last-key .ensures .0) (c .before .before .before .far .ensures) (omega arith) (c .before .wide2 .ensures) (c .has-cell .ensures)
 
 pub may-meet-spec : {M : Type 1} → statement M
 may-meet-spec =
@@ -44,11 +48,13 @@ may-meet-spec =
     (tie.spec
     element-copy-out-cell
     wide-requires
-    has-cell-requires
     returns
     last-key-requires
-    add-result
     mul-far
     element-copy-out-far
     far-requires
-    returns-2)
+    add-if2
+    returns-2
+    wide-requires-2
+    has-cell-requires
+    returns-3)
