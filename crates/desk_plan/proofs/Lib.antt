@@ -5,5 +5,6 @@ pub mod Front
 pub mod Granting
 pub mod Open
 pub mod Tests
+pub mod Unheld
 pub mod Unique
 pub mod Wanted

@@ -7,13 +7,17 @@ use lib.ListN.{getD, set, replicate}
 use Rattle.laws.specs.Choice.{pick}
 use Rattle.terms.specs.Limits.{places, cells}
 use Rattle.desk_arrays.specs.Codes.{waitingCode, askOf}
-use Rattle.desk_arrays.specs.Places.{allBelow, youngest, wantsAt, agreesAt}
+use Rattle.desk_arrays.specs.Places.{spot, allBelow, youngest, wantsAt, agreesAt}
 use Rattle.desk_plan.specs.declared.grants.Grant.{Grant}
 use Rattle.desk_plan.specs.declared.grants.Grant.the-variants.{Nobody, To}
 
 -- no place waits, for whatever cell
 unfoldable pub noneWaits : List ℕ → Bool
 noneWaits status = allBelow (λ q. not (eqb (getD status q 0) waitingCode)) places
+
+-- no place holds the cell: each number of its row is that of nothing
+unfoldable pub noneHolds : List ℕ → ℕ → Bool
+noneHolds held c = allBelow (λ q. eqb (getD held (spot c q) 0) 0) places
 
 -- the cells that some place below n waits for
 unfoldable pub wanted : List ℕ → List ℕ → ℕ → List Bool

@@ -1,5 +1,6 @@
 // Tests over the places of the desk: who holds a cell beside whom, who is older, who waits (01, rules 2 to 4).
 use conflict::modes::Mode;
+use conflict::modes::NOTHING;
 use conflict::modes::mode_grants;
 use conflict::modes::mode_is_free;
 use conflict::modes::mode_of;
@@ -13,6 +14,7 @@ ghost use lib.Dec.{eqb, ltb};
 ghost use lib.ListN.{length, getD};
 ghost use Rattle.laws.specs.Lists.{pos};
 ghost use Rattle.conflict.specs.Modes.{grants, isFree};
+ghost use Rattle.desk_plan.specs.Grants.{noneHolds};
 ghost use Rattle.desk_arrays.specs.Places.{modeAt, agreesAt, aloneAt, olderAt, waitsAt, nobodyWaits, oldestOf, youngest};
 
 // Numbers and statuses of as many places as there are: what a lent array does not say of itself.
@@ -69,6 +71,22 @@ pub fn agrees(held: &[u8; SPOTS], c: usize, p: usize, m: Mode) -> bool
         q += 1;
     }
     true
+}
+
+// Whether nobody holds the cell: every number of its row is that of nothing.
+pub fn none_holds(held: &[u8; SPOTS], c: usize) -> bool
+    requires { ⌜ c < 64 ⌝ }
+    ensures { λ r. ⌜ r ≡ noneHolds (now (held .entry)) c ⌝ }
+{
+    let mut none = true;
+    let mut q: usize = 0;
+    while q < PLACES {
+        if held[c * PLACES + q] != NOTHING {
+            none = false;
+        }
+        q += 1;
+    }
+    none
 }
 
 // Whether a place is the job's own, or holds nothing on the cell.
@@ -158,14 +176,15 @@ pub fn waits_for<'a>(status: &'a [u8; PLACES], cell: &'a [u8; PLACES], c: usize,
 pub fn nobody_waits<'a>(status: &'a [u8; PLACES], cell: &'a [u8; PLACES], c: usize) -> bool
     ensures { λ r. ⌜ r ≡ nobodyWaits (now (status .entry)) (now (cell .entry)) c ⌝ }
 {
+    let mut nobody = true;
     let mut q: usize = 0;
     while q < PLACES {
         if waits_for(status, cell, c, q) {
-            return false;
+            nobody = false;
         }
         q += 1;
     }
-    true
+    nobody
 }
 
 // Whether a place does not wait for the cell, or is that of a younger job.

@@ -3,6 +3,7 @@ use crate::places::agrees;
 use crate::places::alone;
 use crate::places::mode_at;
 use crate::places::nobody_waits;
+use crate::places::none_holds;
 use crate::places::older_than_holders;
 use crate::places::older_than_waiters;
 use crate::places::place_of;
@@ -71,6 +72,17 @@ fn standing_of(code: u8) -> Standing
     Standing::Runs
 }
 
+// Whether a mode agrees with what every other place holds on the cell. Mostly nobody holds it: one look over its row tells so.
+fn goes_beside(held: &[u8; SPOTS], c: usize, p: usize, m: Mode) -> bool
+    requires { ⌜ c < 64 ⌝ }
+    ensures { λ r. ⌜ r ≡ agreesAt (now (held .entry)) c p m ⌝ }
+{
+    if none_holds(held, c) {
+        return true;
+    }
+    agrees(held, c, p, m)
+}
+
 // Rule 3, to go: the queue is empty and the mode agrees with every holder.
 fn may_take<'a>(
     held: &'a [u8; SPOTS],
@@ -84,7 +96,7 @@ fn may_take<'a>(
     ensures { λ r. ⌜ r ≡ (nobodyWaits (now (status .entry)) (now (cell .entry)) c && agreesAt (now (held .entry)) c p m) ⌝ }
 {
     if nobody_waits(status, cell, c) {
-        return agrees(held, c, p, m);
+        return goes_beside(held, c, p, m);
     }
     false
 }
