@@ -16,10 +16,10 @@ use Rattle.conflict.proofs.Edges.{edge-other, edge-names}
 use Rattle.judge_rules.specs.Arrays.{historyBy}
 use Rattle.judge_rules.specs.Judged.{jobsOf}
 use Rattle.judge_rules.proofs.Histories.{jobs-committed, jobs-name}
-use Rattle.judge_core.specs.Lists.{tab}
+use Rattle.judge_core.specs.Lists.{valuesOf}
 use Rattle.judge_core.specs.Counted.{hasCommit, countedFrom, ownerAt}
 use Rattle.judge_core.specs.Meeting.{clashing, meetings}
-use Rattle.judge_core.specs.Grouped.{linesOf, partAt, edgeBy, edgesIn}
+use Rattle.judge_core.specs.Grouped.{ownedLines, partAt, edgeBy, edgesIn}
 use Rattle.judge_core.proofs.Tabled.{tab-at}
 use Rattle.judge_core.proofs.Listing.{listed-same}
 use Rattle.judge_core.proofs.Marked.{has-commit}
@@ -51,7 +51,7 @@ module _ (codes jobs : List ℕ) (n : ℕ) (bytes : (p : ℕ) → p < n → getD
       (rw (← e) (bytes p (omega arith)), rw (← e) (some′ p (omega arith))))
       (λ t. commit-job p j (omega arith) t)
 
-  module _ (cells since owners : List ℕ) (sinces : since ≡ tab (countedFrom codes jobs n) 256) (owned : (p : ℕ) → p < n → getD owners p 0 ≡ ownerAt codes jobs since p) where
+  module _ (cells since owners : List ℕ) (sinces : since ≡ valuesOf (countedFrom codes jobs n) 256) (owned : (p : ℕ) → p < n → getD owners p 0 ≡ ownerAt codes jobs since p) where
     -- a job with a c owns the lines of its that count
     owner-is : (i p : ℕ) → hasCommit codes jobs n i ≡ true → p < n → eqb (getD owners p 0) i ≡ ofJob jobs (counts codes jobs cells n) i p
     unfolding ofJob counts ownerAt
@@ -64,8 +64,8 @@ module _ (codes jobs : List ℕ) (n : ℕ) (bytes : (p : ℕ) → p < n → getD
         (commit-job n i (omega arith) c .1) (λ t. rw (eqb-true (getD jobs p 0) i t) c))
 
     -- two jobs with a c have an edge where their lines meet
-    pub lines-edge : (i j : ℕ) → hasCommit codes jobs n i ≡ true → hasCommit codes jobs n j ≡ true → eqb i j ≡ false → meetings (clashing codes jobs cells) (linesOf owners n i) (linesOf owners n j) ≡ edge (committedPart (historyBy codes jobs cells n)) i j
-    unfolding linesOf
+    pub lines-edge : (i j : ℕ) → hasCommit codes jobs n i ≡ true → hasCommit codes jobs n j ≡ true → eqb i j ≡ false → meetings (clashing codes jobs cells) (ownedLines owners n i) (ownedLines owners n j) ≡ edge (committedPart (historyBy codes jobs cells n)) i j
+    unfolding ownedLines
     lines-edge i j ci cj e =
         ap₂ (meetings (clashing codes jobs cells))
         (listed-same (λ p. eqb (getD owners p 0) i) (ofJob jobs (counts codes jobs cells n) i) 0 n (λ p a b. owner-is i p ci (omega arith)))
@@ -80,7 +80,7 @@ module _ (codes jobs : List ℕ) (n : ℕ) (bytes : (p : ℕ) → p < n → getD
           sym (has-commit codes jobs cells j n) ∙ sym (jobs-committed (historyBy codes jobs cells n) j) ∙ both .1,
         )
 
-    module _ (done : List Bool) (lines starts : List ℕ) (dones : done ≡ tab (hasCommit codes jobs n) 256) (parts : (j : ℕ) → j < 256 → partAt lines starts j ≡ linesOf owners n j) where
+    module _ (done : List Bool) (lines starts : List ℕ) (dones : done ≡ valuesOf (hasCommit codes jobs n) 256) (parts : (j : ℕ) → j < 256 → partAt lines starts j ≡ ownedLines owners n j) where
       -- who is done has a c
       done-is : (i : ℕ) → i < 256 → getD done i false ≡ hasCommit codes jobs n i
       done-is i b = ap (λ l. getD l i false) dones ∙ tab-at (hasCommit codes jobs n) 256 false i b
@@ -98,7 +98,7 @@ module _ (codes jobs : List ℕ) (n : ℕ) (bytes : (p : ℕ) → p < n → getD
           (λ g. rw (done-is i bi ∙ g) (sym (never (edge (committedPart (historyBy codes jobs cells n)) i j) (λ h. not-both (edge-commit i j h .0) g))))))
 
       -- the table of them is the precedence graph of the committed part
-      pub table-edges : (table : List Bool) → table ≡ tab (λ x. edgeBy codes jobs cells done lines starts (x / 256) (x % 256)) 65536 → edgesIn table ≡ edge (committedPart (historyBy codes jobs cells n))
+      pub table-edges : (table : List Bool) → table ≡ valuesOf (λ x. edgeBy codes jobs cells done lines starts (x / 256) (x % 256)) 65536 → edgesIn table ≡ edge (committedPart (historyBy codes jobs cells n))
       unfolding edgesIn
       table-edges table e =
           fun-ext (λ i. fun-ext (λ j.

@@ -14,7 +14,7 @@ use Rattle.judge_rules.specs.Order.{orderOf, stuck}
 use Rattle.judge_rules.specs.Arrays.{historyBy}
 use Rattle.judge_rules.specs.Judged.{jobsOf}
 use Rattle.judge_rules.proofs.Histories.{jobs-only}
-use Rattle.judge_core.specs.Lists.{tab}
+use Rattle.judge_core.specs.Lists.{valuesOf}
 use Rattle.judge_core.specs.Counted.{hasCommit, ByteJobs}
 use Rattle.judge_core.specs.Grouped.{edgesIn}
 use Rattle.judge_core.specs.Left.{leftOf}
@@ -24,7 +24,7 @@ use Rattle.judge_core.proofs.Marked.{has-commit}
 use Rattle.judge_core.proofs.EdgeTable.{commit-job}
 use Rattle.judge_core.proofs.Said.{Took}
 
-module _ (codes jobs cells : List ℕ) (n : ℕ) (b : ByteJobs jobs n) (done : List Bool) (d : done ≡ tab (hasCommit codes jobs n) 256) where
+module _ (codes jobs cells : List ℕ) (n : ℕ) (b : ByteJobs jobs n) (done : List Bool) (d : done ≡ valuesOf (hasCommit codes jobs n) 256) where
   -- a flag says whether its job has a c
   flag-is : (j : ℕ) → j < 256 → getD done j false ≡ marked isCommit j (historyBy codes jobs cells n)
   flag-is j l = ap (λ f. getD f j false) d ∙ tab-at (hasCommit codes jobs n) 256 false j l ∙ sym (has-commit codes jobs cells j n)

@@ -10,7 +10,7 @@ use lib.Dec.{ltb, eqb}
 use lib.ListN.{getD, set, replicate}
 use borrow.Author.Tests.{eq-eqb, ne-eqb, ltb-true, ltb-false, lt-ltb, le-ltb, le-leb, lt-leb}
 use Rattle.laws.specs.Choice.{by-test}
-use Rattle.judge_core.specs.Lists.{tab}
+use Rattle.judge_core.specs.Lists.{valuesOf}
 use Rattle.judge_core.specs.Counted.{hasCommit, countedFrom, ownerAt, ownersBy}
 use Rattle.judge_core.proofs.Tabled.{tab-same, tab-all, tab-set}
 
@@ -21,12 +21,12 @@ and-none false = refl
 
 module _ (codes jobs : List ℕ) where
   -- before the first line nobody has a c
-  pub commits-none : replicate 256 false ≡ tab (hasCommit codes jobs 0) 256
+  pub commits-none : replicate 256 false ≡ valuesOf (hasCommit codes jobs 0) 256
   unfolding hasCommit
   commits-none = tab-all 256 false
 
   -- a c is its job's
-  pub commits-set : (p j : ℕ) (done : List Bool) → done ≡ tab (hasCommit codes jobs p) 256 → j ≡ getD jobs p 0 → j < 256 → getD codes p 0 ≡ 3 → set done j true ≡ tab (hasCommit codes jobs (p + 1)) 256
+  pub commits-set : (p j : ℕ) (done : List Bool) → done ≡ valuesOf (hasCommit codes jobs p) 256 → j ≡ getD jobs p 0 → j < 256 → getD codes p 0 ≡ 3 → set done j true ≡ valuesOf (hasCommit codes jobs (p + 1)) 256
   unfolding hasCommit
   commits-set p j done e q b c =
       rw (e, add-one p)
@@ -35,7 +35,7 @@ module _ (codes jobs : List ℕ) where
       (λ i l o. rw (ne-eqb (getD jobs p 0) i (λ r. o (sym r ∙ sym q)))))
 
   -- any other line changes nothing
-  pub commits-keep : (p : ℕ) (done : List Bool) → done ≡ tab (hasCommit codes jobs p) 256 → (getD codes p 0 ≡ 3 → ⊥) → done ≡ tab (hasCommit codes jobs (p + 1)) 256
+  pub commits-keep : (p : ℕ) (done : List Bool) → done ≡ valuesOf (hasCommit codes jobs p) 256 → (getD codes p 0 ≡ 3 → ⊥) → done ≡ valuesOf (hasCommit codes jobs (p + 1)) 256
   unfolding hasCommit
   commits-keep p done e c =
       rw (e, add-one p)
@@ -43,16 +43,16 @@ module _ (codes jobs : List ℕ) where
       (λ i l. rw (ne-eqb (getD codes p 0) 3 c, and-none (eqb (getD jobs p 0) i))))
 
   -- when all lines are passed the table is the one of all
-  pub commits-all : (p n : ℕ) (done : List Bool) → done ≡ tab (hasCommit codes jobs p) 256 → p ≡ n → done ≡ tab (hasCommit codes jobs n) 256
+  pub commits-all : (p n : ℕ) (done : List Bool) → done ≡ valuesOf (hasCommit codes jobs p) 256 → p ≡ n → done ≡ valuesOf (hasCommit codes jobs n) 256
   commits-all p n done e h = rw (← h) e
 
   -- before the first line all lines count
-  pub since-none : replicate 256 0 ≡ tab (countedFrom codes jobs 0) 256
+  pub since-none : replicate 256 0 ≡ valuesOf (countedFrom codes jobs 0) 256
   unfolding countedFrom
   since-none = tab-all 256 0
 
   -- after a k its job's lines count from the next on
-  pub since-set : (p j : ℕ) (since : List ℕ) → since ≡ tab (countedFrom codes jobs p) 256 → j ≡ getD jobs p 0 → j < 256 → 4 < getD codes p 0 → set since j (p + 1) ≡ tab (countedFrom codes jobs (p + 1)) 256
+  pub since-set : (p j : ℕ) (since : List ℕ) → since ≡ valuesOf (countedFrom codes jobs p) 256 → j ≡ getD jobs p 0 → j < 256 → 4 < getD codes p 0 → set since j (p + 1) ≡ valuesOf (countedFrom codes jobs (p + 1)) 256
   unfolding countedFrom
   since-set p j since e q b c =
       rw (e, add-one p)
@@ -61,7 +61,7 @@ module _ (codes jobs : List ℕ) where
       (λ i l o. rw (ne-eqb (getD jobs p 0) i (λ r. o (sym r ∙ sym q)))))
 
   -- any other line changes nothing
-  pub since-keep : (p : ℕ) (since : List ℕ) → since ≡ tab (countedFrom codes jobs p) 256 → getD codes p 0 ≤ 4 → since ≡ tab (countedFrom codes jobs (p + 1)) 256
+  pub since-keep : (p : ℕ) (since : List ℕ) → since ≡ valuesOf (countedFrom codes jobs p) 256 → getD codes p 0 ≤ 4 → since ≡ valuesOf (countedFrom codes jobs (p + 1)) 256
   unfolding countedFrom
   since-keep p since e c =
       rw (e, add-one p)
@@ -69,7 +69,7 @@ module _ (codes jobs : List ℕ) where
       (λ i l. rw (le-ltb 4 (getD codes p 0) c, and-none (eqb (getD jobs p 0) i))))
 
   -- when all lines are passed the table is the one of all
-  pub since-all : (p n : ℕ) (since : List ℕ) → since ≡ tab (countedFrom codes jobs p) 256 → p ≡ n → since ≡ tab (countedFrom codes jobs n) 256
+  pub since-all : (p n : ℕ) (since : List ℕ) → since ≡ valuesOf (countedFrom codes jobs p) 256 → p ≡ n → since ≡ valuesOf (countedFrom codes jobs n) 256
   since-all p n since e h = rw (← h) e
 
   module _ (since : List ℕ) where
@@ -89,12 +89,12 @@ module _ (codes jobs : List ℕ) where
     owner-job p j h q b = rw (lt-ltb (getD codes p 0) 3 h, ← q, le-leb (getD since j 0) p b)
 
     -- before the first line nobody owns one
-    pub owners-none : replicate 4096 0 ≡ tab (ownersBy codes jobs since 0) 4096
+    pub owners-none : replicate 4096 0 ≡ valuesOf (ownersBy codes jobs since 0) 4096
     unfolding ownersBy
     owners-none = tab-all 4096 0 ∙ tab-same (λ p. 0) (ownersBy codes jobs since 0) 4096 0 (λ p b. rw (le-ltb p 0 (omega arith)))
 
     -- one line more with its owner
-    pub owners-set : (p : ℕ) (all : List ℕ) (v : ℕ) → all ≡ tab (ownersBy codes jobs since p) 4096 → p < 4096 → v ≡ ownerAt codes jobs since p → set all p v ≡ tab (ownersBy codes jobs since (p + 1)) 4096
+    pub owners-set : (p : ℕ) (all : List ℕ) (v : ℕ) → all ≡ valuesOf (ownersBy codes jobs since p) 4096 → p < 4096 → v ≡ ownerAt codes jobs since p → set all p v ≡ valuesOf (ownersBy codes jobs since (p + 1)) 4096
     unfolding ownersBy
     owners-set p all v e b h =
         rw (e, add-one p)
@@ -106,5 +106,5 @@ module _ (codes jobs : List ℕ) where
         (λ f. rw (f, le-ltb i (suc p) (omega (arith, ltb-false i p f, o))))))
 
     -- when all lines are passed the table is the one of all
-    pub owners-all : (p n : ℕ) (all : List ℕ) → all ≡ tab (ownersBy codes jobs since p) 4096 → p ≡ n → all ≡ tab (ownersBy codes jobs since n) 4096
+    pub owners-all : (p n : ℕ) (all : List ℕ) → all ≡ valuesOf (ownersBy codes jobs since p) 4096 → p ≡ n → all ≡ valuesOf (ownersBy codes jobs since n) 4096
     owners-all p n all e h = rw (← h) e

@@ -14,10 +14,10 @@ use Rattle.conflict.specs.Schedule.{agree}
 use Rattle.conflict.specs.Cells.{inSet, actsOn, canConflict}
 use Rattle.conflict.proofs.Conflicting.{conflict-kinds}
 use Rattle.conflict.proofs.CellSets.{can-conflict, acts-read, acts-write, acts-increment}
-use Rattle.judge_core.specs.Lists.{tab}
+use Rattle.judge_core.specs.Lists.{valuesOf}
 use Rattle.judge_core.specs.Counted.{hasCommit, ownerAt, ownersBy, ByteJobs}
 use Rattle.judge_core.specs.Meeting.{kindBy, actionBy, actionAt, clashing}
-use Rattle.judge_core.specs.Grouped.{linesOf, partAt, Parted}
+use Rattle.judge_core.specs.Grouped.{ownedLines, partAt, Parted}
 use Rattle.judge_core.specs.Reaching.{Acting, Covered, touchedAt, lastKey, Lasts, Reach, Masked, Worked}
 use Rattle.judge_core.proofs.Tabled.{tab-at}
 use Rattle.judge_core.proofs.Listing.{listed-is, listed-has}
@@ -34,7 +34,7 @@ owner-by codes jobs since p no′ yes′ =
     (λ f. no′ (rw f))
 
 -- the lines that somebody owns are actions of their jobs on cells
-pub acting : (codes jobs cells since owners : List ℕ) (n : ℕ) → n ≤ 4096 → ByteJobs jobs n → ((p : ℕ) → p < n → getD codes p 0 < 3 → getD cells p 0 < 64) → owners ≡ tab (ownersBy codes jobs since n) 4096 → Acting codes jobs cells owners n
+pub acting : (codes jobs cells since owners : List ℕ) (n : ℕ) → n ≤ 4096 → ByteJobs jobs n → ((p : ℕ) → p < n → getD codes p 0 < 3 → getD cells p 0 < 64) → owners ≡ valuesOf (ownersBy codes jobs since n) 4096 → Acting codes jobs cells owners n
 acting codes jobs cells since owners n h b low o =
     let is = owned codes jobs since owners n h o in
     record {
@@ -51,13 +51,13 @@ kinds-clash codes jobs cells x y t = conflict-kinds (actionAt codes jobs cells x
 
 module _ (codes jobs cells owners : List ℕ) (n : ℕ) (act : Acting codes jobs cells owners n) where
   -- a line of job j is one of the n, and it owns it
-  its-line : (j y : ℕ) → member y (linesOf owners n j) ≡ true → (y < n) × (getD owners y 0 ≡ j)
-  unfolding linesOf
+  its-line : (j y : ℕ) → member y (ownedLines owners n j) ≡ true → (y < n) × (getD owners y 0 ≡ j)
+  unfolding ownedLines
   its-line j y m = let r = listed-is (λ p. eqb (getD owners p 0) j) 0 n y m in (omega (arith, r .1), eqb-true (getD owners y 0) j (r .2))
 
   -- the last lines of job j stand in the table
-  reaches : (lasts : List ℕ) → Lasts codes cells owners n lasts → (j : ℕ) → j < 256 → (j ≡ 0 → ⊥) → Reach codes jobs cells lasts j (linesOf owners n j)
-  unfolding linesOf
+  reaches : (lasts : List ℕ) → Lasts codes cells owners n lasts → (j : ℕ) → j < 256 → (j ≡ 0 → ⊥) → Reach codes jobs cells lasts j (ownedLines owners n j)
+  unfolding ownedLines
   reaches lasts s j b z =
       record {
         job = λ y m. let r = its-line j y m in act .job y (r .0) (λ q. z (sym (r .1) ∙ q)) ∙ r .1;
@@ -72,7 +72,7 @@ module _ (codes jobs cells owners : List ℕ) (n : ℕ) (act : Acting codes jobs
 
   module _ (reads writes increments : List ℕ) (cr : Covered codes cells owners n 0 reads) (cw : Covered codes cells owners n 1 writes) (ci : Covered codes cells owners n 2 increments) where
     -- a line of job i is on a cell of its set
-    acts-there : (i x : ℕ) → (i ≡ 0 → ⊥) → member x (linesOf owners n i) ≡ true → actsOn (touchedAt reads writes increments i) (kindBy (getD codes x 0)) (getD cells x 0) ≡ true
+    acts-there : (i x : ℕ) → (i ≡ 0 → ⊥) → member x (ownedLines owners n i) ≡ true → actsOn (touchedAt reads writes increments i) (kindBy (getD codes x 0)) (getD cells x 0) ≡ true
     unfolding kindBy touchedAt
     acts-there i x z m =
         let r = its-line i x m in
@@ -87,7 +87,7 @@ module _ (codes jobs cells owners : List ℕ) (n : ℕ) (act : Acting codes jobs
         rw (f, g) (acts-increment (touchedAt reads writes increments i) (getD cells x 0) ∙ subst (λ o. inSet (getD increments o 0) (getD cells x 0) ≡ true) (r .1) (ci .has x (r .0) two′ low))))
 
     -- two jobs' lines conflict on the cells where their sets meet
-    masks-them : (i j m : ℕ) → (i ≡ 0 → ⊥) → (j ≡ 0 → ⊥) → ((c : ℕ) → inSet m c ≡ canConflict (touchedAt reads writes increments i) (touchedAt reads writes increments j) c) → Masked codes jobs cells m (linesOf owners n i) (linesOf owners n j)
+    masks-them : (i j m : ℕ) → (i ≡ 0 → ⊥) → (j ≡ 0 → ⊥) → ((c : ℕ) → inSet m c ≡ canConflict (touchedAt reads writes increments i) (touchedAt reads writes increments j) c) → Masked codes jobs cells m (ownedLines owners n i) (ownedLines owners n j)
     masks-them i j m zi zj h x y mx my t =
         h (getD cells x 0)
         ∙ can-conflict (touchedAt reads writes increments i) (touchedAt reads writes increments j) (kindBy (getD codes x 0)) (kindBy (getD codes y 0)) (getD cells x 0) (acts-there i x zi mx)
@@ -95,7 +95,7 @@ module _ (codes jobs cells owners : List ℕ) (n : ℕ) (act : Acting codes jobs
         (kinds-clash codes jobs cells x y t)
 
     -- all of it
-    pub worked : (done : List Bool) (lines starts lasts : List ℕ) → done ≡ tab (hasCommit codes jobs n) 256 → ByteJobs jobs n → Parted lines starts → ((j : ℕ) → j < 256 → partAt lines starts j ≡ linesOf owners n j) → Lasts codes cells owners n lasts → Worked codes jobs cells done lines starts lasts reads writes increments
+    pub worked : (done : List Bool) (lines starts lasts : List ℕ) → done ≡ valuesOf (hasCommit codes jobs n) 256 → ByteJobs jobs n → Parted lines starts → ((j : ℕ) → j < 256 → partAt lines starts j ≡ ownedLines owners n j) → Lasts codes cells owners n lasts → Worked codes jobs cells done lines starts lasts reads writes increments
     worked done lines starts lasts d b p same′ s =
         record {
           parts = p;
@@ -104,5 +104,5 @@ module _ (codes jobs cells owners : List ℕ) (n : ℕ) (act : Acting codes jobs
           reach = λ j l z. subst (λ ys. Reach codes jobs cells lasts j ys) (sym (same′ j l)) (reaches lasts s j l z);
           masks = λ i j m li lj zi zj h.
               subst (λ xs. Masked codes jobs cells m xs (partAt lines starts j)) (sym (same′ i li))
-              (subst (λ ys. Masked codes jobs cells m (linesOf owners n i) ys) (sym (same′ j lj)) (masks-them i j m zi zj h));
+              (subst (λ ys. Masked codes jobs cells m (ownedLines owners n i) ys) (sym (same′ j lj)) (masks-them i j m zi zj h));
         }

@@ -5,9 +5,9 @@ use mathlib.Core.List.{List, [], _∷_, _++_}
 use Rattle.laws.specs.Lists.{put}
 
 -- what f says of 0, 1 and so on, n values
-unfoldable pub tab : {A : Type 0} → (ℕ → A) → ℕ → List A
-tab f zero = []
-tab f (suc n) = tab f n ++ f n ∷ []
+unfoldable pub valuesOf : {A : Type 0} → (ℕ → A) → ℕ → List A
+valuesOf f zero = []
+valuesOf f (suc n) = valuesOf f n ++ f n ∷ []
 
 -- of the m numbers from k on those that pass the test, in ascending order
 unfoldable pub listed : (ℕ → Bool) → ℕ → ℕ → List ℕ

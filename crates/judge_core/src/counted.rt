@@ -3,7 +3,7 @@ use terms::limits::JUDGED_LINES;
 ghost use mathlib.Core.Path.{_≡_};
 ghost use Prim.Native.Nat.{ℕ, _≤_, _<_};
 ghost use lib.ListN.{getD};
-ghost use Rattle.judge_core.specs.Lists.{tab};
+ghost use Rattle.judge_core.specs.Lists.{valuesOf};
 ghost use Rattle.judge_core.specs.Counted.{hasCommit, countedFrom, ownerAt, ownersBy};
 
 // A byte as a place in an array.
@@ -20,7 +20,7 @@ pub fn committed_jobs<'a>(
     n: usize,
 ) -> [bool; 256]
     requires { ⌜ n ≤ 4096 ⌝ }
-    ensures { λ r. ⌜ r ≡ tab (hasCommit (now (codes .entry)) (now (jobs .entry)) n) 256 ⌝ }
+    ensures { λ r. ⌜ r ≡ valuesOf (hasCommit (now (codes .entry)) (now (jobs .entry)) n) 256 ⌝ }
     ensures { λ r. ⌜ ((p : ℕ) → p < n → getD (now (jobs .entry)) p 0 < 256) ⌝ }
 {
     let mut done = [false; 256];
@@ -42,7 +42,7 @@ pub fn counted_from<'a>(
     n: usize,
 ) -> [usize; 256]
     requires { ⌜ n ≤ 4096 ⌝ }
-    ensures { λ r. ⌜ r ≡ tab (countedFrom (now (codes .entry)) (now (jobs .entry)) n) 256 ⌝ }
+    ensures { λ r. ⌜ r ≡ valuesOf (countedFrom (now (codes .entry)) (now (jobs .entry)) n) 256 ⌝ }
 {
     let mut since = [0; 256];
     let mut p = 0;
@@ -84,7 +84,7 @@ pub fn owners<'a>(
     n: usize,
 ) -> [u8; JUDGED_LINES]
     requires { ⌜ n ≤ 4096 ⌝ }
-    ensures { λ r. ⌜ r ≡ tab (ownersBy (now (codes .entry)) (now (jobs .entry)) (now (since .entry)) n) 4096 ⌝ }
+    ensures { λ r. ⌜ r ≡ valuesOf (ownersBy (now (codes .entry)) (now (jobs .entry)) (now (since .entry)) n) 4096 ⌝ }
 {
     let mut all = [0; JUDGED_LINES];
     let mut p = 0;

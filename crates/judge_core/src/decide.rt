@@ -26,7 +26,7 @@ ghost use Rattle.judge_rules.specs.Knot.{walk, turn};
 ghost use Rattle.judge_rules.specs.Judged.{knotted, findingOf};
 ghost use Rattle.judge_rules.specs.Judgement.{sayFinding};
 ghost use Rattle.judge_rules.specs.Arrays.{historyBy};
-ghost use Rattle.judge_core.specs.Lists.{tab};
+ghost use Rattle.judge_core.specs.Lists.{valuesOf};
 ghost use Rattle.judge_core.specs.Counted.{hasCommit, ByteJobs};
 ghost use Rattle.judge_core.specs.Grouped.{edgesIn};
 ghost use Rattle.judge_core.specs.Left.{leftOf};
@@ -39,7 +39,7 @@ fn edges_of<'a>(
     done: &'a [bool; 256],
     n: usize,
 ) -> [bool; 65536]
-    requires { ⌜ (n ≤ 4096) × ByteJobs (now jobs) n × (now done ≡ tab (hasCommit (now codes) (now jobs) n) 256) ⌝ }
+    requires { ⌜ (n ≤ 4096) × ByteJobs (now jobs) n × (now done ≡ valuesOf (hasCommit (now codes) (now jobs) n) 256) ⌝ }
     requires { ⌜ ((p : ℕ) → p < n → getD (now codes) p 0 < 3 → getD (now cells) p 0 < 64) ⌝ }
     ensures { λ r. ⌜ edgesIn r ≡ edge (committedPart (historyBy (now (codes .entry)) (now (jobs .entry)) (now (cells .entry)) n)) ⌝ }
 {

@@ -14,7 +14,7 @@ ghost use mathlib.Core.Bool.{true};
 ghost use Prim.Native.Nat.{ℕ, _/_, _%_, _≤_, _<_};
 ghost use lib.ListN.{getD};
 ghost use Rattle.laws.specs.Lists.{member};
-ghost use Rattle.judge_core.specs.Lists.{tab};
+ghost use Rattle.judge_core.specs.Lists.{valuesOf};
 ghost use Rattle.judge_core.specs.Meeting.{kindBy, actionAt, clashing, meetings};
 ghost use Rattle.judge_core.specs.Grouped.{Lined, Parted, partAt, edgeBy};
 ghost use Rattle.judge_core.specs.Reaching.{Reach, Masked, Worked, lastMet, mayMeet};
@@ -247,7 +247,7 @@ pub fn edge_table<'a>(
     increments: &'a [u64; 256],
 ) -> [bool; 65536]
     requires { ⌜ Worked (now codes) (now jobs) (now cells) (now done) (now lines) (now starts) (now lasts) (now reads) (now writes) (now increments) ⌝ }
-    ensures { λ r. ⌜ r ≡ tab (λ x. edgeBy (now (codes .entry)) (now (jobs .entry)) (now (cells .entry)) (now (done .entry)) (now (lines .entry)) (now (starts .entry)) (x / 256) (x % 256)) 65536 ⌝ }
+    ensures { λ r. ⌜ r ≡ valuesOf (λ x. edgeBy (now (codes .entry)) (now (jobs .entry)) (now (cells .entry)) (now (done .entry)) (now (lines .entry)) (now (starts .entry)) (x / 256) (x % 256)) 65536 ⌝ }
 {
     let mut table = [false; 65536];
     let mut x = 0;

@@ -7,14 +7,14 @@ use native.Mathlib.Omega.{arith}
 use borrow.Author.Needs.{needs}
 use borrow.Author.Count.{below-none, below-more}
 use lib.ListN.{getD}
-use Rattle.judge_core.specs.Lists.{tab}
+use Rattle.judge_core.specs.Lists.{valuesOf}
 use Rattle.judge_core.specs.Counted.{hasCommit}
 use Rattle.judge_core.proofs.Marking.{commits-none, commits-set, commits-keep, commits-all}
 use Rattle.judge_core.proofs.counted.committed_jobs.Statement.{statement}
 use Rattle.judge_core.proofs.counted.committed_jobs.Tie as tie
 
 abbrev Inv-loop : tie.InvT-loop
-Inv-loop codes jobs n done₀ p₀ done p = (p ≤ n) × (done ≡ tab (hasCommit codes jobs p) 256) × ((q : ℕ) → q < p → getD jobs q 0 < 256)
+Inv-loop codes jobs n done₀ p₀ done p = (p ≤ n) × (done ≡ valuesOf (hasCommit codes jobs p) 256) × ((q : ℕ) → q < p → getD jobs q 0 < 256)
 
 abbrev μ-loop : tie.MeasureT-loop
 μ-loop codes jobs n done₀ p₀ done p = n - p
@@ -55,16 +55,5 @@ returns c = (commits-all _ _ _ _ _ (c .before .loop .inv .1) (omega arith), λ q
 
 pub committed-jobs-spec : {M : Type 1} → statement M
 committed-jobs-spec =
-    tie.close
-    (tie.spec
-    Inv-loop
-    μ-loop
-    loop-holds
-    element-copy-out-place
-    place-requires
-    element-copy-out-if1
-    array-write-done
-    add-p
-    loop-less
-    loop-again
-    returns)
+    let first = tie.spec Inv-loop μ-loop loop-holds element-copy-out-place place-requires element-copy-out-if1 array-write-done add-p loop-less loop-again in
+    tie.close (first returns)

@@ -5,14 +5,14 @@ use mathlib.Core.Path.{_≡_, _∙_}
 use mathlib.Core.Logic.{⊎-elim}
 use native.Mathlib.Omega.{arith}
 use borrow.Author.Needs.{needs}
-use Rattle.judge_core.specs.Lists.{tab}
+use Rattle.judge_core.specs.Lists.{valuesOf}
 use Rattle.judge_core.specs.Counted.{countedFrom}
 use Rattle.judge_core.proofs.Marking.{since-none, since-set, since-keep, since-all}
 use Rattle.judge_core.proofs.counted.counted_from.Statement.{statement}
 use Rattle.judge_core.proofs.counted.counted_from.Tie as tie
 
 abbrev Inv-loop : tie.InvT-loop
-Inv-loop codes jobs n since₀ p₀ since p = (p ≤ n) × (since ≡ tab (countedFrom codes jobs p) 256)
+Inv-loop codes jobs n since₀ p₀ since p = (p ≤ n) × (since ≡ valuesOf (countedFrom codes jobs p) 256)
 
 abbrev μ-loop : tie.MeasureT-loop
 μ-loop codes jobs n since₀ p₀ since p = n - p
@@ -58,18 +58,5 @@ returns c = since-all _ _ _ _ _ (c .before .loop .inv .1) (omega arith)
 
 pub counted-from-spec : {M : Type 1} → statement M
 counted-from-spec =
-    tie.close
-    (tie.spec
-    Inv-loop
-    μ-loop
-    loop-holds
-    element-copy-out-place
-    place-requires
-    element-copy-out-if1
-    add-since
-    mul-since
-    array-write-since
-    add-p
-    loop-less
-    loop-again
-    returns)
+    let first = tie.spec Inv-loop μ-loop loop-holds element-copy-out-place place-requires element-copy-out-if1 add-since mul-since array-write-since add-p in
+    tie.close (first loop-less loop-again returns)

@@ -34,14 +34,5 @@ returns-3 c = search owner-job
 
 pub owner-spec : {M : Type 1} → statement M
 owner-spec =
-    tie.close
-    (tie.spec
-    element-copy-out-if1
-    returns
-    element-copy-out-place
-    place-requires
-    mul-if2
-    element-copy-out-if2
-    returns-2
-    element-copy-out-result
-    returns-3)
+    let first = tie.spec element-copy-out-if1 returns element-copy-out-place place-requires mul-if2 element-copy-out-if2 returns-2 element-copy-out-result in
+    tie.close (first returns-3)

@@ -3,14 +3,14 @@
 use Prim.Native.Nat.{_-_, _≤_}
 use mathlib.Core.Path.{_≡_}
 use native.Mathlib.Omega.{arith}
-use Rattle.judge_core.specs.Lists.{tab}
+use Rattle.judge_core.specs.Lists.{valuesOf}
 use Rattle.judge_core.specs.Counted.{ownersBy}
 use Rattle.judge_core.proofs.Marking.{owners-none, owners-set, owners-all}
 use Rattle.judge_core.proofs.counted.owners.Statement.{statement}
 use Rattle.judge_core.proofs.counted.owners.Tie as tie
 
 abbrev Inv-loop : tie.InvT-loop
-Inv-loop codes jobs since n all₀ p₀ all p = (p ≤ n) × (all ≡ tab (ownersBy codes jobs since p) 4096)
+Inv-loop codes jobs since n all₀ p₀ all p = (p ≤ n) × (all ≡ valuesOf (ownersBy codes jobs since p) 4096)
 
 abbrev μ-loop : tie.MeasureT-loop
 μ-loop codes jobs since n all₀ p₀ all p = n - p
@@ -38,14 +38,4 @@ returns c = owners-all _ _ _ _ _ _ (c .before .loop .inv .1) (omega arith)
 
 pub owners-spec : {M : Type 1} → statement M
 owners-spec =
-    tie.close
-    (tie.spec
-    Inv-loop
-    μ-loop
-    loop-holds
-    owner-requires
-    array-write-all
-    add-p
-    loop-less
-    loop-again
-    returns)
+    tie.close (tie.spec Inv-loop μ-loop loop-holds owner-requires array-write-all add-p loop-less loop-again returns)

@@ -63,18 +63,5 @@ returns-2 c =
 
 pub decide-spec : {M : Type 1} → statement M
 decide-spec =
-    tie.close
-    (tie.spec
-    committed-jobs-requires
-    edges-of-requires
-    take-away-requires
-    smallest-left-requires
-    sub-put
-    part-put-start
-    part-put-end
-    put-requires
-    same-length
-    returns
-    knot-requires
-    same-length-2
-    returns-2)
+    let first = tie.spec committed-jobs-requires edges-of-requires take-away-requires smallest-left-requires sub-put part-put-start part-put-end in
+    tie.close (first put-requires same-length returns knot-requires same-length-2 returns-2)

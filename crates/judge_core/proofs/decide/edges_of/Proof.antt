@@ -50,17 +50,5 @@ returns c =
 
 pub edges-of-spec : {M : Type 1} → statement M
 edges-of-spec =
-    tie.close
-    (tie.spec
-    counted-from-requires
-    owners-requires
-    tallies-requires
-    starts-requires
-    grouped-requires
-    last-lines-requires
-    cells-of-requires
-    cells-of-requires-2
-    cells-of-requires-3
-    slice-aggregate-edge-table
-    edge-table-requires
-    returns)
+    let first = tie.spec counted-from-requires owners-requires tallies-requires starts-requires grouped-requires last-lines-requires cells-of-requires in
+    tie.close (first cells-of-requires-2 cells-of-requires-3 slice-aggregate-edge-table edge-table-requires returns)

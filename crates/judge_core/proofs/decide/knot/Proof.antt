@@ -31,13 +31,4 @@ returns c = (knot-said _ _ _ _ (c .before .before .before .before .before .befor
 
 pub knot-spec : {M : Type 1} → statement M
 knot-spec =
-    tie.close
-    (tie.spec
-    walk-back-requires
-    sub-put-turned
-    part-put-turned-start
-    part-put-turned-end
-    put-turned-requires
-    sub-t15
-    same-length
-    returns)
+    tie.close (tie.spec walk-back-requires sub-put-turned part-put-turned-start part-put-turned-end put-turned-requires sub-t15 same-length returns)

@@ -28,12 +28,4 @@ returns c = search action-made
 
 pub action-at-spec : {M : Type 1} → statement M
 action-at-spec =
-    tie.close
-    (tie.spec
-    element-copy-out-kind-of
-    kind-of-requires
-    element-copy-out-wide
-    wide-requires
-    element-copy-out-wide-2
-    wide-requires-2
-    returns)
+    tie.close (tie.spec element-copy-out-kind-of kind-of-requires element-copy-out-wide wide-requires element-copy-out-wide-2 wide-requires-2 returns)

@@ -30,12 +30,4 @@ returns-3 c = λ t. apart-order _ _ (c .before .before .before .before .pre .0) 
 
 pub apart-spec : {M : Type 1} → statement M
 apart-spec =
-    tie.close
-    (tie.spec
-    returns
-    returns-2
-    sub-result
-    mul-result
-    shared-slice-read-result
-    shared-slice-read-result-2
-    returns-3)
+    tie.close (tie.spec returns returns-2 sub-result mul-result shared-slice-read-result shared-slice-read-result-2 returns-3)

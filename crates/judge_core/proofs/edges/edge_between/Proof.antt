@@ -40,16 +40,5 @@ returns-5 c = edge-parts _ _ _ _ _ _ _ _ (c .before .before .before .before .bef
 
 pub edge-between-spec : {M : Type 1} → statement M
 edge-between-spec =
-    tie.close
-    (tie.spec
-    returns
-    element-copy-out-if2
-    returns-2
-    element-copy-out-if3
-    returns-3
-    touched-requires
-    touched-requires-2
-    meeting-cells-requires
-    returns-4
-    parts-meet-requires
-    returns-5)
+    let first = tie.spec returns element-copy-out-if2 returns-2 element-copy-out-if3 returns-3 touched-requires touched-requires-2 meeting-cells-requires in
+    tie.close (first returns-4 parts-meet-requires returns-5)

@@ -36,14 +36,4 @@ returns c = told-all _ _ _ _ (omega arith) (c .before .loop .inv .1)
 
 pub edge-table-spec : {M : Type 1} → statement M
 edge-table-spec =
-    tie.close
-    (tie.spec
-    Inv-loop
-    μ-loop
-    loop-holds
-    edge-between-requires
-    array-write-table
-    add-x
-    loop-less
-    loop-again
-    returns)
+    tie.close (tie.spec Inv-loop μ-loop loop-holds edge-between-requires array-write-table add-x loop-less loop-again returns)

@@ -44,17 +44,5 @@ returns-3 c = may-set _ _ _ _ _ _ _ _ _ (c .before .before .before .before .befo
 
 pub may-meet-spec : {M : Type 1} → statement M
 may-meet-spec =
-    tie.close
-    (tie.spec
-    element-copy-out-cell
-    wide-requires
-    returns
-    last-key-requires
-    mul-far
-    element-copy-out-far
-    far-requires
-    add-if2
-    returns-2
-    wide-requires-2
-    has-cell-requires
-    returns-3)
+    let first = tie.spec element-copy-out-cell wide-requires returns last-key-requires mul-far element-copy-out-far far-requires add-if2 returns-2 in
+    tie.close (first wide-requires-2 has-cell-requires returns-3)

@@ -99,28 +99,5 @@ returns-3 c =
 
 pub meets-spec : {M : Type 1} → statement M
 meets-spec =
-    tie.close
-    (tie.spec
-    Inv-loop
-    μ-loop
-    Inv-outer
-    μ-outer
-    apart-requires
-    returns
-    outer-holds
-    sub-i
-    mul-x
-    shared-slice-read-x
-    cast-x
-    may-meet-requires
-    outer-less
-    outer-again
-    loop-holds
-    outer-less-2
-    outer-again-2
-    meets-last-requires
-    add-k
-    loop-less
-    loop-again
-    returns-2
-    returns-3)
+    let first = tie.spec Inv-loop μ-loop Inv-outer μ-outer apart-requires returns outer-holds sub-i mul-x shared-slice-read-x cast-x may-meet-requires in
+    tie.close (first outer-less outer-again loop-holds outer-less-2 outer-again-2 meets-last-requires add-k loop-less loop-again returns-2 returns-3)

@@ -50,18 +50,5 @@ returns-2 c =
 
 pub meets-last-spec : {M : Type 1} → statement M
 meets-last-spec =
-    tie.close
-    (tie.spec
-    element-copy-out-cell
-    last-key-requires
-    mul-far
-    element-copy-out-far
-    far-requires
-    add-if1
-    returns
-    kind-of-requires
-    cast-t22
-    wide-requires
-    action-at-requires
-    actions-conflict-requires
-    returns-2)
+    let first = tie.spec element-copy-out-cell last-key-requires mul-far element-copy-out-far far-requires add-if1 returns kind-of-requires cast-t22 in
+    tie.close (first wide-requires action-at-requires actions-conflict-requires returns-2)

@@ -70,25 +70,5 @@ returns c = c .meets .ensures
 
 pub parts-meet-spec : {M : Type 1} → statement M
 parts-meet-spec =
-    tie.close
-    (tie.spec
-    mul-a
-    element-copy-out-a
-    add-b
-    mul-b
-    element-copy-out-b
-    mul-c
-    element-copy-out-c
-    add-d
-    mul-d
-    element-copy-out-d
-    mul-meets
-    sub-meets
-    part-meets-start
-    part-meets-end
-    mul-meets-2
-    sub-meets-2
-    part-meets-start-2
-    part-meets-end-2
-    meets-requires
-    returns)
+    let first = tie.spec mul-a element-copy-out-a add-b mul-b element-copy-out-b mul-c element-copy-out-c add-d mul-d element-copy-out-d mul-meets in
+    tie.close (first sub-meets part-meets-start part-meets-end mul-meets-2 sub-meets-2 part-meets-start-2 part-meets-end-2 meets-requires returns)

@@ -37,15 +37,5 @@ returns-4 c = search fault-none
 
 pub fault-at-spec : {M : Type 1} → statement M
 fault-at-spec =
-    tie.close
-    (tie.spec
-    element-copy-out-place
-    place-requires
-    returns
-    element-copy-out-cell-above
-    element-copy-out-cell-above-2
-    cell-above-requires
-    returns-2
-    element-copy-out-if3
-    returns-3
-    returns-4)
+    let first = tie.spec element-copy-out-place place-requires returns element-copy-out-cell-above element-copy-out-cell-above-2 cell-above-requires in
+    tie.close (first returns-2 element-copy-out-if3 returns-3 returns-4)

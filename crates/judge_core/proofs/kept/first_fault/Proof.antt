@@ -70,24 +70,5 @@ returns-3 c = at-end _ _ _ _ _ _ (omega arith) (c .before .loop .inv .3)
 
 pub first-fault-spec : {M : Type 1} → statement M
 first-fault-spec =
-    tie.close
-    (tie.spec
-    Inv-loop
-    μ-loop
-    loop-holds
-    add-t10
-    returns
-    fault-at-requires
-    enum-told
-    enum-known-why
-    add-t14
-    returns-2
-    element-copy-out-place
-    place-requires
-    element-copy-out-ends-job
-    ends-job-requires
-    array-write-ended
-    add-p
-    loop-less
-    loop-again
-    returns-3)
+    let first = tie.spec Inv-loop μ-loop loop-holds add-t10 returns fault-at-requires enum-told enum-known-why add-t14 returns-2 element-copy-out-place in
+    tie.close (first place-requires element-copy-out-ends-job ends-job-requires array-write-ended add-p loop-less loop-again returns-3)

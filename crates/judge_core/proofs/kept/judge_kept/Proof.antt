@@ -38,13 +38,4 @@ returns-3 c = kept-faulty _ _ _ _ _ (omega arith) _ (c .before .before .before .
 
 pub judge-kept-spec : {M : Type 1} → statement M
 judge-kept-spec =
-    tie.close
-    (tie.spec
-    returns
-    first-fault-requires
-    enum-told
-    decide-requires
-    enum-known-line
-    same-length
-    returns-2
-    returns-3)
+    tie.close (tie.spec returns first-fault-requires enum-told decide-requires enum-known-line same-length returns-2 returns-3)

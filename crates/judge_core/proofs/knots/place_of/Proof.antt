@@ -38,14 +38,4 @@ returns-2 c = place-end _ _ _ (omega arith) ∙ c .before .loop .inv .1
 
 pub place-of-spec : {M : Type 1} → statement M
 place-of-spec =
-    tie.close
-    (tie.spec
-    Inv-loop
-    μ-loop
-    loop-holds
-    element-copy-out-if1
-    returns
-    add-p
-    loop-less
-    loop-again
-    returns-2)
+    tie.close (tie.spec Inv-loop μ-loop loop-holds element-copy-out-if1 returns add-p loop-less loop-again returns-2)

@@ -42,16 +42,4 @@ returns c = pasted-all _ _ _ _ _ (c .before .before .pre) (c .before .loop .inv 
 
 pub put-spec : {M : Type 1} → statement M
 put-spec =
-    tie.close
-    (tie.spec
-    Inv-loop
-    μ-loop
-    loop-holds
-    shared-slice-read-buffer
-    add-buffer
-    slice-write-buffer
-    add-i
-    loop-less
-    loop-again
-    same-length
-    returns)
+    tie.close (tie.spec Inv-loop μ-loop loop-holds shared-slice-read-buffer add-buffer slice-write-buffer add-i loop-less loop-again same-length returns)

@@ -43,17 +43,5 @@ returns c = search put-turned
 
 pub put-turned-spec : {M : Type 1} → statement M
 put-turned-spec =
-    tie.close
-    (tie.spec
-    smallest-place-requires
-    sub-put
-    part-put-start
-    part-put-end
-    put-requires
-    sub-put-2
-    sub-put-3
-    part-put-start-2
-    part-put-end-2
-    put-requires-2
-    same-length
-    returns)
+    let first = tie.spec smallest-place-requires sub-put part-put-start part-put-end put-requires sub-put-2 sub-put-3 part-put-start-2 part-put-end-2 in
+    tie.close (first put-requires-2 same-length returns)

@@ -43,14 +43,4 @@ returns c = best-turn _ _ _ (omega arith) (c .before .loop .inv .1)
 
 pub smallest-place-spec : {M : Type 1} → statement M
 smallest-place-spec =
-    tie.close
-    (tie.spec
-    Inv-loop
-    μ-loop
-    loop-holds
-    shared-slice-read-if1
-    shared-slice-read-if1-2
-    add-i
-    loop-less
-    loop-again
-    returns)
+    tie.close (tie.spec Inv-loop μ-loop loop-holds shared-slice-read-if1 shared-slice-read-if1-2 add-i loop-less loop-again returns)

@@ -51,19 +51,5 @@ returns-3 c = walked-out _ _ _ _ _ _ (omega arith) (c .before .loop .inv)
 
 pub walk-back-spec : {M : Type 1} → statement M
 walk-back-spec =
-    tie.close
-    (tie.spec
-    Inv-loop
-    μ-loop
-    loop-holds
-    cast-place-of
-    place-of-requires
-    sub-at
-    cast-trail
-    element-write-trail
-    returns
-    predecessor-requires
-    returns-2
-    loop-less
-    loop-again
-    returns-3)
+    let first = tie.spec Inv-loop μ-loop loop-holds cast-place-of place-of-requires sub-at cast-trail element-write-trail returns predecessor-requires in
+    tie.close (first returns-2 loop-less loop-again returns-3)

@@ -37,14 +37,4 @@ returns c = preceding-all _ _ _ _ (omega arith) (c .before .loop .inv .1)
 
 pub counts-of-spec : {M : Type 1} → statement M
 counts-of-spec =
-    tie.close
-    (tie.spec
-    Inv-loop
-    μ-loop
-    loop-holds
-    element-copy-out-if1
-    count-row-requires
-    add-i
-    loop-less
-    loop-again
-    returns)
+    tie.close (tie.spec Inv-loop μ-loop loop-holds element-copy-out-if1 count-row-requires add-i loop-less loop-again returns)

@@ -57,17 +57,4 @@ returns-2 c = seek-none _ _ (c .before .loop .i) _ (omega arith) (c .before .loo
 
 pub predecessor-spec : {M : Type 1} → statement M
 predecessor-spec =
-    tie.close
-    (tie.spec
-    Inv-loop
-    μ-loop
-    loop-holds
-    element-copy-out-if1
-    mul-if2
-    add-if2
-    element-copy-out-if2
-    returns
-    add-i
-    loop-less
-    loop-again
-    returns-2)
+    tie.close (tie.spec Inv-loop μ-loop loop-holds element-copy-out-if1 mul-if2 add-if2 element-copy-out-if2 returns add-i loop-less loop-again returns-2)

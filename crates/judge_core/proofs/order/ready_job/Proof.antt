@@ -56,16 +56,4 @@ returns-2 c = seek-none _ _ (c .before .loop .j) _ (omega arith) (c .before .loo
 
 pub ready-job-spec : {M : Type 1} → statement M
 ready-job-spec =
-    tie.close
-    (tie.spec
-    Inv-loop
-    μ-loop
-    loop-holds
-    element-copy-out-if1
-    mul-if2
-    element-copy-out-if2
-    returns
-    add-j
-    loop-less
-    loop-again
-    returns-2)
+    tie.close (tie.spec Inv-loop μ-loop loop-holds element-copy-out-if1 mul-if2 element-copy-out-if2 returns add-j loop-less loop-again returns-2)

@@ -39,14 +39,4 @@ returns-2 c = seek-none _ _ (c .before .loop .j) _ (omega arith) (c .before .loo
 
 pub smallest-left-spec : {M : Type 1} → statement M
 smallest-left-spec =
-    tie.close
-    (tie.spec
-    Inv-loop
-    μ-loop
-    loop-holds
-    element-copy-out-if1
-    returns
-    add-j
-    loop-less
-    loop-again
-    returns-2)
+    tie.close (tie.spec Inv-loop μ-loop loop-holds element-copy-out-if1 returns add-j loop-less loop-again returns-2)

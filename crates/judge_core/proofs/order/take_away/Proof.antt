@@ -52,18 +52,5 @@ loop-again c = (going-more _ _ _ _ _ _ (c .before .before .before .ready-job .en
 
 pub take-away-spec : {M : Type 1} → statement M
 take-away-spec =
-    tie.close
-    (tie.spec
-    Inv-loop
-    μ-loop
-    counts-of-requires
-    loop-holds
-    ready-job-requires
-    returns
-    cast-placed
-    element-write-placed
-    element-write-left
-    uncount-row-requires
-    add-k
-    loop-less
-    loop-again)
+    let first = tie.spec Inv-loop μ-loop counts-of-requires loop-holds ready-job-requires returns cast-placed element-write-placed element-write-left in
+    tie.close (first uncount-row-requires add-k loop-less loop-again)

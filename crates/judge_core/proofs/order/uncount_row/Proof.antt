@@ -57,21 +57,5 @@ returns c = row-all _ _ _ _ _ (omega arith) (c .before .loop .inv .1)
 
 pub uncount-row-spec : {M : Type 1} → statement M
 uncount-row-spec =
-    tie.close
-    (tie.spec
-    Inv-loop
-    μ-loop
-    mul-row
-    loop-holds
-    mul-counts
-    element-copy-out-counts
-    add-one
-    element-copy-out-one
-    one-requires
-    sub-counts
-    mul-counts-2
-    element-write-counts
-    add-j
-    loop-less
-    loop-again
-    returns)
+    let first = tie.spec Inv-loop μ-loop mul-row loop-holds mul-counts element-copy-out-counts add-one element-copy-out-one one-requires sub-counts in
+    tie.close (first mul-counts-2 element-write-counts add-j loop-less loop-again returns)

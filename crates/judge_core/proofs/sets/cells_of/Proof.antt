@@ -68,22 +68,5 @@ returns c = covered-all _ _ _ _ _ _ _ (omega arith) (c .before .loop .inv .1)
 
 pub cells-of-spec : {M : Type 1} → statement M
 cells-of-spec =
-    tie.close
-    (tie.spec
-    Inv-loop
-    μ-loop
-    loop-holds
-    element-copy-out-place
-    place-requires
-    element-copy-out-if1
-    mul-with-cell
-    array-read-with-cell
-    element-copy-out-wide
-    wide-requires
-    with-cell-requires
-    mul-sets
-    array-write-sets
-    add-p
-    loop-less
-    loop-again
-    returns)
+    let first = tie.spec Inv-loop μ-loop loop-holds element-copy-out-place place-requires element-copy-out-if1 mul-with-cell array-read-with-cell in
+    tie.close (first element-copy-out-wide wide-requires with-cell-requires mul-sets array-write-sets add-p loop-less loop-again returns)

@@ -88,27 +88,6 @@ returns c = lasts-all _ _ _ _ _ _ (omega arith) (c .before .loop .inv .1)
 
 pub last-lines-spec : {M : Type 1} → statement M
 last-lines-spec =
-    tie.close
-    (tie.spec
-    Inv-loop
-    μ-loop
-    loop-holds
-    element-copy-out-place
-    place-requires
-    element-copy-out-last-key
-    last-key-requires
-    add-lasts
-    cast-lasts
-    mul-lasts
-    array-write-lasts
-    element-copy-out-last-key-2
-    element-copy-out-last-key-3
-    last-key-requires-2
-    add-lasts-2
-    cast-lasts-2
-    mul-lasts-2
-    array-write-lasts-2
-    add-p
-    loop-less
-    loop-again
-    returns)
+    let first = tie.spec Inv-loop μ-loop loop-holds element-copy-out-place place-requires element-copy-out-last-key last-key-requires add-lasts cast-lasts in
+    let second = first mul-lasts array-write-lasts element-copy-out-last-key-2 element-copy-out-last-key-3 last-key-requires-2 add-lasts-2 cast-lasts-2 in
+    tie.close (second mul-lasts-2 array-write-lasts-2 add-p loop-less loop-again returns)

@@ -29,12 +29,4 @@ returns c = search needs
 
 pub touched-spec : {M : Type 1} → statement M
 touched-spec =
-    tie.close
-    (tie.spec
-    mul-t5
-    element-copy-out-t8
-    mul-t9
-    element-copy-out-t12
-    mul-t13
-    element-copy-out-t16
-    returns)
+    tie.close (tie.spec mul-t5 element-copy-out-t8 mul-t9 element-copy-out-t12 mul-t13 element-copy-out-t16 returns)
