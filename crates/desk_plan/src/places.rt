@@ -74,7 +74,7 @@ pub fn agrees(held: &[u8; SPOTS], c: usize, p: usize, m: Mode) -> bool
 }
 
 // Whether nobody holds the cell: every number of its row is that of nothing.
-pub fn none_holds(held: &[u8; SPOTS], c: usize) -> bool
+fn none_holds(held: &[u8; SPOTS], c: usize) -> bool
     requires { ⌜ c < 64 ⌝ }
     ensures { λ r. ⌜ r ≡ noneHolds (now (held .entry)) c ⌝ }
 {
@@ -87,6 +87,17 @@ pub fn none_holds(held: &[u8; SPOTS], c: usize) -> bool
         q += 1;
     }
     none
+}
+
+// The same; mostly nobody holds the cell, and one look over its row tells so.
+pub fn goes_beside(held: &[u8; SPOTS], c: usize, p: usize, m: Mode) -> bool
+    requires { ⌜ c < 64 ⌝ }
+    ensures { λ r. ⌜ r ≡ agreesAt (now (held .entry)) c p m ⌝ }
+{
+    if none_holds(held, c) {
+        return true;
+    }
+    agrees(held, c, p, m)
 }
 
 // Whether a place is the job's own, or holds nothing on the cell.

@@ -1,9 +1,8 @@
 // What a step is to do, decided over lent arrays before anything changes (01, rules 1 to 3; 01, Refusals by number).
-use crate::places::agrees;
 use crate::places::alone;
+use crate::places::goes_beside;
 use crate::places::mode_at;
 use crate::places::nobody_waits;
-use crate::places::none_holds;
 use crate::places::older_than_holders;
 use crate::places::older_than_waiters;
 use crate::places::place_of;
@@ -70,17 +69,6 @@ fn standing_of(code: u8) -> Standing
         return Standing::Against(Refusal::SentBack);
     }
     Standing::Runs
-}
-
-// Whether a mode agrees with what every other place holds on the cell. Mostly nobody holds it: one look over its row tells so.
-fn goes_beside(held: &[u8; SPOTS], c: usize, p: usize, m: Mode) -> bool
-    requires { ⌜ c < 64 ⌝ }
-    ensures { λ r. ⌜ r ≡ agreesAt (now (held .entry)) c p m ⌝ }
-{
-    if none_holds(held, c) {
-        return true;
-    }
-    agrees(held, c, p, m)
 }
 
 // Rule 3, to go: the queue is empty and the mode agrees with every holder.

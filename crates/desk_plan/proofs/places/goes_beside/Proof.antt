@@ -1,11 +1,11 @@
--- `desk_plan::plan::goes_beside` meets its contract: where nobody holds the cell every mode agrees.
+-- `desk_plan::places::goes_beside` meets its contract: where nobody holds the cell every mode agrees.
 -- Assumes nothing.
 use borrow.Author.Needs.{needs}
 use mathlib.Core.Path.{sym}
 use Rattle.laws.specs.Choice.{was-true}
 use Rattle.desk_plan.proofs.Unheld.{unheld-agrees}
-use Rattle.desk_plan.proofs.plan.goes_beside.Statement.{statement}
-use Rattle.desk_plan.proofs.plan.goes_beside.Tie as tie
+use Rattle.desk_plan.proofs.places.goes_beside.Statement.{statement}
+use Rattle.desk_plan.proofs.places.goes_beside.Tie as tie
 
 none-holds-requires : tie.Need-none-holds-requires
 none-holds-requires c κs = search needs
