@@ -21,7 +21,7 @@ use Rattle.desk_arrays.proofs.Front.{no-youngest}
 use Rattle.desk_arrays.proofs.EveryGrant.{waits-code}
 use Rattle.desk_plan.specs.declared.grants.Grant.{Grant}
 use Rattle.desk_plan.specs.declared.grants.Grant.the-variants.{Nobody, To}
-use Rattle.desk_plan.specs.Grants.{noneWaits, wanted, frontGrant}
+use Rattle.desk_plan.specs.Grants.{noneWaits, wanted, nextGrant}
 use Rattle.desk_plan.proofs.Wanted.{unwanted}
 use Rattle.desk.specs.InPlace.{laid, Reached}
 use Rattle.desk.proofs.Laid.{laid-take, laid-length, laid-more, laid-again}
@@ -53,10 +53,10 @@ module _ (number cell ask : List ℕ) (c : ℕ) (s₀ : Settling) (inside : c < 
   abbrev at-turn : ℕ → Settling
   at-turn n = settleCell number cell ask c n s₀
 
-  module _ (n : ℕ) {l held status woken : List ℕ} {count : ℕ} (r : Reached (at-turn n) l held status woken count) {g : Grant} (found : g ≡ frontGrant number status cell ask held c) where
+  module _ (n : ℕ) {l held status woken : List ℕ} {count : ℕ} (r : Reached (at-turn n) l held status woken count) {g : Grant} (found : g ≡ nextGrant number status cell ask held c) where
     -- what is found is found of the state reached
-    found-there : g ≡ frontGrant number (at-turn n .status) cell ask (at-turn n .held) c
-    found-there = found ∙ ap (λ x. frontGrant number x cell ask held c) (r .doing) ∙ ap (λ x. frontGrant number (at-turn n .status) cell ask x c) (r .modes)
+    found-there : g ≡ nextGrant number (at-turn n .status) cell ask (at-turn n .held) c
+    found-there = found ∙ ap (λ x. nextGrant number x cell ask held c) (r .doing) ∙ ap (λ x. nextGrant number (at-turn n .status) cell ask x c) (r .modes)
 
     -- nobody is granted: further turns change nothing
     pub cell-stops : g ≡ Nobody → n ≤ places → Reached (settleCell number cell ask c places s₀) l held status woken count

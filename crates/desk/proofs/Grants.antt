@@ -18,7 +18,7 @@ use Rattle.desk_arrays.specs.Places.{youngest, agreesAt, wantsAt}
 use Rattle.desk_arrays.specs.Settling.{Settling, granted, grantFront, settleCell}
 use Rattle.desk_plan.specs.declared.grants.Grant.{Grant}
 use Rattle.desk_plan.specs.declared.grants.Grant.the-variants.{Nobody, To}
-use Rattle.desk_plan.specs.Grants.{frontGrant}
+use Rattle.desk_plan.specs.Grants.{nextGrant}
 
 -- a choice that came out as somebody: the test holds, and the parts are those given
 pub record Picked (b : Bool) (p : ℕ) (m : Mode) (q : ℕ) (k : Mode) : Type 0 where
@@ -63,10 +63,10 @@ module _ (number cell ask : List ℕ) (c : ℕ) where
   pub stands-empty : (s : Settling) → front s ≡ places → grantFront number cell ask c s ≡ s
   stands-empty s e = grant-stands s (rw (e, le-ltb places places (omega arith)))
 
-  module _ (s : Settling) {g : Grant} (inside : c < cells) (found : g ≡ frontGrant number (s .status) cell ask (s .held) c) where
+  module _ (s : Settling) {g : Grant} (inside : c < cells) (found : g ≡ nextGrant number (s .status) cell ask (s .held) c) where
     -- what is found, by whether the front may be granted what it asks for
     found-by : g ≡ pick (mayGrant s) (To (front s) (fronts s)) Nobody
-    unfolding frontGrant
+    unfolding nextGrant
     found-by = rw (lt-ltb c cells inside) at found
 
     -- nobody is granted: nothing changes

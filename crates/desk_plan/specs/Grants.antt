@@ -26,8 +26,8 @@ wanted status cell (suc q) =
     pick (eqb (getD status q 0) waitingCode) (set (wanted status cell q) (getD cell q 0) true) (wanted status cell q)
 
 -- the front of the cell's queue, if what it asks for agrees with the other holders; nobody where there is no such cell
-unfoldable pub frontGrant : List ℕ → List ℕ → List ℕ → List ℕ → List ℕ → ℕ → Grant
-frontGrant number status cell ask held c =
+unfoldable pub nextGrant : List ℕ → List ℕ → List ℕ → List ℕ → List ℕ → ℕ → Grant
+nextGrant number status cell ask held c =
     let p = youngest number status cell c places in
     let a = askOf (getD ask p 0) in
     let m = wantsAt held c p a in

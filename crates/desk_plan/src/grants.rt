@@ -15,7 +15,7 @@ use terms::limits::PLACES;
 ghost use Prim.Native.Nat.{_<_};
 ghost use mathlib.Core.Path.{_≡_};
 ghost use Rattle.desk_arrays.specs.Places.{wantsAt};
-ghost use Rattle.desk_plan.specs.Grants.{noneWaits, wanted, frontGrant};
+ghost use Rattle.desk_plan.specs.Grants.{noneWaits, wanted, nextGrant};
 
 // Who is granted next: nobody, or a place, with the mode that it gets.
 pub enum Grant {
@@ -73,7 +73,7 @@ pub fn front_grant<'a>(
     held: &[u8; SPOTS],
     c: usize,
 ) -> Grant
-    ensures { λ r. ⌜ r ≡ frontGrant (now (number .entry)) (now (status .entry)) (now (cell .entry)) (now (ask .entry)) (now (held .entry)) c ⌝ }
+    ensures { λ r. ⌜ r ≡ nextGrant (now (number .entry)) (now (status .entry)) (now (cell .entry)) (now (ask .entry)) (now (held .entry)) c ⌝ }
 {
     if 64 <= c {
         return Grant::Nobody;

@@ -23,7 +23,6 @@ use desk_arrays::state::SPOTS;
 use terms::letters::Ask;
 use terms::letters::Letter;
 use terms::letters::Lettered;
-use terms::letters::letter_of;
 use terms::limits::CELLS;
 use terms::limits::LAST_NUMBER;
 use terms::limits::PLACES;
@@ -32,7 +31,6 @@ ghost use Prim.Native.Nat.{_<_};
 ghost use mathlib.Core.Path.{_≡_};
 ghost use mathlib.Core.Bool.{_&&_};
 ghost use lib.ListN.{length};
-ghost use Rattle.terms.specs.Letters.{letterOf};
 ghost use Rattle.terms.specs.declared.letters.Lettered.the-variants.{Known};
 ghost use Rattle.desk_arrays.specs.Places.{modeAt, nobodyWaits, agreesAt, olderAt, oldestOf};
 ghost use Rattle.desk_arrays.specs.Moves.{foundAt, standingOf, beginMove, commitMove, giveUpMove, retryMove, promotes, enters, decided, askMove, moveFor};
@@ -275,24 +273,5 @@ pub fn plan_for<'a>(
         Letter::GiveUp => give_up_move(find(number, status, job)),
         Letter::Retry => retry_move(find(number, status, job)),
         Letter::Asks(a) => ask_move(held, number, status, cell, job, c, a),
-    }
-}
-
-// The same by a byte, which may be no letter's.
-pub fn plan<'a>(
-    next: u64,
-    number: &'a [u32; PLACES],
-    status: &'a [u8; PLACES],
-    cell: &'a [u8; PLACES],
-    held: &'a [u8; SPOTS],
-    kind: u8,
-    job: u32,
-    c: u32,
-) -> Move
-    ensures { λ r. ⌜ r ≡ moveFor next (now (number .entry)) (now (status .entry)) (now (cell .entry)) (now (held .entry)) job c (letterOf kind) ⌝ }
-{
-    match letter_of(kind) {
-        Lettered::Unknown => Move::Refuse(Refusal::UnknownKind),
-        Lettered::Known(l) => plan_for(next, number, status, cell, held, l, job, c),
     }
 }

@@ -43,17 +43,5 @@ returns-6 c = search went-asks
 
 pub noted-go-spec : {M : Type 1} → statement M
 noted-go-spec =
-    tie.close
-    (tie.spec
-    enum-told
-    enum-told-2
-    enum-told-3
-    enum-told-4
-    enum-told-5
-    enum-known-letter
-    returns
-    returns-2
-    returns-3
-    returns-4
-    returns-5
-    returns-6)
+    let first = tie.spec enum-told enum-told-2 enum-told-3 enum-told-4 enum-told-5 enum-known-letter returns returns-2 returns-3 returns-4 returns-5 in
+    tie.close (first returns-6)

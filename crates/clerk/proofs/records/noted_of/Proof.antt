@@ -34,14 +34,4 @@ returns-4 c = search own-no
 
 pub noted-of-spec : {M : Type 1} → statement M
 noted-of-spec =
-    tie.close
-    (tie.spec
-    enum-known-a
-    noted-go-requires
-    enum-told
-    enum-known-a-2
-    enum-told-2
-    returns
-    returns-2
-    returns-3
-    returns-4)
+    tie.close (tie.spec enum-known-a noted-go-requires enum-told enum-known-a-2 enum-told-2 returns returns-2 returns-3 returns-4)

@@ -50,18 +50,5 @@ returns-4 c = search needs
 
 pub number-beside-spec : {M : Type 1} → statement M
 number-beside-spec =
-    tie.close
-    (tie.spec
-    enum-known-a
-    cast-result
-    enum-known-a-2
-    cast-result-2
-    enum-known-a-3
-    cast-result-3
-    enum-known-a-4
-    number-of-requires
-    cast-result-4
-    returns
-    returns-2
-    returns-3
-    returns-4)
+    let first = tie.spec enum-known-a cast-result enum-known-a-2 cast-result-2 enum-known-a-3 cast-result-3 enum-known-a-4 number-of-requires cast-result-4 in
+    tie.close (first returns returns-2 returns-3 returns-4)

@@ -34,12 +34,4 @@ returns-2 c =
 
 pub put-answer-spec : {M : Type 1} → statement M
 put-answer-spec =
-    tie.close
-    (tie.spec
-    write-answer-requires
-    enum-known-next
-    enum-told
-    same-length
-    returns
-    same-length-2
-    returns-2)
+    tie.close (tie.spec write-answer-requires enum-known-next enum-told same-length returns same-length-2 returns-2)

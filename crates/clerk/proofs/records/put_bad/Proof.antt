@@ -33,13 +33,4 @@ returns-2 c = wrote-as (wrote-none (omega arith)) (search bad-noted)
 
 pub put-bad-spec : {M : Type 1} → statement M
 put-bad-spec =
-    tie.close
-    (tie.spec
-    enum-told
-    number-of-requires
-    cast-put-answer
-    put-answer-requires
-    enum-told-2
-    same-length
-    returns
-    returns-2)
+    tie.close (tie.spec enum-told number-of-requires cast-put-answer put-answer-requires enum-told-2 same-length returns returns-2)

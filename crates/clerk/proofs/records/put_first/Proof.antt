@@ -41,16 +41,5 @@ returns-2 c = added-as (c .before .before .put-noted .ensures) (search first-not
 
 pub put-first-spec : {M : Type 1} → statement M
 put-first-spec =
-    tie.close
-    (tie.spec
-    enum-told
-    word-of-requires
-    number-beside-requires
-    put-answer-requires
-    enum-told-2
-    noted-of-requires
-    put-noted-requires
-    same-length
-    returns
-    same-length-2
-    returns-2)
+    let first = tie.spec enum-told word-of-requires number-beside-requires put-answer-requires enum-told-2 noted-of-requires put-noted-requires same-length in
+    tie.close (first returns same-length-2 returns-2)

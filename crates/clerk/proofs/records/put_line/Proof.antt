@@ -32,12 +32,4 @@ returns-2 c =
 
 pub put-line-spec : {M : Type 1} → statement M
 put-line-spec =
-    tie.close
-    (tie.spec
-    write-line-requires
-    enum-known-next
-    enum-told
-    same-length
-    returns
-    same-length-2
-    returns-2)
+    tie.close (tie.spec write-line-requires enum-known-next enum-told same-length returns same-length-2 returns-2)

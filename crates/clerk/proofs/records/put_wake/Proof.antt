@@ -38,15 +38,5 @@ returns-2 c = added-as (c .before .before .put-line .ensures) (search wake-noted
 
 pub put-wake-spec : {M : Type 1} → statement M
 put-wake-spec =
-    tie.close
-    (tie.spec
-    enum-told
-    cast-put-answer
-    put-answer-requires
-    enum-told-2
-    ask-by-requires
-    put-line-requires
-    same-length
-    returns
-    same-length-2
-    returns-2)
+    let first = tie.spec enum-told cast-put-answer put-answer-requires enum-told-2 ask-by-requires put-line-requires same-length returns same-length-2 in
+    tie.close (first returns-2)

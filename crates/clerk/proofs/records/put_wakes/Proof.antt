@@ -78,19 +78,5 @@ returns-2 c =
 
 pub put-wakes-spec : {M : Type 1} → statement M
 put-wakes-spec =
-    tie.close
-    (tie.spec
-    Inv-loop
-    μ-loop
-    loop-holds
-    array-read-wake-at
-    cast-wake-at
-    wake-at-requires
-    put-wake-requires
-    add-i
-    loop-less
-    loop-again
-    same-length
-    returns
-    same-length-2
-    returns-2)
+    let first = tie.spec Inv-loop μ-loop loop-holds array-read-wake-at cast-wake-at wake-at-requires put-wake-requires add-i loop-less loop-again in
+    tie.close (first same-length returns same-length-2 returns-2)

@@ -46,15 +46,5 @@ returns-2 c =
 
 pub answer-line-spec : {M : Type 1} → statement M
 answer-line-spec =
-    tie.close
-    (tie.spec
-    reading-of-requires
-    enum-known-letter
-    step-for-requires
-    put-records-requires
-    enum-told
-    put-bad-requires
-    same-length
-    returns
-    same-length-2
-    returns-2)
+    let first = tie.spec reading-of-requires enum-known-letter step-for-requires put-records-requires enum-told put-bad-requires same-length returns in
+    tie.close (first same-length-2 returns-2)

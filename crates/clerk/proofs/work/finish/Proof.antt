@@ -50,12 +50,4 @@ returns-3 c =
 
 pub finish-spec : {M : Type 1} → statement M
 finish-spec =
-    tie.close
-    (tie.spec
-    is-owing-requires
-    returns
-    has-room-requires
-    returns-2
-    put-bad-requires
-    same-length
-    returns-3)
+    tie.close (tie.spec is-owing-requires returns has-room-requires returns-2 put-bad-requires same-length returns-3)

@@ -36,13 +36,5 @@ returns-2 c =
 
 pub reading-of-spec : {M : Type 1} → statement M
 reading-of-spec =
-    tie.close
-    (tie.spec
-    sub-read-request
-    part-read-request-start
-    part-read-request-end
-    read-request-requires
-    returns
-    slice-aggregate-read-request
-    read-request-requires-2
-    returns-2)
+    let first = tie.spec sub-read-request part-read-request-start part-read-request-end read-request-requires returns slice-aggregate-read-request in
+    tie.close (first read-request-requires-2 returns-2)

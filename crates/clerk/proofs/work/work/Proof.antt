@@ -92,20 +92,5 @@ returns-2 c =
 
 pub work-spec : {M : Type 1} → statement M
 work-spec =
-    tie.close
-    (tie.spec
-    Inv-loop
-    μ-loop
-    loop-holds
-    has-room-requires
-    cut-requires
-    is-due-requires
-    answer-line-requires
-    loop-less
-    loop-again
-    loop-less-2
-    loop-again-2
-    same-length
-    returns
-    same-length-2
-    returns-2)
+    let first = tie.spec Inv-loop μ-loop loop-holds has-room-requires cut-requires is-due-requires answer-line-requires loop-less loop-again loop-less-2 in
+    tie.close (first loop-again-2 same-length returns same-length-2 returns-2)

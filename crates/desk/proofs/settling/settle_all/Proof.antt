@@ -66,15 +66,4 @@ returns c =
 
 pub settle-all-spec : {M : Type 1} → statement M
 settle-all-spec =
-    tie.close
-    (tie.spec
-    Inv-loop
-    μ-loop
-    wanted-cells-requires
-    loop-holds
-    array-read-if1
-    settle-cell-requires
-    add-c
-    loop-less
-    loop-again
-    returns)
+    tie.close (tie.spec Inv-loop μ-loop wanted-cells-requires loop-holds array-read-if1 settle-cell-requires add-c loop-less loop-again returns)

@@ -108,24 +108,5 @@ returns-2 c =
 
 pub settle-cell-spec : {M : Type 1} → statement M
 settle-cell-spec =
-    tie.close
-    (tie.spec
-    Inv-loop
-    μ-loop
-    loop-holds
-    front-grant-requires
-    enum-told
-    returns
-    enum-known-p
-    code-of-requires
-    mul-held
-    add-held
-    element-write-held
-    element-write-status
-    cast-woken
-    element-write-woken
-    add-k
-    add-n
-    loop-less
-    loop-again
-    returns-2)
+    let first = tie.spec Inv-loop μ-loop loop-holds front-grant-requires enum-told returns enum-known-p code-of-requires mul-held add-held in
+    tie.close (first element-write-held element-write-status cast-woken element-write-woken add-k add-n loop-less loop-again returns-2)

@@ -59,20 +59,5 @@ returns-7 c = rw (c .enum-told4 .given .1)
 
 pub answer-to-spec : {M : Type 1} → statement M
 answer-to-spec =
-    tie.close
-    (tie.spec
-    enum-known-m
-    enum-known-m-2
-    enum-told
-    enum-told-2
-    enum-told-3
-    enum-known-m-3
-    answer-after-requires
-    enum-told-4
-    returns
-    returns-2
-    returns-3
-    returns-4
-    returns-5
-    returns-6
-    returns-7)
+    let first = tie.spec enum-known-m enum-known-m-2 enum-told enum-told-2 enum-told-3 enum-known-m-3 answer-after-requires enum-told-4 returns returns-2 in
+    tie.close (first returns-3 returns-4 returns-5 returns-6 returns-7)

@@ -154,39 +154,7 @@ returns-7 c =
 
 pub step-for-spec : {M : Type 1} → statement M
 step-for-spec =
-    tie.close
-    (tie.spec
-    sized-requires
-    plan-for-requires
-    answer-to-requires
-    enum-told
-    enum-known-m
-    cast-next
-    add-next
-    mul-number
-    element-write-number
-    element-write-status
-    enum-told-2
-    enum-known-m-2
-    code-of-requires
-    mul-held
-    add-held
-    element-write-held
-    enum-known-m-3
-    element-write-status-2
-    cast-at
-    element-write-at
-    ask-code-requires
-    element-write-ask
-    enum-known-m-4
-    end-run-requires
-    leave-place-requires
-    enum-told-3
-    status-retried-requires
-    returns
-    returns-2
-    returns-3
-    returns-4
-    returns-5
-    returns-6
-    returns-7)
+    let first = tie.spec sized-requires plan-for-requires answer-to-requires enum-told enum-known-m cast-next add-next mul-number element-write-number in
+    let second = first element-write-status enum-told-2 enum-known-m-2 code-of-requires mul-held add-held element-write-held enum-known-m-3 in
+    let third = second element-write-status-2 cast-at element-write-at ask-code-requires element-write-ask enum-known-m-4 end-run-requires in
+    tie.close (third leave-place-requires enum-told-3 status-retried-requires returns returns-2 returns-3 returns-4 returns-5 returns-6 returns-7)

@@ -61,18 +61,5 @@ returns-2 c =
 
 pub tell-spec : {M : Type 1} → statement M
 tell-spec =
-    tie.close
-    (tie.spec
-    Inv-loop
-    μ-loop
-    loop-holds
-    returns
-    array-read-wake-at
-    cast-wake-at
-    wake-at-requires
-    mul-wakes
-    array-set-from-wakes
-    add-i
-    loop-less
-    loop-again
-    returns-2)
+    let first = tie.spec Inv-loop μ-loop loop-holds returns array-read-wake-at cast-wake-at wake-at-requires mul-wakes array-set-from-wakes add-i loop-less in
+    tie.close (first loop-again returns-2)

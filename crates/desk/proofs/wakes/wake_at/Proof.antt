@@ -48,17 +48,5 @@ returns-2 c =
 
 pub wake-at-spec : {M : Type 1} → statement M
 wake-at-spec =
-    tie.close
-    (tie.spec
-    sized-requires
-    element-copy-out-ask-of
-    ask-of-requires
-    recorded-kind-requires
-    mul-t14
-    element-copy-out-t17
-    element-copy-out-wide
-    wide-requires
-    returns
-    ask-of-requires-2
-    recorded-kind-requires-2
-    returns-2)
+    let first = tie.spec sized-requires element-copy-out-ask-of ask-of-requires recorded-kind-requires mul-t14 element-copy-out-t17 element-copy-out-wide in
+    tie.close (first wide-requires returns ask-of-requires-2 recorded-kind-requires-2 returns-2)

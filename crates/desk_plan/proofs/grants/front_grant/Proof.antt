@@ -40,15 +40,5 @@ returns-4 c =
 
 pub front-grant-spec : {M : Type 1} → statement M
 front-grant-spec =
-    tie.close
-    (tie.spec
-    returns
-    sized-requires
-    front-of-requires
-    returns-2
-    element-copy-out-ask-of
-    ask-of-requires
-    wanted-mode-requires
-    agrees-requires
-    returns-3
-    returns-4)
+    let first = tie.spec returns sized-requires front-of-requires returns-2 element-copy-out-ask-of ask-of-requires wanted-mode-requires agrees-requires in
+    tie.close (first returns-3 returns-4)

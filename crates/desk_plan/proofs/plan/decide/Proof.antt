@@ -37,14 +37,5 @@ returns-3 c =
 
 pub decide-spec : {M : Type 1} → statement M
 decide-spec =
-    tie.close
-    (tie.spec
-    mode-at-requires
-    needed-mode-requires
-    mode-covers-requires
-    returns
-    mode-is-free-requires
-    enter-requires
-    returns-2
-    promote-requires
-    returns-3)
+    let first = tie.spec mode-at-requires needed-mode-requires mode-covers-requires returns mode-is-free-requires enter-requires returns-2 promote-requires in
+    tie.close (first returns-3)

@@ -77,26 +77,6 @@ returns-6 c = rw (c .before .before .letter .given .1) (c .ask-move .ensures)
 
 pub plan-for-spec : {M : Type 1} → statement M
 plan-for-spec =
-    tie.close
-    (tie.spec
-    sized-requires
-    enum-told
-    enum-told-2
-    begin-move-requires
-    enum-told-3
-    find-requires
-    commit-move-requires
-    enum-told-4
-    find-requires-2
-    give-up-move-requires
-    enum-told-5
-    find-requires-3
-    retry-move-requires
-    enum-known-letter
-    ask-move-requires
-    returns
-    returns-2
-    returns-3
-    returns-4
-    returns-5
-    returns-6)
+    let first = tie.spec sized-requires enum-told enum-told-2 begin-move-requires enum-told-3 find-requires commit-move-requires enum-told-4 in
+    let second = first find-requires-2 give-up-move-requires enum-told-5 find-requires-3 retry-move-requires enum-known-letter ask-move-requires returns in
+    tie.close (second returns-2 returns-3 returns-4 returns-5 returns-6)

@@ -32,12 +32,4 @@ returns-3 c =
 
 pub promote-spec : {M : Type 1} → statement M
 promote-spec =
-    tie.close
-    (tie.spec
-    alone-requires
-    needed-mode-requires
-    asked-mode-requires
-    returns
-    older-than-holders-requires
-    returns-2
-    returns-3)
+    tie.close (tie.spec alone-requires needed-mode-requires asked-mode-requires returns older-than-holders-requires returns-2 returns-3)

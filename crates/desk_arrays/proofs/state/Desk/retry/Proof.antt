@@ -69,19 +69,5 @@ returns-4 c =
 
 pub retry-spec : {M : Type 1} → statement M
 retry-spec =
-    tie.close
-    (tie.spec
-    Inv-loop
-    μ-loop
-    returns
-    loop-holds
-    mul-if2
-    element-copy-out-if2
-    element-copy-out-if3
-    element-write-self
-    returns-2
-    returns-3
-    add-p
-    loop-less
-    loop-again
-    returns-4)
+    let first = tie.spec Inv-loop μ-loop returns loop-holds mul-if2 element-copy-out-if2 element-copy-out-if3 element-write-self returns-2 returns-3 add-p in
+    tie.close (first loop-less loop-again returns-4)
