@@ -1,29 +1,25 @@
 -- A cell that nobody holds: every mode agrees with what the places hold on it.
 -- Assumes nothing.
-use Prim.Native.Nat.{ℕ, _<_}
-use mathlib.Core.Path.{_≡_, refl}
+use Prim.Native.Nat.{ℕ}
+use mathlib.Core.Path.{_≡_, refl, ap, _∙_}
 use mathlib.Core.Bool.{Bool, true, false, _||_}
 use mathlib.Core.List.{List}
 use lib.Dec.{eqb}
 use lib.ListN.{getD}
 use borrow.Author.Tests.{eqb-true}
-use Rattle.laws.specs.Choice.{by-test}
 use Rattle.terms.specs.Limits.{places}
 use Rattle.conflict.specs.declared.modes.Mode.{Mode}
-use Rattle.conflict.specs.declared.modes.Mode.the-variants.{Free, S, X, I}
-use Rattle.conflict.specs.Modes.{beside, grants, codeOf, modeOf}
+use Rattle.conflict.specs.Modes.{grants, modeOf}
+use Rattle.conflict.proofs.ModeLaws.{grants-free}
+use Rattle.conflict.proofs.ModeCodes.{mode-zero}
 use Rattle.desk_arrays.specs.Places.{spot, modeAt, agreesAt}
 use Rattle.desk_arrays.proofs.EveryPlace.{all-each, each-all}
 use Rattle.desk_plan.specs.Grants.{noneHolds}
 
 -- beside nothing every mode is granted
 beside-nothing : (b : Bool) (m : Mode) → (b || grants (modeOf 0) m) ≡ true
-unfolding grants beside modeOf codeOf
 beside-nothing true m = refl
-beside-nothing false Free = refl
-beside-nothing false S = refl
-beside-nothing false X = refl
-beside-nothing false I = refl
+beside-nothing false m = ap (λ n. grants n m) mode-zero ∙ grants-free m
 
 -- where nobody holds the cell, every mode agrees with every other holder (01, rule 3)
 pub unheld-agrees : (held : List ℕ) (c p : ℕ) (m : Mode) → noneHolds held c ≡ true → agreesAt held c p m ≡ true

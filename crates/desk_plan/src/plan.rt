@@ -22,7 +22,6 @@ use desk_arrays::moves::Standing;
 use desk_arrays::state::SPOTS;
 use terms::letters::Ask;
 use terms::letters::Letter;
-use terms::letters::Lettered;
 use terms::limits::CELLS;
 use terms::limits::LAST_NUMBER;
 use terms::limits::PLACES;

@@ -4,7 +4,7 @@ use borrow.Author.Needs.{needs}
 use mathlib.Core.Path.{refl, sym}
 use mathlib.Core.List.{[]}
 use Rattle.laws.specs.Choice.{was-true}
-use Rattle.desk.specs.InPlace.{laid, Reached}
+use Rattle.desk.specs.InPlace.{laid}
 use Rattle.desk.proofs.Cells.{reached-as, none-settled}
 use Rattle.desk.proofs.settling.settle.Statement.{statement}
 use Rattle.desk.proofs.settling.settle.Tie as tie
