@@ -4,8 +4,11 @@ ghost use Rattle.conflict.specs.Schedule.{agree, conflicts};
 
 // The kinds of action that a history records.
 pub enum Kind {
+    // r
     Read,
+    // w
     Write,
+    // i
     Increment,
 }
 
@@ -18,14 +21,19 @@ pub struct Action {
 
 // What ends a run: c, a or k in a history.
 pub enum Mark {
+    // c: for good, and what was done counts
     Commit,
+    // a: for good
     GiveUp,
+    // k: the job may come again
     Back,
 }
 
 // One line of a history.
 pub enum Event {
+    // a job does something
     Does(Action),
+    // a job's run ends
     Ends(Mark, u32),
 }
 

@@ -27,7 +27,7 @@ use Rattle.desk_arrays.specs.declared.moves.Move.the-variants.{Refuse, Begin, K
 use Rattle.desk_arrays.specs.Codes.{runningCode, waitingCode, sentBackCode, askCode}
 use Rattle.desk_arrays.specs.Places.{spot}
 use Rattle.desk_arrays.specs.Moves.{statusOf, moveFor}
-use Rattle.desk_arrays.specs.Steps.{deskOf, withStatus, withHeld, begun, holding, waitingFor, retried, retriedJob, codeAfter, numbersAfter, settled, ended, carried, answerTo, saying, performed, moveOf, stepOf}
+use Rattle.desk_arrays.specs.Steps.{deskOf, withStatus, withHeld, begun, withMode, waitingFor, retried, retriedJob, codeAfter, numbersAfter, settled, ended, carried, answerTo, saying, performed, moveOf, stepOf}
 use Rattle.desk_plan.specs.Fits.{Fits}
 use Rattle.desk_plan.proofs.Fitting.{plan-fits}
 use Rattle.desk.specs.InPlace.{laid, Reached, wokenBy, StepsTo}
@@ -92,7 +92,7 @@ module _ (d : Desk) (l : List ℕ) (kind job c : ℕ) {letter : Lettered} (of-ki
 
     -- the place has the mode
     pub taken : {p code : ℕ} {mode : Mode} → m ≡ Take p mode → code ≡ codeOf mode → StepsTo d l kind job c (withHeld d (set (d .held) (spot c p) code)) l (record { answer = a; count = 0 })
-    unfolding carried holding laid
+    unfolding carried withMode laid
     taken e h = steps (rw (e, h)) (rw e) (rw e)
 
     -- the place waits

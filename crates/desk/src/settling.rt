@@ -4,6 +4,7 @@ use desk_arrays::codes::FREE;
 use desk_arrays::codes::RUNNING;
 use desk_arrays::codes::SENT_BACK;
 use desk_arrays::moves::Ending;
+use desk_arrays::state::ROWS;
 use desk_arrays::state::SPOTS;
 use desk_plan::grants::Grant;
 use desk_plan::grants::front_grant;
@@ -18,14 +19,15 @@ ghost use Rattle.desk_arrays.specs.Places.{waiters};
 ghost use Rattle.desk_arrays.specs.Settling.{droppedBy, settleCell, settleAll};
 ghost use Rattle.desk_arrays.specs.Steps.{deskOf, codeAfter, settled};
 ghost use Rattle.desk.specs.InPlace.{Reached};
+ghost use Rattle.terms.specs.Limits.{cells, places};
 
 // A place drops all its locks.
 fn drop_locks(held: &mut [u8; SPOTS], p: usize)
-    requires { ⌜ p < 32 ⌝ }
-    ensures { λ r. ⌜ now (held .exit) ≡ droppedBy (now (held .entry)) p 64 ⌝ }
+    requires { ⌜ p < places ⌝ }
+    ensures { λ r. ⌜ now (held .exit) ≡ droppedBy (now (held .entry)) p cells ⌝ }
 {
     let mut c: usize = 0;
-    while c < 64 {
+    while c < ROWS {
         held[c * PLACES + p] = 0;
         c += 1;
     }
@@ -42,8 +44,8 @@ fn settle_cell<'a>(
     count: usize,
     c: usize,
 ) -> usize
-    requires { ⌜ (c < 64) × (count + waiters (now status) 32 ≤ 32) × (length (now woken) ≡ 32) ⌝ }
-    ensures { λ r. ⌜ Reached (settleCell (now (number .entry)) (now (cell .entry)) (now (ask .entry)) c 32 (record { held = now (held .entry); status = now (status .entry); woken = take count (now (woken .entry)) })) (now (woken .entry)) (now (held .exit)) (now (status .exit)) (now (woken .exit)) r ⌝ }
+    requires { ⌜ (c < cells) × (count + waiters (now status) places ≤ places) × (length (now woken) ≡ places) ⌝ }
+    ensures { λ r. ⌜ Reached (settleCell (now (number .entry)) (now (cell .entry)) (now (ask .entry)) c places (record { held = now (held .entry); status = now (status .entry); woken = take count (now (woken .entry)) })) (now (woken .entry)) (now (held .exit)) (now (status .exit)) (now (woken .exit)) r ⌝ }
 {
     let mut k = count;
     let mut n: usize = 0;
@@ -73,13 +75,13 @@ fn settle_all<'a>(
     cell: &'a [u8; PLACES],
     ask: &'a [u8; PLACES],
 ) -> usize
-    requires { ⌜ length (now woken) ≡ 32 ⌝ }
-    ensures { λ r. ⌜ Reached (settleAll (now (number .entry)) (now (cell .entry)) (now (ask .entry)) 64 (record { held = now (held .entry); status = now (status .entry); woken = [] })) (now (woken .entry)) (now (held .exit)) (now (status .exit)) (now (woken .exit)) r ⌝ }
+    requires { ⌜ length (now woken) ≡ places ⌝ }
+    ensures { λ r. ⌜ Reached (settleAll (now (number .entry)) (now (cell .entry)) (now (ask .entry)) cells (record { held = now (held .entry); status = now (status .entry); woken = [] })) (now (woken .entry)) (now (held .exit)) (now (status .exit)) (now (woken .exit)) r ⌝ }
 {
     let cells = wanted_cells(status, cell);
     let mut k: usize = 0;
     let mut c: usize = 0;
-    while c < 64 {
+    while c < ROWS {
         if cells[c] {
             k = settle_cell(held, status, woken, number, cell, ask, k, c);
         }
@@ -97,8 +99,8 @@ fn settle<'a>(
     cell: &'a [u8; PLACES],
     ask: &'a [u8; PLACES],
 ) -> usize
-    requires { ⌜ length (now woken) ≡ 32 ⌝ }
-    ensures { λ r. ⌜ Reached (settleAll (now (number .entry)) (now (cell .entry)) (now (ask .entry)) 64 (record { held = now (held .entry); status = now (status .entry); woken = [] })) (now (woken .entry)) (now (held .exit)) (now (status .exit)) (now (woken .exit)) r ⌝ }
+    requires { ⌜ length (now woken) ≡ places ⌝ }
+    ensures { λ r. ⌜ Reached (settleAll (now (number .entry)) (now (cell .entry)) (now (ask .entry)) cells (record { held = now (held .entry); status = now (status .entry); woken = [] })) (now (woken .entry)) (now (held .exit)) (now (status .exit)) (now (woken .exit)) r ⌝ }
 {
     if none_waits(status) {
         return 0;
@@ -127,7 +129,7 @@ pub fn end_run<'a>(
     p: usize,
     e: Ending,
 ) -> usize
-    requires { ⌜ (p < 32) × (length (now woken) ≡ 32) ⌝ }
+    requires { ⌜ (p < places) × (length (now woken) ≡ places) ⌝ }
     ensures { λ r. ⌜ Reached (settled (deskOf 0 (now (number .entry)) (now (status .entry)) (now (cell .entry)) (now (ask .entry)) (now (held .entry))) p (codeAfter e)) (now (woken .entry)) (now (held .exit)) (now (status .exit)) (now (woken .exit)) r ⌝ }
 {
     status[p] = code_after(e);

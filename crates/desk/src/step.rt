@@ -25,6 +25,7 @@ ghost use lib.ListN.{length};
 ghost use Rattle.terms.specs.Letters.{byteOf};
 ghost use Rattle.desk_arrays.specs.Steps.{deskOf, retriedJob, numbersAfter, answerAfter, answerTo, stepOf};
 ghost use Rattle.desk.specs.InPlace.{StepsTo};
+ghost use Rattle.terms.specs.Limits.{places};
 
 // The answer that tells how a run has ended.
 fn answer_after(e: Ending, job: u32) -> Answer
@@ -53,7 +54,7 @@ fn answer_to(m: Move, job: u32) -> Answer
 
 // A job that is closed frees its place, and one that is sent back keeps it.
 fn leave_place(number: &mut [u32; PLACES], p: usize, e: Ending)
-    requires { ⌜ p < 32 ⌝ }
+    requires { ⌜ p < places ⌝ }
     ensures { λ r. ⌜ now (number .exit) ≡ numbersAfter e (now (number .entry)) p ⌝ }
 {
     match e {
@@ -74,7 +75,7 @@ fn status_retried(d: Desk, job: u32) -> [u8; PLACES]
 
 // A list of as many places as there are: what a lent array does not say of itself.
 fn sized(status: [u8; PLACES], woken: [u8; PLACES]) -> bool
-    ensures { λ r. ⌜ (length status ≡ 32) × (length woken ≡ 32) ⌝ }
+    ensures { λ r. ⌜ (length status ≡ places) × (length woken ≡ places) ⌝ }
 {
     true
 }

@@ -8,10 +8,11 @@ ghost use mathlib.Core.Path.{_≡_};
 ghost use mathlib.Core.List.{map};
 ghost use lib.ListN.{length, take};
 ghost use Rattle.desk_arrays.specs.Steps.{wakeAt, listed};
+ghost use Rattle.terms.specs.Limits.{places};
 
 // Numbers, cells and what was asked, of as many places as there are: what a lent array does not say of itself.
 fn sized(number: [u32; PLACES], cell: [u8; PLACES], ask: [u8; PLACES]) -> bool
-    ensures { λ r. ⌜ (length number ≡ 32) × (length cell ≡ 32) × (length ask ≡ 32) ⌝ }
+    ensures { λ r. ⌜ (length number ≡ places) × (length cell ≡ places) × (length ask ≡ places) ⌝ }
 {
     true
 }

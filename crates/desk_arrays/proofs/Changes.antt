@@ -16,7 +16,7 @@ use Rattle.desk_rules.proofs.Tests.{at-all}
 use Rattle.desk_arrays.specs.declared.state.Desk.{Desk}
 use Rattle.desk_arrays.specs.Codes.{freeCode, runningCode, waitingCode, askCode}
 use Rattle.desk_arrays.specs.Places.{spot, modeAt}
-use Rattle.desk_arrays.specs.Steps.{holding, waitingFor, retried}
+use Rattle.desk_arrays.specs.Steps.{withMode, waitingFor, retried}
 use Rattle.desk_arrays.specs.Stands.{statusFor, statusAt, statusBy, modeBy, Plain, Stands}
 use Rattle.desk_arrays.proofs.Seats.{Seat, seat-below, seat-taken}
 use Rattle.desk_arrays.proofs.ByNumber.{same-number, at-number}
@@ -34,13 +34,13 @@ module _ {d : Desk} (q : ℕ → List Waiter) (plain : Plain d) {j p : ℕ} (sea
   free-after code r l e = getD-set-other (d .status) p r code 0 (seat-taken seat r e) ∙ plain .free-status r l e
 
   -- a mode is taken
-  pub holding-stands : (c : ℕ) (m : Mode) → c < cells → Stands (holding d p c m) (grant (paperOf d q) j c m .desk)
-  unfolding holding grant withRow statusBy modeBy
+  pub holding-stands : (c : ℕ) (m : Mode) → c < cells → Stands (withMode d p c m) (grant (paperOf d q) j c m .desk)
+  unfolding withMode grant withRow statusBy modeBy
   holding-stands c m b = record {
     next = refl;
     jobs = refl;
     stat = λ i. refl;
-    held = λ e i. at-all (λ e r. r .held i ≡ modeBy (holding d p c m) e i) (paperOf d q .row) c (record { held = at (modeBy d c) j m; queue = q c })
+    held = λ e i. at-all (λ e r. r .held i ≡ modeBy (withMode d p c m) e i) (paperOf d q .row) c (record { held = at (modeBy d c) j m; queue = q c })
         (sym (at-number Free (d .number) (modeAt (d .held) c) (modeAt (set (d .held) (spot c p) (codeOf m)) c) m seat (λ r _. set-mode (d .held) c p m spotted r) i))
         (λ e n. sym (same-number Free (d .number) (modeAt (d .held) e) (modeAt (set (d .held) (spot c p) (codeOf m)) e) (λ r l. set-cell (d .held) c p (codeOf m) e r below (subst (λ x. r < x) (plain .numbers) l) n) i)) e;
     plain = record {

@@ -62,8 +62,8 @@ unfoldable pub begun : Desk → ℕ → ℕ → Desk
 begun d p n = withStatus (withNumbers d (n + 1) (set (d .number) p n)) (set (d .status) p runningCode)
 
 -- place p has the mode on the cell (01, rules 2 and 3)
-unfoldable pub holding : Desk → ℕ → ℕ → Mode → Desk
-holding d p c m = withHeld d (set (d .held) (spot c p) (codeOf m))
+unfoldable pub withMode : Desk → ℕ → ℕ → Mode → Desk
+withMode d p c m = withHeld d (set (d .held) (spot c p) (codeOf m))
 
 -- place p waits for the cell, with what was asked (01, rules 2 and 3)
 unfoldable pub waitingFor : Desk → ℕ → ℕ → Ask → Desk
@@ -121,7 +121,7 @@ unfoldable pub carried : Desk → ℕ → ℕ → Move → Left
 carried d job c (Refuse why) = quietly d
 carried d job c (Begin p n) = quietly (begun d p n)
 carried d job c Keep = quietly d
-carried d job c (Take p m) = quietly (holding d p c m)
+carried d job c (Take p m) = quietly (withMode d p c m)
 carried d job c (Stay p a) = quietly (waitingFor d p c a)
 carried d job c (End p e) = ended d p e
 carried d job c Retry = quietly (retriedJob d job)

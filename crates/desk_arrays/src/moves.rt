@@ -5,25 +5,36 @@ use terms::refusals::Refusal;
 
 // How a run ends: the job is closed, or it is sent back.
 pub enum Ending {
+    // by commit or give-up: the place is free
     Closed,
+    // by the desk: the job keeps its number and its place
     SentBack,
 }
 
 // What a step is to do: refuse, open a place for a new number, let the job go as it is, give it a mode, let it wait,
 // end the run at a place, or let the job run again.
 pub enum Move {
+    // nothing, and why
     Refuse(Refusal),
+    // a place gets a number, and runs
     Begin(usize, u32),
+    // nothing: the job has what it needs
     Keep,
+    // a place gets a mode on the cell
     Take(usize, Mode),
+    // a place waits for the cell, with what was asked
     Stay(usize, Ask),
+    // the run at a place ends
     End(usize, Ending),
+    // the job runs again
     Retry,
 }
 
 // Whether a job may make a request that only a running job may make.
 pub enum Standing {
+    // it may
     Runs,
+    // it may not, and why
     Against(Refusal),
 }
 

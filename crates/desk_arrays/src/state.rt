@@ -10,8 +10,10 @@ ghost use mathlib.Core.Path.{_≡_};
 ghost use Rattle.desk_arrays.specs.declared.state.Start.the-variants.{Ready};
 ghost use Rattle.desk_arrays.specs.Steps.{emptyDesk, startOf, retriedJob};
 
+// So many rows of modes: one for each cell.
+pub const ROWS: usize = CELLS as usize;
 // So many modes: of every place on every cell.
-pub const SPOTS: usize = CELLS as usize * PLACES;
+pub const SPOTS: usize = ROWS * PLACES;
 
 // The desk: the next number; for each of the places the job's number, 0 where the place is free, what it is doing, and what it waits for;
 // and for each cell and place the mode that is held.
@@ -45,7 +47,9 @@ pub struct Outcome {
 
 // A desk that was started, or why there is none.
 pub enum Start {
+    // started
     Ready(Desk),
+    // not started: 10
     Refused(Refusal),
 }
 

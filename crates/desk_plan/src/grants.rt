@@ -9,6 +9,7 @@ use conflict::modes::asked_mode;
 use conflict::modes::needed_mode;
 use desk_arrays::codes::WAITING;
 use desk_arrays::codes::ask_of;
+use desk_arrays::state::ROWS;
 use desk_arrays::state::SPOTS;
 use terms::letters::Ask;
 use terms::limits::PLACES;
@@ -16,6 +17,7 @@ ghost use Prim.Native.Nat.{_<_};
 ghost use mathlib.Core.Path.{_≡_};
 ghost use Rattle.desk_arrays.specs.Places.{wantsAt};
 ghost use Rattle.desk_plan.specs.Grants.{noneWaits, wanted, nextGrant};
+ghost use Rattle.terms.specs.Limits.{cells, places};
 
 // Who is granted next: nobody, or a place, with the mode that it gets.
 pub enum Grant {
@@ -39,15 +41,15 @@ pub fn none_waits(status: &[u8; PLACES]) -> bool
 }
 
 // The cells that somebody waits for.
-pub fn wanted_cells<'a>(status: &'a [u8; PLACES], cell: &'a [u8; PLACES]) -> [bool; 64]
-    ensures { λ r. ⌜ r ≡ wanted (now (status .entry)) (now (cell .entry)) 32 ⌝ }
+pub fn wanted_cells<'a>(status: &'a [u8; PLACES], cell: &'a [u8; PLACES]) -> [bool; ROWS]
+    ensures { λ r. ⌜ r ≡ wanted (now (status .entry)) (now (cell .entry)) places ⌝ }
 {
-    let mut cells = [false; 64];
+    let mut cells = [false; ROWS];
     let mut q: usize = 0;
     while q < PLACES {
         if status[q] == WAITING {
             let c = wide(cell[q]);
-            if c < 64 {
+            if c < ROWS {
                 cells[c] = true;
             }
         }
@@ -58,7 +60,7 @@ pub fn wanted_cells<'a>(status: &'a [u8; PLACES], cell: &'a [u8; PLACES]) -> [bo
 
 // The mode that a place asks for on a cell.
 fn wanted_mode(held: &[u8; SPOTS], c: usize, p: usize, a: Ask) -> Mode
-    requires { ⌜ (c < 64) × (p < 32) ⌝ }
+    requires { ⌜ (c < cells) × (p < places) ⌝ }
     ensures { λ r. ⌜ r ≡ wantsAt (now (held .entry)) c p a ⌝ }
 {
     asked_mode(mode_at(held, c, p), needed_mode(a))
@@ -75,7 +77,7 @@ pub fn front_grant<'a>(
 ) -> Grant
     ensures { λ r. ⌜ r ≡ nextGrant (now (number .entry)) (now (status .entry)) (now (cell .entry)) (now (ask .entry)) (now (held .entry)) c ⌝ }
 {
-    if 64 <= c {
+    if ROWS <= c {
         return Grant::Nobody;
     }
     sized(*number, *status);

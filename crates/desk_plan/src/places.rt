@@ -16,17 +16,18 @@ ghost use Rattle.laws.specs.Lists.{pos};
 ghost use Rattle.conflict.specs.Modes.{grants, isFree};
 ghost use Rattle.desk_plan.specs.Grants.{noneHolds};
 ghost use Rattle.desk_arrays.specs.Places.{modeAt, agreesAt, aloneAt, olderAt, waitsAt, nobodyWaits, oldestOf, youngest};
+ghost use Rattle.terms.specs.Limits.{cells, places};
 
 // Numbers and statuses of as many places as there are: what a lent array does not say of itself.
 pub fn sized(number: [u32; PLACES], status: [u8; PLACES]) -> bool
-    ensures { λ r. ⌜ (length number ≡ 32) × (length status ≡ 32) ⌝ }
+    ensures { λ r. ⌜ (length number ≡ places) × (length status ≡ places) ⌝ }
 {
     true
 }
 
 // The place of a job, or 32; the first free place is that of job 0.
 pub fn place_of(number: &[u32; PLACES], job: u32) -> usize
-    requires { ⌜ length (now number) ≡ 32 ⌝ }
+    requires { ⌜ length (now number) ≡ places ⌝ }
     ensures { λ r. ⌜ r ≡ pos (now (number .entry)) job ⌝ }
 {
     let mut p: usize = 0;
@@ -41,7 +42,7 @@ pub fn place_of(number: &[u32; PLACES], job: u32) -> usize
 
 // The mode that a place holds on a cell.
 pub fn mode_at(held: &[u8; SPOTS], c: usize, p: usize) -> Mode
-    requires { ⌜ (c < 64) × (p < 32) ⌝ }
+    requires { ⌜ (c < cells) × (p < places) ⌝ }
     ensures { λ r. ⌜ r ≡ modeAt (now (held .entry)) c p ⌝ }
 {
     mode_of(held[c * PLACES + p])
@@ -49,7 +50,7 @@ pub fn mode_at(held: &[u8; SPOTS], c: usize, p: usize) -> Mode
 
 // Whether a place is the job's own, or what it holds on the cell lets the mode be granted.
 fn grants_at(held: &[u8; SPOTS], c: usize, p: usize, m: Mode, q: usize) -> bool
-    requires { ⌜ (c < 64) × (q < 32) ⌝ }
+    requires { ⌜ (c < cells) × (q < places) ⌝ }
     ensures { λ r. ⌜ r ≡ (eqb q p || grants (modeAt (now (held .entry)) c q) m) ⌝ }
 {
     if q == p {
@@ -60,7 +61,7 @@ fn grants_at(held: &[u8; SPOTS], c: usize, p: usize, m: Mode, q: usize) -> bool
 
 // Whether a mode agrees with what every other place holds on the cell.
 pub fn agrees(held: &[u8; SPOTS], c: usize, p: usize, m: Mode) -> bool
-    requires { ⌜ c < 64 ⌝ }
+    requires { ⌜ c < cells ⌝ }
     ensures { λ r. ⌜ r ≡ agreesAt (now (held .entry)) c p m ⌝ }
 {
     let mut q: usize = 0;
@@ -75,7 +76,7 @@ pub fn agrees(held: &[u8; SPOTS], c: usize, p: usize, m: Mode) -> bool
 
 // Whether nobody holds the cell: every number of its row is that of nothing.
 fn none_holds(held: &[u8; SPOTS], c: usize) -> bool
-    requires { ⌜ c < 64 ⌝ }
+    requires { ⌜ c < cells ⌝ }
     ensures { λ r. ⌜ r ≡ noneHolds (now (held .entry)) c ⌝ }
 {
     let mut none = true;
@@ -91,7 +92,7 @@ fn none_holds(held: &[u8; SPOTS], c: usize) -> bool
 
 // The same; mostly nobody holds the cell, and one look over its row tells so.
 pub fn goes_beside(held: &[u8; SPOTS], c: usize, p: usize, m: Mode) -> bool
-    requires { ⌜ c < 64 ⌝ }
+    requires { ⌜ c < cells ⌝ }
     ensures { λ r. ⌜ r ≡ agreesAt (now (held .entry)) c p m ⌝ }
 {
     if none_holds(held, c) {
@@ -101,8 +102,8 @@ pub fn goes_beside(held: &[u8; SPOTS], c: usize, p: usize, m: Mode) -> bool
 }
 
 // Whether a place is the job's own, or holds nothing on the cell.
-fn leaves_at(held: &[u8; SPOTS], c: usize, p: usize, q: usize) -> bool
-    requires { ⌜ (c < 64) × (q < 32) ⌝ }
+fn no_other_at(held: &[u8; SPOTS], c: usize, p: usize, q: usize) -> bool
+    requires { ⌜ (c < cells) × (q < places) ⌝ }
     ensures { λ r. ⌜ r ≡ (eqb q p || isFree (modeAt (now (held .entry)) c q)) ⌝ }
 {
     if q == p {
@@ -113,12 +114,12 @@ fn leaves_at(held: &[u8; SPOTS], c: usize, p: usize, q: usize) -> bool
 
 // Whether no other place holds the cell.
 pub fn alone(held: &[u8; SPOTS], c: usize, p: usize) -> bool
-    requires { ⌜ c < 64 ⌝ }
+    requires { ⌜ c < cells ⌝ }
     ensures { λ r. ⌜ r ≡ aloneAt (now (held .entry)) c p ⌝ }
 {
     let mut q: usize = 0;
     while q < PLACES {
-        if !leaves_at(held, c, p, q) {
+        if !no_other_at(held, c, p, q) {
             return false;
         }
         q += 1;
@@ -135,10 +136,10 @@ fn older_at<'a>(
     job: u32,
     q: usize,
 ) -> bool
-    requires { ⌜ (c < 64) × (q < 32) ⌝ }
+    requires { ⌜ (c < cells) × (q < places) ⌝ }
     ensures { λ r. ⌜ r ≡ (eqb q p || (isFree (modeAt (now (held .entry)) c q) || ltb job (getD (now (number .entry)) q 0))) ⌝ }
 {
-    if leaves_at(held, c, p, q) {
+    if no_other_at(held, c, p, q) {
         return true;
     }
     job < number[q]
@@ -152,7 +153,7 @@ pub fn older_than_holders<'a>(
     p: usize,
     job: u32,
 ) -> bool
-    requires { ⌜ c < 64 ⌝ }
+    requires { ⌜ c < cells ⌝ }
     ensures { λ r. ⌜ r ≡ olderAt (now (held .entry)) (now (number .entry)) c p job ⌝ }
 {
     let mut q: usize = 0;
@@ -174,7 +175,7 @@ pub fn wide(byte: u8) -> usize
 
 // Whether a place waits for the cell; few places have its number, so that is looked at first.
 pub fn waits_for<'a>(status: &'a [u8; PLACES], cell: &'a [u8; PLACES], c: usize, q: usize) -> bool
-    requires { ⌜ q < 32 ⌝ }
+    requires { ⌜ q < places ⌝ }
     ensures { λ r. ⌜ r ≡ waitsAt (now (status .entry)) (now (cell .entry)) c q ⌝ }
 {
     if wide(cell[q]) == c {
@@ -207,7 +208,7 @@ fn waits_older<'a>(
     job: u32,
     q: usize,
 ) -> bool
-    requires { ⌜ q < 32 ⌝ }
+    requires { ⌜ q < places ⌝ }
     ensures { λ r. ⌜ r ≡ (not (waitsAt (now (status .entry)) (now (cell .entry)) c q) || ltb job (getD (now (number .entry)) q 0)) ⌝ }
 {
     if waits_for(status, cell, c, q) {
@@ -245,7 +246,7 @@ fn waits_above<'a>(
     age: u32,
     q: usize,
 ) -> bool
-    requires { ⌜ q < 32 ⌝ }
+    requires { ⌜ q < places ⌝ }
     ensures { λ r. ⌜ r ≡ (waitsAt (now (status .entry)) (now (cell .entry)) c q && ltb age (getD (now (number .entry)) q 0)) ⌝ }
 {
     if waits_for(status, cell, c, q) {
@@ -261,8 +262,8 @@ pub fn front_of<'a>(
     cell: &'a [u8; PLACES],
     c: usize,
 ) -> usize
-    requires { ⌜ length (now number) ≡ 32 ⌝ }
-    ensures { λ r. ⌜ r ≡ youngest (now (number .entry)) (now (status .entry)) (now (cell .entry)) c 32 ⌝ }
+    requires { ⌜ length (now number) ≡ places ⌝ }
+    ensures { λ r. ⌜ r ≡ youngest (now (number .entry)) (now (status .entry)) (now (cell .entry)) c places ⌝ }
 {
     let mut best: usize = PLACES;
     let mut age: u32 = 0;

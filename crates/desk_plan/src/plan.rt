@@ -33,10 +33,11 @@ ghost use lib.ListN.{length};
 ghost use Rattle.terms.specs.declared.letters.Lettered.the-variants.{Known};
 ghost use Rattle.desk_arrays.specs.Places.{modeAt, nobodyWaits, agreesAt, olderAt, oldestOf};
 ghost use Rattle.desk_arrays.specs.Moves.{foundAt, standingOf, beginMove, commitMove, giveUpMove, retryMove, promotes, enters, decided, askMove, moveFor};
+ghost use Rattle.terms.specs.Limits.{cells, places};
 
 // Where a job stands, and what it is doing: nothing for 0, and for a number that no place has.
 fn find<'a>(number: &'a [u32; PLACES], status: &'a [u8; PLACES], job: u32) -> Found
-    requires { ⌜ (length (now number) ≡ 32) × (length (now status) ≡ 32) ⌝ }
+    requires { ⌜ (length (now number) ≡ places) × (length (now status) ≡ places) ⌝ }
     ensures { λ r. ⌜ r ≡ foundAt (now (number .entry)) (now (status .entry)) job ⌝ }
 {
     let place = place_of(number, job);
@@ -77,7 +78,7 @@ fn may_take<'a>(
     c: usize,
     m: Mode,
 ) -> bool
-    requires { ⌜ c < 64 ⌝ }
+    requires { ⌜ c < cells ⌝ }
     ensures { λ r. ⌜ r ≡ (nobodyWaits (now (status .entry)) (now (cell .entry)) c && agreesAt (now (held .entry)) c p m) ⌝ }
 {
     if nobody_waits(status, cell, c) {
@@ -96,7 +97,7 @@ fn may_wait<'a>(
     c: usize,
     job: u32,
 ) -> bool
-    requires { ⌜ c < 64 ⌝ }
+    requires { ⌜ c < cells ⌝ }
     ensures { λ r. ⌜ r ≡ (olderAt (now (held .entry)) (now (number .entry)) c p job && oldestOf (now (number .entry)) (now (status .entry)) (now (cell .entry)) c job) ⌝ }
 {
     if older_than_holders(held, number, c, p, job) {
@@ -116,7 +117,7 @@ fn enter<'a>(
     job: u32,
     a: Ask,
 ) -> Move
-    requires { ⌜ c < 64 ⌝ }
+    requires { ⌜ c < cells ⌝ }
     ensures { λ r. ⌜ r ≡ enters (now (number .entry)) (now (status .entry)) (now (cell .entry)) (now (held .entry)) p c job a ⌝ }
 {
     let need = needed_mode(a);
@@ -139,7 +140,7 @@ fn promote<'a>(
     a: Ask,
     mine: Mode,
 ) -> Move
-    requires { ⌜ (c < 64) × (mine ≡ modeAt (now held) c p) ⌝ }
+    requires { ⌜ (c < cells) × (mine ≡ modeAt (now held) c p) ⌝ }
     ensures { λ r. ⌜ r ≡ promotes (now (number .entry)) (now (held .entry)) p c job a ⌝ }
 {
     if alone(held, c, p) {
@@ -162,7 +163,7 @@ fn decide<'a>(
     job: u32,
     a: Ask,
 ) -> Move
-    requires { ⌜ (p < 32) × (c < 64) ⌝ }
+    requires { ⌜ (p < places) × (c < cells) ⌝ }
     ensures { λ r. ⌜ r ≡ decided (now (number .entry)) (now (status .entry)) (now (cell .entry)) (now (held .entry)) p c job a ⌝ }
 {
     let mine = mode_at(held, c, p);
@@ -177,7 +178,7 @@ fn decide<'a>(
 
 // Begin: 7, then 6, else the next number at the first free place.
 fn begin_move(next: u64, number: &[u32; PLACES]) -> Move
-    requires { ⌜ length (now number) ≡ 32 ⌝ }
+    requires { ⌜ length (now number) ≡ places ⌝ }
     ensures { λ r. ⌜ r ≡ beginMove next (now (number .entry)) ⌝ }
 {
     if (LAST_NUMBER as u64) < next {
@@ -236,7 +237,7 @@ fn ask_move<'a>(
     c: u32,
     a: Ask,
 ) -> Move
-    requires { ⌜ (length (now number) ≡ 32) × (length (now status) ≡ 32) ⌝ }
+    requires { ⌜ (length (now number) ≡ places) × (length (now status) ≡ places) ⌝ }
     ensures { λ r. ⌜ r ≡ askMove (now (number .entry)) (now (status .entry)) (now (cell .entry)) (now (held .entry)) job c a ⌝ }
 {
     let f = find(number, status, job);

@@ -6,6 +6,7 @@ use mathlib.Core.List.{List}
 use lib.Dec.{eqb, ltb, leb}
 use lib.ListN.{getD}
 use Rattle.laws.specs.Choice.{pick}
+use Rattle.judge_core.specs.Sizes.{slots}
 
 -- whether job j has a c among the first n lines
 unfoldable pub hasCommit : List ℕ → List ℕ → ℕ → ℕ → Bool
@@ -27,5 +28,5 @@ ownersBy codes jobs since n p = pick (ltb p n) (ownerAt codes jobs since p) 0
 
 -- the jobs of the first n lines are 1 to 255 (01, refusal 12)
 pub record ByteJobs (jobs : List ℕ) (n : ℕ) : Type 0 where
-  pub bytes : (p : ℕ) → p < n → getD jobs p 0 < 256
+  pub bytes : (p : ℕ) → p < n → getD jobs p 0 < slots
   pub given : (p : ℕ) → p < n → getD jobs p 0 ≡ 0 → ⊥

@@ -22,6 +22,7 @@ use Rattle.judge_core.specs.declared.kept.Fault.{Fault}
 use Rattle.judge_core.specs.declared.kept.Fault.the-variants.{Nothing, Due}
 use Rattle.judge_core.specs.declared.kept.Found.{Found}
 use Rattle.judge_core.specs.declared.kept.Found.the-variants.{Faultless, Faulty}
+use Rattle.judge_core.specs.Sizes.{slots}
 
 -- the job of a line
 unfoldable pub jobOf : Event → ℕ
@@ -82,5 +83,5 @@ dueOf (Due why) = some why
 
 -- flags of jobs 0 to 255 say which have committed or given up
 pub record Flagged (flags : List Bool) (h : History) : Type 0 where
-  pub wide : length flags ≡ 256
-  pub says : (j : ℕ) → j < 256 → getD flags j false ≡ marked endsJob j h
+  pub wide : length flags ≡ slots
+  pub says : (j : ℕ) → j < slots → getD flags j false ≡ marked endsJob j h

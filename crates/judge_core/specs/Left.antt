@@ -5,12 +5,13 @@ use mathlib.Core.List.{List}
 use mathlib.Core.Option.{Option, none, some}
 use lib.ListN.{getD}
 use Rattle.judge_core.specs.Lists.{listed}
+use Rattle.judge_core.specs.Sizes.{slots}
 
 -- the jobs that are left, in ascending order
 unfoldable pub leftOf : List Bool → List ℕ
-leftOf left = listed (λ j. getD left j false) 0 256
+leftOf left = listed (λ j. getD left j false) 0 slots
 
 -- the job found, or one past the largest where there is none
 unfoldable pub orNobody : Option ℕ → ℕ
-orNobody none = 256
+orNobody none = slots
 orNobody (some j) = j

@@ -1,3 +1,4 @@
+pub mod Sizes
 pub mod Lists
 pub mod Counted
 pub mod Meeting

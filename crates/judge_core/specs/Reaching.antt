@@ -11,17 +11,18 @@ use Rattle.conflict.specs.Schedule.{conflicts}
 use Rattle.conflict.specs.Cells.{inSet, canConflict}
 use Rattle.judge_core.specs.Meeting.{actionBy, actionAt, clashing}
 use Rattle.judge_core.specs.Grouped.{partAt, Parted}
+use Rattle.judge_core.specs.Sizes.{slots, keys}
 
 -- the lines that somebody owns are actions, each its owner's, on a cell
 pub record Acting (codes jobs cells owners : List ℕ) (n : ℕ) : Type 0 where
-  pub small : (p : ℕ) → p < n → getD owners p 0 < 256
+  pub small : (p : ℕ) → p < n → getD owners p 0 < slots
   pub job : (p : ℕ) → p < n → (getD owners p 0 ≡ 0 → ⊥) → getD jobs p 0 ≡ getD owners p 0
   pub code : (p : ℕ) → p < n → (getD owners p 0 ≡ 0 → ⊥) → getD codes p 0 < 3
   pub cell : (p : ℕ) → p < n → (getD owners p 0 ≡ 0 → ⊥) → getD cells p 0 < 64
 
 -- each job's set has the cells of the lines of one kind that it owns
 pub record Covered (codes cells owners : List ℕ) (n kind : ℕ) (sets : List ℕ) : Type 0 where
-  pub wide : length sets ≡ 256
+  pub wide : length sets ≡ slots
   pub has : (p : ℕ) → p < n → getD codes p 0 ≡ kind → getD cells p 0 < 64 → inSet (getD sets (getD owners p 0) 0) (getD cells p 0) ≡ true
 
 -- the sets of job j
@@ -34,13 +35,13 @@ lastKey j k c = c * 1024 + j * 4 + k
 
 -- at each place stands one more than the last line of that job, kind and cell, or 0 where there is none; and no line of the job on the cell stands behind the place for any kind
 pub record Lasts (codes cells owners : List ℕ) (n : ℕ) (lasts : List ℕ) : Type 0 where
-  pub wide : length lasts ≡ 65536
+  pub wide : length lasts ≡ keys
   pub far : (p : ℕ) → p < n → (getD owners p 0 ≡ 0 → ⊥) → p < getD lasts (lastKey (getD owners p 0) (getD codes p 0) (getD cells p 0)) 0
   pub any : (p : ℕ) → p < n → (getD owners p 0 ≡ 0 → ⊥) → p < getD lasts (lastKey (getD owners p 0) 3 (getD cells p 0)) 0
-  pub line : (j k c : ℕ) → j < 256 → k < 3 → c < 64 → 0 < getD lasts (lastKey j k c) 0 → getD lasts (lastKey j k c) 0 ≤ n
-  pub owner : (j k c : ℕ) → j < 256 → k < 3 → c < 64 → 0 < getD lasts (lastKey j k c) 0 → getD owners (getD lasts (lastKey j k c) 0 - 1) 0 ≡ j
-  pub code : (j k c : ℕ) → j < 256 → k < 3 → c < 64 → 0 < getD lasts (lastKey j k c) 0 → getD codes (getD lasts (lastKey j k c) 0 - 1) 0 ≡ k
-  pub cell : (j k c : ℕ) → j < 256 → k < 3 → c < 64 → 0 < getD lasts (lastKey j k c) 0 → getD cells (getD lasts (lastKey j k c) 0 - 1) 0 ≡ c
+  pub line : (j k c : ℕ) → j < slots → k < 3 → c < 64 → 0 < getD lasts (lastKey j k c) 0 → getD lasts (lastKey j k c) 0 ≤ n
+  pub owner : (j k c : ℕ) → j < slots → k < 3 → c < 64 → 0 < getD lasts (lastKey j k c) 0 → getD owners (getD lasts (lastKey j k c) 0 - 1) 0 ≡ j
+  pub code : (j k c : ℕ) → j < slots → k < 3 → c < 64 → 0 < getD lasts (lastKey j k c) 0 → getD codes (getD lasts (lastKey j k c) 0 - 1) 0 ≡ k
+  pub cell : (j k c : ℕ) → j < slots → k < 3 → c < 64 → 0 < getD lasts (lastKey j k c) 0 → getD cells (getD lasts (lastKey j k c) 0 - 1) 0 ≡ c
 
 -- the lines ys are actions of job j, and the last of each kind on each cell stands in the table
 pub record Reach (codes jobs cells lasts : List ℕ) (j : ℕ) (ys : List ℕ) : Type 0 where
@@ -69,5 +70,5 @@ Masked codes jobs cells mask xs ys = (x y : ℕ) → member x xs ≡ true → me
 pub record Worked (codes jobs cells : List ℕ) (done : List Bool) (lines starts lasts reads writes increments : List ℕ) : Type 0 where
   pub parts : Parted lines starts
   pub idle : getD done 0 false ≡ false
-  pub reach : (j : ℕ) → j < 256 → (j ≡ 0 → ⊥) → Reach codes jobs cells lasts j (partAt lines starts j)
-  pub masks : (i j m : ℕ) → i < 256 → j < 256 → (i ≡ 0 → ⊥) → (j ≡ 0 → ⊥) → ((c : ℕ) → inSet m c ≡ canConflict (touchedAt reads writes increments i) (touchedAt reads writes increments j) c) → Masked codes jobs cells m (partAt lines starts i) (partAt lines starts j)
+  pub reach : (j : ℕ) → j < slots → (j ≡ 0 → ⊥) → Reach codes jobs cells lasts j (partAt lines starts j)
+  pub masks : (i j m : ℕ) → i < slots → j < slots → (i ≡ 0 → ⊥) → (j ≡ 0 → ⊥) → ((c : ℕ) → inSet m c ≡ canConflict (touchedAt reads writes increments i) (touchedAt reads writes increments j) c) → Masked codes jobs cells m (partAt lines starts i) (partAt lines starts j)

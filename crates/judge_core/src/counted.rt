@@ -1,14 +1,17 @@
 // What of each job's lines counts: which jobs have a c, and from which line on (01, The judge's rules: the committed part).
+use crate::sizes::SLOTS;
 use terms::limits::JUDGED_LINES;
 ghost use mathlib.Core.Path.{_≡_};
 ghost use Prim.Native.Nat.{ℕ, _≤_, _<_};
 ghost use lib.ListN.{getD};
 ghost use Rattle.judge_core.specs.Lists.{valuesOf};
 ghost use Rattle.judge_core.specs.Counted.{hasCommit, countedFrom, ownerAt, ownersBy};
+ghost use Rattle.terms.specs.Limits.{judgedLines};
+ghost use Rattle.judge_core.specs.Sizes.{slots};
 
 // A byte as a place in an array.
 pub fn place(byte: u8) -> usize
-    ensures { λ r. ⌜ (r ≡ byte) × (r < 256) ⌝ }
+    ensures { λ r. ⌜ (r ≡ byte) × (r < slots) ⌝ }
 {
     byte as usize
 }
@@ -18,12 +21,12 @@ pub fn committed_jobs<'a>(
     codes: &'a [u8; JUDGED_LINES],
     jobs: &'a [u8; JUDGED_LINES],
     n: usize,
-) -> [bool; 256]
-    requires { ⌜ n ≤ 4096 ⌝ }
-    ensures { λ r. ⌜ r ≡ valuesOf (hasCommit (now (codes .entry)) (now (jobs .entry)) n) 256 ⌝ }
-    ensures { λ r. ⌜ ((p : ℕ) → p < n → getD (now (jobs .entry)) p 0 < 256) ⌝ }
+) -> [bool; SLOTS]
+    requires { ⌜ n ≤ judgedLines ⌝ }
+    ensures { λ r. ⌜ r ≡ valuesOf (hasCommit (now (codes .entry)) (now (jobs .entry)) n) slots ⌝ }
+    ensures { λ r. ⌜ ((p : ℕ) → p < n → getD (now (jobs .entry)) p 0 < slots) ⌝ }
 {
-    let mut done = [false; 256];
+    let mut done = [false; SLOTS];
     let mut p = 0;
     while p < n {
         let j = place(jobs[p]);
@@ -40,11 +43,11 @@ pub fn counted_from<'a>(
     codes: &'a [u8; JUDGED_LINES],
     jobs: &'a [u8; JUDGED_LINES],
     n: usize,
-) -> [usize; 256]
-    requires { ⌜ n ≤ 4096 ⌝ }
-    ensures { λ r. ⌜ r ≡ valuesOf (countedFrom (now (codes .entry)) (now (jobs .entry)) n) 256 ⌝ }
+) -> [usize; SLOTS]
+    requires { ⌜ n ≤ judgedLines ⌝ }
+    ensures { λ r. ⌜ r ≡ valuesOf (countedFrom (now (codes .entry)) (now (jobs .entry)) n) slots ⌝ }
 {
-    let mut since = [0; 256];
+    let mut since = [0; SLOTS];
     let mut p = 0;
     while p < n {
         let j = place(jobs[p]);
@@ -60,10 +63,10 @@ pub fn counted_from<'a>(
 fn owner<'a>(
     codes: &'a [u8; JUDGED_LINES],
     jobs: &'a [u8; JUDGED_LINES],
-    since: &'a [usize; 256],
+    since: &'a [usize; SLOTS],
     p: usize,
 ) -> u8
-    requires { ⌜ p < 4096 ⌝ }
+    requires { ⌜ p < judgedLines ⌝ }
     ensures { λ r. ⌜ r ≡ ownerAt (now (codes .entry)) (now (jobs .entry)) (now (since .entry)) p ⌝ }
 {
     if 3 <= codes[p] {
@@ -80,11 +83,11 @@ fn owner<'a>(
 pub fn owners<'a>(
     codes: &'a [u8; JUDGED_LINES],
     jobs: &'a [u8; JUDGED_LINES],
-    since: &'a [usize; 256],
+    since: &'a [usize; SLOTS],
     n: usize,
 ) -> [u8; JUDGED_LINES]
-    requires { ⌜ n ≤ 4096 ⌝ }
-    ensures { λ r. ⌜ r ≡ valuesOf (ownersBy (now (codes .entry)) (now (jobs .entry)) (now (since .entry)) n) 4096 ⌝ }
+    requires { ⌜ n ≤ judgedLines ⌝ }
+    ensures { λ r. ⌜ r ≡ valuesOf (ownersBy (now (codes .entry)) (now (jobs .entry)) (now (since .entry)) n) judgedLines ⌝ }
 {
     let mut all = [0; JUDGED_LINES];
     let mut p = 0;

@@ -14,6 +14,9 @@ use crate::order::smallest_left;
 use crate::order::take_away;
 use crate::sets::cells_of;
 use crate::sets::last_lines;
+use crate::sizes::PAIRS;
+use crate::sizes::SLOTS;
+use crate::sizes::STOPS;
 use judge_rules::verdict::Verdict;
 use terms::limits::JUDGED_LINES;
 ghost use mathlib.Core.Path.{_≡_};
@@ -30,16 +33,18 @@ ghost use Rattle.judge_core.specs.Lists.{valuesOf};
 ghost use Rattle.judge_core.specs.Counted.{hasCommit, ByteJobs};
 ghost use Rattle.judge_core.specs.Grouped.{edgesIn};
 ghost use Rattle.judge_core.specs.Left.{leftOf};
+ghost use Rattle.terms.specs.Limits.{judgedJobs, judgedLines};
+ghost use Rattle.judge_core.specs.Sizes.{slots, stops};
 
 // The edges between the jobs of the first n lines that have a c.
 fn edges_of<'a>(
     codes: &'a [u8; JUDGED_LINES],
     jobs: &'a [u8; JUDGED_LINES],
     cells: &'a [u8; JUDGED_LINES],
-    done: &'a [bool; 256],
+    done: &'a [bool; SLOTS],
     n: usize,
-) -> [bool; 65536]
-    requires { ⌜ (n ≤ 4096) × ByteJobs (now jobs) n × (now done ≡ valuesOf (hasCommit (now codes) (now jobs) n) 256) ⌝ }
+) -> [bool; PAIRS]
+    requires { ⌜ (n ≤ judgedLines) × ByteJobs (now jobs) n × (now done ≡ valuesOf (hasCommit (now codes) (now jobs) n) slots) ⌝ }
     requires { ⌜ ((p : ℕ) → p < n → getD (now codes) p 0 < 3 → getD (now cells) p 0 < 64) ⌝ }
     ensures { λ r. ⌜ edgesIn r ≡ edge (committedPart (historyBy (now (codes .entry)) (now (jobs .entry)) (now (cells .entry)) n)) ⌝ }
 {
@@ -68,16 +73,16 @@ fn edges_of<'a>(
 
 // The knot that the walk back from a job ends in, put into the first places of the buffer.
 fn knot<'a>(
-    table: &'a [bool; 65536],
-    left: &'a [bool; 256],
+    table: &'a [bool; PAIRS],
+    left: &'a [bool; SLOTS],
     start: usize,
     order: &mut [u8],
 ) -> Verdict
-    requires { ⌜ (start < 256) × (length (turn (walk (edgesIn (now table)) (leftOf (now left)) 257 [] start)) ≤ length (now order)) ⌝ }
-    ensures { λ r. ⌜ r ≡ sayFinding (now (order .entry)) (knotted (turn (walk (edgesIn (now (table .entry))) (leftOf (now (left .entry))) 257 [] start))) .said ⌝ }
-    ensures { λ r. ⌜ now (order .exit) ≡ sayFinding (now (order .entry)) (knotted (turn (walk (edgesIn (now (table .entry))) (leftOf (now (left .entry))) 257 [] start))) .order ⌝ }
+    requires { ⌜ (start < slots) × (length (turn (walk (edgesIn (now table)) (leftOf (now left)) stops [] start)) ≤ length (now order)) ⌝ }
+    ensures { λ r. ⌜ r ≡ sayFinding (now (order .entry)) (knotted (turn (walk (edgesIn (now (table .entry))) (leftOf (now (left .entry))) stops [] start))) .said ⌝ }
+    ensures { λ r. ⌜ now (order .exit) ≡ sayFinding (now (order .entry)) (knotted (turn (walk (edgesIn (now (table .entry))) (leftOf (now (left .entry))) stops [] start))) .order ⌝ }
 {
-    let mut trail = [0u8; 257];
+    let mut trail = [0u8; STOPS];
     let round = walk_back(table, left, start, &mut trail);
     let from = round.from;
     let to = round.to;
@@ -93,7 +98,7 @@ pub fn decide<'a>(
     n: usize,
     order: &mut [u8],
 ) -> Verdict
-    requires { ⌜ (n ≤ 4096) × (255 ≤ length (now order)) ⌝ }
+    requires { ⌜ (n ≤ judgedLines) × (judgedJobs ≤ length (now order)) ⌝ }
     requires { ⌜ ((p : ℕ) → p < n → getD (now jobs) p 0 ≡ 0 → ⊥) ⌝ }
     requires { ⌜ ((p : ℕ) → p < n → getD (now codes) p 0 < 3 → getD (now cells) p 0 < 64) ⌝ }
     ensures { λ r. ⌜ r ≡ sayFinding (now (order .entry)) (findingOf (historyBy (now (codes .entry)) (now (jobs .entry)) (now (cells .entry)) n)) .said ⌝ }
@@ -102,7 +107,7 @@ pub fn decide<'a>(
     let done = committed_jobs(codes, jobs, n);
     let table = edges_of(codes, jobs, cells, &done, n);
     let mut left = done;
-    let mut placed = [0u8; 256];
+    let mut placed = [0u8; SLOTS];
     let k = take_away(&table, &mut left, &mut placed);
     let first = smallest_left(&left);
     if first == NOBODY {

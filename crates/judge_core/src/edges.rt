@@ -2,6 +2,10 @@
 use crate::sets::ANY;
 use crate::sets::last_key;
 use crate::sets::touched;
+use crate::sizes::KEYS;
+use crate::sizes::PAIRS;
+use crate::sizes::SLOTS;
+use crate::sizes::STOPS;
 use conflict::action::Action;
 use conflict::action::Kind;
 use conflict::action::actions_conflict;
@@ -18,6 +22,8 @@ ghost use Rattle.judge_core.specs.Lists.{valuesOf};
 ghost use Rattle.judge_core.specs.Meeting.{kindBy, actionAt, clashing, meetings};
 ghost use Rattle.judge_core.specs.Grouped.{Lined, Parted, partAt, edgeBy};
 ghost use Rattle.judge_core.specs.Reaching.{Reach, Masked, Worked, lastMet, mayMeet};
+ghost use Rattle.terms.specs.Limits.{judgedLines};
+ghost use Rattle.judge_core.specs.Sizes.{slots, pairs};
 
 // The kind of action that a number stands for.
 fn kind_of(code: u8) -> Kind
@@ -53,7 +59,7 @@ fn action_at<'a>(
     cells: &'a [u8; JUDGED_LINES],
     p: usize,
 ) -> Action
-    requires { ⌜ p < 4096 ⌝ }
+    requires { ⌜ p < judgedLines ⌝ }
     ensures { λ r. ⌜ r ≡ actionAt (now (codes .entry)) (now (jobs .entry)) (now (cells .entry)) p ⌝ }
 {
     Action {
@@ -83,12 +89,12 @@ fn meets_last<'a>(
     codes: &'a [u8; JUDGED_LINES],
     jobs: &'a [u8; JUDGED_LINES],
     cells: &'a [u8; JUDGED_LINES],
-    lasts: &'a [u16; 65536],
+    lasts: &'a [u16; KEYS],
     x: usize,
     j: usize,
     kind: u8,
 ) -> bool
-    requires { ⌜ (x < 4096) × (j < 256) × (kind < 3) × (getD (now cells) x 0 < 64) ⌝ }
+    requires { ⌜ (x < judgedLines) × (j < slots) × (kind < 3) × (getD (now cells) x 0 < 64) ⌝ }
     ensures { λ r. ⌜ r ≡ lastMet (now (codes .entry)) (now (jobs .entry)) (now (cells .entry)) (now (lasts .entry)) j x kind ⌝ }
 {
     let cell = cells[x];
@@ -107,12 +113,12 @@ fn meets_last<'a>(
 // Whether line x is on a cell of the set, and job j's last action on that cell stands after it. The last action is looked at first: for two jobs the answer is mostly the same on all cells, where the set's is not.
 fn may_meet<'a>(
     cells: &'a [u8; JUDGED_LINES],
-    lasts: &'a [u16; 65536],
+    lasts: &'a [u16; KEYS],
     mask: u64,
     x: usize,
     j: usize,
 ) -> bool
-    requires { ⌜ (x < 4096) × (j < 256) ⌝ }
+    requires { ⌜ (x < judgedLines) × (j < slots) ⌝ }
     ensures { λ r. ⌜ r ≡ mayMeet (now (cells .entry)) (now (lasts .entry)) mask j x ⌝ }
 {
     let cell = cells[x];
@@ -131,13 +137,13 @@ fn meets<'a>(
     codes: &'a [u8; JUDGED_LINES],
     jobs: &'a [u8; JUDGED_LINES],
     cells: &'a [u8; JUDGED_LINES],
-    lasts: &'a [u16; 65536],
+    lasts: &'a [u16; KEYS],
     mask: u64,
     xs: &'a [u16],
     ys: &'a [u16],
     j: usize,
 ) -> bool
-    requires { ⌜ (j < 256) × Lined (now xs) × Lined (now ys) ⌝ }
+    requires { ⌜ (j < slots) × Lined (now xs) × Lined (now ys) ⌝ }
     requires { ⌜ Reach (now codes) (now jobs) (now cells) (now lasts) j (now ys) × Masked (now codes) (now jobs) (now cells) mask (now xs) (now ys) ⌝ }
     ensures { λ r. ⌜ r ≡ meetings (clashing (now (codes .entry)) (now (jobs .entry)) (now (cells .entry))) (now (xs .entry)) (now (ys .entry)) ⌝ }
 {
@@ -169,14 +175,14 @@ fn parts_meet<'a>(
     codes: &'a [u8; JUDGED_LINES],
     jobs: &'a [u8; JUDGED_LINES],
     cells: &'a [u8; JUDGED_LINES],
-    lasts: &'a [u16; 65536],
+    lasts: &'a [u16; KEYS],
     lines: &'a [u16],
-    starts: &'a [usize; 257],
+    starts: &'a [usize; STOPS],
     mask: u64,
     i: usize,
     j: usize,
 ) -> bool
-    requires { ⌜ (i < 256) × (j < 256) × Parted (now lines) (now starts) ⌝ }
+    requires { ⌜ (i < slots) × (j < slots) × Parted (now lines) (now starts) ⌝ }
     requires { ⌜ Reach (now codes) (now jobs) (now cells) (now lasts) j (partAt (now lines) (now starts) j) × Masked (now codes) (now jobs) (now cells) mask (partAt (now lines) (now starts) i) (partAt (now lines) (now starts) j) ⌝ }
     ensures { λ r. ⌜ r ≡ meetings (clashing (now (codes .entry)) (now (jobs .entry)) (now (cells .entry))) (partAt (now (lines .entry)) (now (starts .entry)) i) (partAt (now (lines .entry)) (now (starts .entry)) j) ⌝ }
 {
@@ -201,17 +207,17 @@ fn edge_between<'a>(
     codes: &'a [u8; JUDGED_LINES],
     jobs: &'a [u8; JUDGED_LINES],
     cells: &'a [u8; JUDGED_LINES],
-    done: &'a [bool; 256],
+    done: &'a [bool; SLOTS],
     lines: &'a [u16],
-    starts: &'a [usize; 257],
-    lasts: &'a [u16; 65536],
-    reads: &'a [u64; 256],
-    writes: &'a [u64; 256],
-    increments: &'a [u64; 256],
+    starts: &'a [usize; STOPS],
+    lasts: &'a [u16; KEYS],
+    reads: &'a [u64; SLOTS],
+    writes: &'a [u64; SLOTS],
+    increments: &'a [u64; SLOTS],
     i: usize,
     j: usize,
 ) -> bool
-    requires { ⌜ (i < 256) × (j < 256) × Worked (now codes) (now jobs) (now cells) (now done) (now lines) (now starts) (now lasts) (now reads) (now writes) (now increments) ⌝ }
+    requires { ⌜ (i < slots) × (j < slots) × Worked (now codes) (now jobs) (now cells) (now done) (now lines) (now starts) (now lasts) (now reads) (now writes) (now increments) ⌝ }
     ensures { λ r. ⌜ r ≡ edgeBy (now (codes .entry)) (now (jobs .entry)) (now (cells .entry)) (now (done .entry)) (now (lines .entry)) (now (starts .entry)) i j ⌝ }
 {
     if i == j {
@@ -238,22 +244,22 @@ pub fn edge_table<'a>(
     codes: &'a [u8; JUDGED_LINES],
     jobs: &'a [u8; JUDGED_LINES],
     cells: &'a [u8; JUDGED_LINES],
-    done: &'a [bool; 256],
+    done: &'a [bool; SLOTS],
     lines: &'a [u16],
-    starts: &'a [usize; 257],
-    lasts: &'a [u16; 65536],
-    reads: &'a [u64; 256],
-    writes: &'a [u64; 256],
-    increments: &'a [u64; 256],
-) -> [bool; 65536]
+    starts: &'a [usize; STOPS],
+    lasts: &'a [u16; KEYS],
+    reads: &'a [u64; SLOTS],
+    writes: &'a [u64; SLOTS],
+    increments: &'a [u64; SLOTS],
+) -> [bool; PAIRS]
     requires { ⌜ Worked (now codes) (now jobs) (now cells) (now done) (now lines) (now starts) (now lasts) (now reads) (now writes) (now increments) ⌝ }
-    ensures { λ r. ⌜ r ≡ valuesOf (λ x. edgeBy (now (codes .entry)) (now (jobs .entry)) (now (cells .entry)) (now (done .entry)) (now (lines .entry)) (now (starts .entry)) (x / 256) (x % 256)) 65536 ⌝ }
+    ensures { λ r. ⌜ r ≡ valuesOf (λ x. edgeBy (now (codes .entry)) (now (jobs .entry)) (now (cells .entry)) (now (done .entry)) (now (lines .entry)) (now (starts .entry)) (x / slots) (x % slots)) pairs ⌝ }
 {
-    let mut table = [false; 65536];
+    let mut table = [false; PAIRS];
     let mut x = 0;
-    while x < 65536 {
-        let i = x / 256;
-        let j = x % 256;
+    while x < PAIRS {
+        let i = x / SLOTS;
+        let j = x % SLOTS;
         table[x] = edge_between(
             codes,
             jobs,

@@ -2,6 +2,7 @@
 use crate::counted::place;
 use crate::decide::decide;
 use crate::edges::wide;
+use crate::sizes::SLOTS;
 use judge_rules::verdict::Verdict;
 use terms::limits::CELLS;
 use terms::limits::JUDGED_JOBS;
@@ -12,7 +13,7 @@ ghost use mathlib.Core.Bool.{_&&_, _||_};
 ghost use mathlib.Core.List.{[]};
 ghost use lib.Dec.{eqb, ltb, leb};
 ghost use Prim.Native.Nat.{_+_, _<_};
-ghost use Rattle.terms.specs.Limits.{cells};
+ghost use Rattle.terms.specs.Limits.{cells, judgedLines};
 ghost use Rattle.judge_rules.specs.Arrays.{historyBy};
 ghost use Rattle.judge_core.specs.Kept.{eventAt, eventFault, firstFault, keptJudgement, dueOf, Flagged};
 
@@ -53,10 +54,10 @@ fn fault_at<'a>(
     codes: &'a [u8; JUDGED_LINES],
     jobs: &'a [u8; JUDGED_LINES],
     cells: &'a [u8; JUDGED_LINES],
-    ended: &'a [bool; 256],
+    ended: &'a [bool; SLOTS],
     p: usize,
 ) -> Fault
-    requires { ⌜ (p < 4096) × Flagged (now ended) (historyBy (now codes) (now jobs) (now cells) p) ⌝ }
+    requires { ⌜ (p < judgedLines) × Flagged (now ended) (historyBy (now codes) (now jobs) (now cells) p) ⌝ }
     ensures { λ r. ⌜ dueOf r ≡ eventFault (p + 1) (historyBy (now (codes .entry)) (now (jobs .entry)) (now (cells .entry)) p) (eventAt (now (codes .entry)) (now (jobs .entry)) (now (cells .entry)) p) ⌝ }
 {
     let job = place(jobs[p]);
@@ -81,7 +82,7 @@ fn first_fault<'a>(
 ) -> Found
     ensures { λ r. ⌜ r ≡ firstFault 1 [] (historyBy (now (codes .entry)) (now (jobs .entry)) (now (cells .entry)) n) ⌝ }
 {
-    let mut ended = [false; 256];
+    let mut ended = [false; SLOTS];
     let mut p = 0;
     while p < n {
         if p >= JUDGED_LINES {

@@ -1,6 +1,9 @@
 // The knot: from the smallest job that remains back along smallest predecessors, until one comes again (01, The judge's rules: Knot).
 use crate::order::NOBODY;
 use crate::order::predecessor;
+use crate::sizes::PAIRS;
+use crate::sizes::SLOTS;
+use crate::sizes::STOPS;
 ghost use mathlib.Core.Path.{_≡_};
 ghost use mathlib.Core.List.{[], _++_};
 ghost use Prim.Native.Nat.{_+_, _≤_, _<_};
@@ -11,6 +14,7 @@ ghost use Rattle.judge_rules.specs.Judgement.{filled};
 ghost use Rattle.judge_core.specs.Grouped.{edgesIn};
 ghost use Rattle.judge_core.specs.Left.{leftOf};
 ghost use Rattle.judge_core.specs.Rounds.{RoundAt, putIn};
+ghost use Rattle.judge_core.specs.Sizes.{slots, stops};
 
 // A part of a trail: from a place up to another.
 pub struct Round {
@@ -19,12 +23,12 @@ pub struct Round {
 }
 
 // The first place of the trail, from a place on, at which job j stands, or the trail's end.
-fn place_of(trail: &[u8; 257], at: usize, j: u8) -> usize
-    requires { ⌜ (length (now trail) ≡ 257) × (at ≤ 257) ⌝ }
+fn place_of(trail: &[u8; STOPS], at: usize, j: u8) -> usize
+    requires { ⌜ (length (now trail) ≡ stops) × (at ≤ stops) ⌝ }
     ensures { λ r. ⌜ r ≡ at + pos (drop at (now (trail .entry))) j ⌝ }
 {
     let mut p = at;
-    while p < 257 {
+    while p < STOPS {
         if trail[p] == j {
             return p;
         }
@@ -35,21 +39,21 @@ fn place_of(trail: &[u8; 257], at: usize, j: u8) -> usize
 
 // The walk back from a job, each job put before the one that it was come from, until one comes again: the trail from its second coming up to its first is the cycle.
 pub fn walk_back<'a>(
-    table: &'a [bool; 65536],
-    left: &'a [bool; 256],
+    table: &'a [bool; PAIRS],
+    left: &'a [bool; SLOTS],
     start: usize,
-    trail: &mut [u8; 257],
+    trail: &mut [u8; STOPS],
 ) -> Round
-    requires { ⌜ (start < 256) × (length (now trail) ≡ 257) ⌝ }
-    ensures { λ r. ⌜ RoundAt (walk (edgesIn (now (table .entry))) (leftOf (now (left .entry))) 257 [] start) (now (trail .exit)) (r .from) (r .to) ⌝ }
+    requires { ⌜ (start < slots) × (length (now trail) ≡ stops) ⌝ }
+    ensures { λ r. ⌜ RoundAt (walk (edgesIn (now (table .entry))) (leftOf (now (left .entry))) stops [] start) (now (trail .exit)) (r .from) (r .to) ⌝ }
 {
-    let mut at: usize = 257;
+    let mut at: usize = STOPS;
     let mut j = start;
     while 0 < at {
         let p = place_of(trail, at, j as u8);
         at -= 1;
         trail[at] = j as u8;
-        if p < 257 {
+        if p < STOPS {
             return Round { from: at, to: p };
         }
         j = predecessor(table, left, j);

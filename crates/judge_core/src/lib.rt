@@ -7,3 +7,4 @@ pub mod kept;
 mod knots;
 mod order;
 mod sets;
+mod sizes;

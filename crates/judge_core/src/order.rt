@@ -1,4 +1,6 @@
 // The order: of the jobs that are left, the smallest without a predecessor among them is taken away, again and again (01, The judge's rules: Orderly).
+use crate::sizes::PAIRS;
+use crate::sizes::SLOTS;
 ghost use mathlib.Core.Path.{_≡_};
 ghost use mathlib.Core.Bool.{true, false};
 ghost use Prim.Native.Nat.{ℕ, _+_, _*_, _≤_, _<_};
@@ -8,18 +10,19 @@ ghost use Rattle.judge_rules.specs.Knot as knots;
 ghost use Rattle.judge_core.specs.Grouped.{edgesIn};
 ghost use Rattle.judge_core.specs.Left.{leftOf, orNobody};
 ghost use Rattle.judge_core.specs.Preceding.{unit, RowAdded, Preceding};
+ghost use Rattle.judge_core.specs.Sizes.{slots};
 
 // No job: one past the largest.
-pub const NOBODY: usize = 256;
+pub const NOBODY: usize = SLOTS;
 
 // The smallest job that is left and has an edge to j.
-pub fn predecessor<'a>(table: &'a [bool; 65536], left: &'a [bool; 256], j: usize) -> usize
-    requires { ⌜ j < 256 ⌝ }
+pub fn predecessor<'a>(table: &'a [bool; PAIRS], left: &'a [bool; SLOTS], j: usize) -> usize
+    requires { ⌜ j < slots ⌝ }
     ensures { λ r. ⌜ r ≡ orNobody (knots.predecessor (edgesIn (now (table .entry))) (leftOf (now (left .entry))) j) ⌝ }
 {
     let mut i = 0;
-    while i < 256 {
-        if left[i] && table[i * 256 + j] {
+    while i < SLOTS {
+        if left[i] && table[i * SLOTS + j] {
             return i;
         }
         i += 1;
@@ -38,38 +41,38 @@ fn one(edge: bool) -> u16
 }
 
 // Each job that job i has an edge to is counted once more.
-fn count_row(table: &[bool; 65536], i: usize, counts: &mut [u16; 256])
-    requires { ⌜ (i < 256) × (length (now counts) ≡ 256) × ((j : ℕ) → j < 256 → getD (now counts) j 0 < 256) ⌝ }
+fn count_row(table: &[bool; PAIRS], i: usize, counts: &mut [u16; SLOTS])
+    requires { ⌜ (i < slots) × (length (now counts) ≡ slots) × ((j : ℕ) → j < slots → getD (now counts) j 0 < slots) ⌝ }
     ensures { λ r. ⌜ RowAdded (now (table .entry)) i (now (counts .entry)) (now (counts .exit)) ⌝ }
 {
-    let row = i * 256;
+    let row = i * SLOTS;
     let mut j = 0;
-    while j < 256 {
+    while j < SLOTS {
         counts[j] = counts[j] + one(table[row + j]);
         j += 1;
     }
 }
 
 // Each job that job i has an edge to is counted once less.
-fn uncount_row(table: &[bool; 65536], i: usize, counts: &mut [u16; 256])
-    requires { ⌜ (i < 256) × (length (now counts) ≡ 256) × ((j : ℕ) → j < 256 → unit (getD (now table) (i * 256 + j) false) ≤ getD (now counts) j 0) ⌝ }
+fn uncount_row(table: &[bool; PAIRS], i: usize, counts: &mut [u16; SLOTS])
+    requires { ⌜ (i < slots) × (length (now counts) ≡ slots) × ((j : ℕ) → j < slots → unit (getD (now table) (i * slots + j) false) ≤ getD (now counts) j 0) ⌝ }
     ensures { λ r. ⌜ RowAdded (now (table .entry)) i (now (counts .exit)) (now (counts .entry)) ⌝ }
 {
-    let row = i * 256;
+    let row = i * SLOTS;
     let mut j = 0;
-    while j < 256 {
+    while j < SLOTS {
         counts[j] = counts[j] - one(table[row + j]);
         j += 1;
     }
 }
 
 // How many predecessors that are left each job has.
-fn counts_of(table: &[bool; 65536], left: &[bool; 256]) -> [u16; 256]
-    ensures { λ r. ⌜ Preceding (now (table .entry)) (now (left .entry)) 256 r ⌝ }
+fn counts_of(table: &[bool; PAIRS], left: &[bool; SLOTS]) -> [u16; SLOTS]
+    ensures { λ r. ⌜ Preceding (now (table .entry)) (now (left .entry)) slots r ⌝ }
 {
-    let mut counts = [0; 256];
+    let mut counts = [0; SLOTS];
     let mut i = 0;
-    while i < 256 {
+    while i < SLOTS {
         if left[i] {
             count_row(table, i, &mut counts);
         }
@@ -79,12 +82,16 @@ fn counts_of(table: &[bool; 65536], left: &[bool; 256]) -> [u16; 256]
 }
 
 // The smallest job that is left and has no predecessor left.
-fn ready_job<'a>(table: &'a [bool; 65536], left: &'a [bool; 256], counts: &'a [u16; 256]) -> usize
-    requires { ⌜ Preceding (now table) (now left) 256 (now counts) ⌝ }
+fn ready_job<'a>(
+    table: &'a [bool; PAIRS],
+    left: &'a [bool; SLOTS],
+    counts: &'a [u16; SLOTS],
+) -> usize
+    requires { ⌜ Preceding (now table) (now left) slots (now counts) ⌝ }
     ensures { λ r. ⌜ r ≡ orNobody (ready (edgesIn (now (table .entry))) (leftOf (now (left .entry)))) ⌝ }
 {
     let mut j = 0;
-    while j < 256 {
+    while j < SLOTS {
         if left[j] && counts[j] == 0 {
             return j;
         }
@@ -94,8 +101,8 @@ fn ready_job<'a>(table: &'a [bool; 65536], left: &'a [bool; 256], counts: &'a [u
 }
 
 // The jobs that are left are taken away, as long as one is ready, and put in their order; how many they are. The predecessors that each has left are counted once, and less with each job that goes.
-pub fn take_away(table: &[bool; 65536], left: &mut [bool; 256], placed: &mut [u8; 256]) -> usize
-    requires { ⌜ (length (now left) ≡ 256) × (length (now placed) ≡ 256) ⌝ }
+pub fn take_away(table: &[bool; PAIRS], left: &mut [bool; SLOTS], placed: &mut [u8; SLOTS]) -> usize
+    requires { ⌜ (length (now left) ≡ slots) × (length (now placed) ≡ slots) ⌝ }
     ensures { λ r. ⌜ leftOf (now (left .exit)) ≡ stuck (edgesIn (now (table .entry))) (leftOf (now (left .entry))) ⌝ }
     ensures { λ r. ⌜ take r (now (placed .exit)) ≡ orderOf (edgesIn (now (table .entry))) (leftOf (now (left .entry))) ⌝ }
     ensures { λ r. ⌜ r ≡ length (orderOf (edgesIn (now (table .entry))) (leftOf (now (left .entry)))) ⌝ }
@@ -115,11 +122,11 @@ pub fn take_away(table: &[bool; 65536], left: &mut [bool; 256], placed: &mut [u8
 }
 
 // The smallest job that is left.
-pub fn smallest_left(left: &[bool; 256]) -> usize
+pub fn smallest_left(left: &[bool; SLOTS]) -> usize
     ensures { λ r. ⌜ r ≡ orNobody (first (λ j. true) (leftOf (now (left .entry)))) ⌝ }
 {
     let mut j = 0;
-    while j < 256 {
+    while j < SLOTS {
         if left[j] {
             return j;
         }

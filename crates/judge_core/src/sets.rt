@@ -1,12 +1,16 @@
 // What is looked at first of two jobs: the cells that each has actions on, kind by kind, and its last action of each kind on each cell (01, The judge's rules).
 use crate::counted::place;
 use crate::edges::wide;
+use crate::sizes::KEYS;
+use crate::sizes::SLOTS;
 use conflict::cells::Touched;
 use conflict::cells::with_cell;
 use terms::limits::JUDGED_LINES;
 ghost use mathlib.Core.Path.{_≡_};
 ghost use Prim.Native.Nat.{_≤_, _<_};
 ghost use Rattle.judge_core.specs.Reaching.{Acting, Covered, Lasts, touchedAt, lastKey};
+ghost use Rattle.terms.specs.Limits.{judgedLines};
+ghost use Rattle.judge_core.specs.Sizes.{slots, keys};
 
 // Stands beside the numbers of the three kinds for a line of whatever kind.
 pub const ANY: u8 = 3;
@@ -18,11 +22,11 @@ pub fn cells_of<'a>(
     owners: &'a [u8; JUDGED_LINES],
     n: usize,
     kind: u8,
-) -> [u64; 256]
-    requires { ⌜ n ≤ 4096 ⌝ }
+) -> [u64; SLOTS]
+    requires { ⌜ n ≤ judgedLines ⌝ }
     ensures { λ r. ⌜ Covered (now (codes .entry)) (now (cells .entry)) (now (owners .entry)) n kind r ⌝ }
 {
-    let mut sets = [0; 256];
+    let mut sets = [0; SLOTS];
     let mut p = 0;
     while p < n {
         let j = place(owners[p]);
@@ -36,12 +40,12 @@ pub fn cells_of<'a>(
 
 // The sets of one job.
 pub fn touched<'a>(
-    reads: &'a [u64; 256],
-    writes: &'a [u64; 256],
-    increments: &'a [u64; 256],
+    reads: &'a [u64; SLOTS],
+    writes: &'a [u64; SLOTS],
+    increments: &'a [u64; SLOTS],
     j: usize,
 ) -> Touched
-    requires { ⌜ j < 256 ⌝ }
+    requires { ⌜ j < slots ⌝ }
     ensures { λ r. ⌜ r ≡ touchedAt (now (reads .entry)) (now (writes .entry)) (now (increments .entry)) j ⌝ }
 {
     Touched {
@@ -53,8 +57,8 @@ pub fn touched<'a>(
 
 // The place of job j's last action of a kind on a cell, and of its last one of any kind by ANY.
 pub fn last_key(j: usize, kind: u8, cell: u8) -> usize
-    requires { ⌜ (j < 256) × (kind < 4) × (cell < 64) ⌝ }
-    ensures { λ r. ⌜ (r ≡ lastKey j kind cell) × (r < 65536) ⌝ }
+    requires { ⌜ (j < slots) × (kind < 4) × (cell < 64) ⌝ }
+    ensures { λ r. ⌜ (r ≡ lastKey j kind cell) × (r < keys) ⌝ }
 {
     place(cell) * 1024 + j * 4 + place(kind)
 }
@@ -66,11 +70,11 @@ pub fn last_lines<'a>(
     cells: &'a [u8; JUDGED_LINES],
     owners: &'a [u8; JUDGED_LINES],
     n: usize,
-) -> [u16; 65536]
-    requires { ⌜ (n ≤ 4096) × Acting (now codes) (now jobs) (now cells) (now owners) n ⌝ }
+) -> [u16; KEYS]
+    requires { ⌜ (n ≤ judgedLines) × Acting (now codes) (now jobs) (now cells) (now owners) n ⌝ }
     ensures { λ r. ⌜ Lasts (now (codes .entry)) (now (cells .entry)) (now (owners .entry)) n r ⌝ }
 {
-    let mut lasts = [0; 65536];
+    let mut lasts = [0; KEYS];
     let mut p = 0;
     while p < n {
         let j = place(owners[p]);

@@ -7,10 +7,11 @@ use mathlib.Core.List.{List}
 use mathlib.Core.Option.{Option, none, some}
 use native.Mathlib.Omega.{arith}
 use Rattle.laws.specs.Choice.{pick}
+use Rattle.laws.specs.Lists.{firstOf}
 use Rattle.terms.specs.declared.refusals.Refusal.{Refusal}
 use Rattle.terms.specs.declared.refusals.Refusal.the-variants.{BadLine, CellAbove, TooManyLines, JobOutside, Ended}
 use Rattle.text_rules.specs.declared.Reading.{Reading}
-use Rattle.judge_rules.specs.LineTable.{tooMany, isBad, outside, above, overAlready, holds, order, firstOf, tableSays}
+use Rattle.judge_rules.specs.LineTable.{tooMany, isBad, outside, above, overAlready, holds, order, tableSays}
 
 -- a row that is first of those that are left and of which none holds does not hold, and none of the others does
 pick-none : (b : Bool) (x : Refusal) (rest : Option Refusal) → pick b (some x) rest ≡ none → (b ≡ false) × (rest ≡ none)

@@ -12,7 +12,7 @@ use lib.ListN.{length, length-append}
 use lib.Seq.{take-at, getD-at}
 use borrow.Author.Tests.{eqb-true, eqb-false, eq-eqb, ne-eqb, ltb-true, ltb-false, le-leb, lt-leb}
 use Rattle.laws.specs.Choice.{pick, by-test}
-use Rattle.laws.specs.Lists.{member}
+use Rattle.laws.specs.Lists.{member, firstOf}
 use Rattle.laws.proofs.Parts.{or-swap}
 use Rattle.terms.specs.declared.letters.Letter.the-variants.{Begin, Commit, GiveUp, Retry, Back, Asks}
 use Rattle.terms.specs.declared.refusals.Refusal.{Refusal}
@@ -21,7 +21,7 @@ use Rattle.terms.specs.Limits.{judgedJobs, judgedLines}
 use Rattle.text_rules.specs.declared.Reading.{Reading}
 use Rattle.text_rules.specs.declared.Reading.the-variants.{Good, Bad}
 use Rattle.judge_rules.specs.HistoryText.{faultOfGood, faultOf, lineFault, endedAfter, Faulty, orLater, firstFaulty, Tells}
-use Rattle.judge_rules.specs.LineTable.{readingAt, linesBefore, ends, endedIn, holds, order, firstOf, tableSays, Faultless}
+use Rattle.judge_rules.specs.LineTable.{readingAt, linesBefore, ends, endedIn, holds, order, tableSays, Faultless}
 
 -- the jobs kept as ended are those with a c or an a on the lines before
 abbrev pub Keeps : List ℕ → List Reading → Type 0

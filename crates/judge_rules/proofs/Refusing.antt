@@ -9,13 +9,15 @@ use mathlib.Core.Option.{some}
 use native.Mathlib.Omega.{arith}
 use lib.ListN.{length, take, drop}
 use Rattle.laws.specs.Choice.{by-test}
+use Rattle.laws.specs.Lists.{firstOf}
+use Rattle.laws.proofs.Lists.{first-holds}
 use Rattle.terms.specs.declared.refusals.Refusal.{Refusal}
 use Rattle.terms.specs.declared.refusals.Refusal.the-variants.{ShortOrder}
 use Rattle.text_rules.specs.declared.Reading.{Reading}
 use Rattle.judge_rules.specs.declared.verdict.Verdict.the-variants.{No}
 use Rattle.judge_rules.specs.HistoryText.{readingsOf}
 use Rattle.judge_rules.specs.Judgement.{Judgement, judgementOf, lineFrom}
-use Rattle.judge_rules.specs.LineTable.{readingAt, linesBefore, holds, order, firstOf, tableSays, Due, FirstFault}
+use Rattle.judge_rules.specs.LineTable.{readingAt, linesBefore, holds, order, tableSays, Due, FirstFault}
 use Rattle.judge_rules.specs.Answers.{Stands, Answers}
 use Rattle.judge_rules.specs.Answers.Answers.{short, faulty, in-order, in-knot}
 use Rattle.judge_rules.proofs.Answering.{answers}
@@ -85,16 +87,6 @@ module _ (text buffer : List ℕ) where
   -- after a refusal the order buffer holds what it held
   pub refusal-keeps : (n : ℕ) (why : Refusal) → judgementOf text buffer .said ≡ No n why → judgementOf text buffer .order ≡ buffer
   refusal-keeps n why e = refused-cases (judgementOf text buffer) (answers text buffer) n why e (λ z w g l o. o) (λ room f s o. o)
-
--- the first of a list whose test holds is one whose test holds
-first-holds : (f : Refusal → Bool) (xs : List Refusal) (x : Refusal) → firstOf f xs ≡ some x → f x ≡ true
-unfolding firstOf
-first-holds f [] x e = let z : _≡_ {A = ℕ} 0 1 = cc in absurd (omega arith)
-first-holds f (y ∷ ys) x e =
-    by-test (f y) (λ t. let q : some y ≡ some x = rw t at e in subst (λ z. f z ≡ true) (same-row y x q) t) (λ g. first-holds f ys x (rw g at e))
-  where
-    same-row : (y x : Refusal) → some y ≡ some x → y ≡ x
-    same-row y x q = cc
 
 -- a refusal that is due for a line is one whose row of the table holds for it
 pub due-holds : (rs : List Reading) (n : ℕ) (why : Refusal) → Due rs n why → holds n (linesBefore rs n) (readingAt rs n) why ≡ true

@@ -11,6 +11,7 @@ use lib.Dec.{eqb, leb}
 use borrow.Author.Tests.{eqb-true, eqb-false, eq-eqb, ne-eqb, leb-true, leb-false, le-leb, lt-leb}
 use Rattle.laws.specs.Choice.{pick, by-test, not-both}
 use Rattle.laws.proofs.Parts.{and-second}
+use Rattle.laws.specs.Lists.{firstOf}
 use Rattle.terms.specs.declared.letters.Letter.{Letter}
 use Rattle.terms.specs.declared.refusals.Refusal.{Refusal}
 use Rattle.terms.specs.declared.refusals.Refusal.the-variants.{BadLine, CellAbove, TooManyLines, JobOutside, Ended}
@@ -21,7 +22,7 @@ use Rattle.text_rules.specs.declared.Reading.{Reading}
 use Rattle.text_rules.specs.declared.Reading.the-variants.{Good, Bad}
 use Rattle.text_rules.specs.Split.{linesOf}
 use Rattle.judge_rules.specs.HistoryText.{readingsOf}
-use Rattle.judge_rules.specs.LineTable.{readingAt, linesBefore, endedIn, holds, order, firstOf, tableSays, Faultless, Due}
+use Rattle.judge_rules.specs.LineTable.{readingAt, linesBefore, endedIn, holds, order, tableSays, Faultless, Due}
 use Rattle.judge_rules.specs.AsWorded.{LineIs, Sound, RefusedAs}
 use Rattle.judge_rules.specs.AsWorded.RefusedAs.{too-many, bad, outside, above, over}
 use Rattle.judge_rules.proofs.FewJobs.{not-outside}

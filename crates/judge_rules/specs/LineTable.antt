@@ -7,6 +7,7 @@ use mathlib.Core.Option.{Option, none, some}
 use lib.Dec.{eqb, leb}
 use lib.ListN.{length, getD, take}
 use Rattle.laws.specs.Choice.{pick}
+use Rattle.laws.specs.Lists.{firstOf}
 use Rattle.terms.specs.declared.letters.Letter.the-variants.{Begin, Commit, GiveUp, Retry, Back, Asks}
 use Rattle.terms.specs.declared.refusals.Refusal.{Refusal}
 use Rattle.terms.specs.declared.refusals.Refusal.the-variants.{UnknownKind, CellAbove, NotOpen, Waiting, SentBack, AllOpen, NoNumberLeft, Running, BadLine, StartedAtZero, TooManyLines, JobOutside, Ended, ShortOrder, NoRoom, TooLong}
@@ -92,11 +93,6 @@ AllReadBack rs = (n : ℕ) → 1 ≤ n → n ≤ length rs → (holdsAt rs n Bad
 -- the order of the tests: on one line 11, 9, 12, 2, 13
 unfoldable pub order : List Refusal
 order = TooManyLines ∷ BadLine ∷ JobOutside ∷ CellAbove ∷ Ended ∷ []
-
--- the first refusal of the list whose row holds
-unfoldable pub firstOf : (Refusal → Bool) → List Refusal → Option Refusal
-firstOf f [] = none
-firstOf f (x ∷ xs) = pick (f x) (some x) (firstOf f xs)
 
 -- what the table says of a line, by its number, the lines before it and how it reads
 unfoldable pub tableSays : ℕ → List Reading → Reading → Option Refusal

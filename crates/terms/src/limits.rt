@@ -1,4 +1,4 @@
-// The limits of the paper, as the code has them; `all_limits` holds them against the definitions' own. Lengths of arrays, and loops over them, have 32, 64 and 256 written out: their contracts hold them to the definitions.
+// The limits of the paper, as the code has them; `all_limits` holds them against the definitions' own. Lengths of arrays and loops over them go by these names, or by names made of them.
 ghost use mathlib.Core.Path.{_≡_};
 ghost use Rattle.terms.specs.Limits.{limitsOf};
 

@@ -13,6 +13,7 @@ use terms::letters::INCREMENT;
 use terms::letters::READ;
 use terms::letters::WRITE;
 use terms::limits::LAST_NUMBER;
+use terms::limits::PLACES;
 use terms::refusals::Refusal;
 use terms::refusals::number_of;
 use terms::words::NEWLINE;
@@ -148,7 +149,7 @@ fn put_said(said: Said) -> bool {
     let count = said.count;
     let wakes = said.wakes;
     let mut i: usize = 0;
-    while i < 32 {
+    while i < PLACES {
         if i < count {
             put_wake(wakes[i]);
         }

@@ -22,12 +22,12 @@ abbrev μ-loop : tie.MeasureT-loop
 loop-holds : tie.Need-loop-holds Inv-loop μ-loop
 loop-holds c = (omega arith, all-none _)
 
-leaves-at-requires : tie.Need-leaves-at-requires Inv-loop μ-loop
-leaves-at-requires c κs = omega arith
+no-other-at-requires : tie.Need-no-other-at-requires Inv-loop μ-loop
+no-other-at-requires c κs = omega arith
 
 returns : tie.Need-returns Inv-loop μ-loop
 unfolding aloneAt
-returns c = sym (all-fails _ _ _ (c .before .before .loop-test .taken) (was-false _ (c .before .leaves-at .ensures) (not-true _ (c .if1 .taken))))
+returns c = sym (all-fails _ _ _ (c .before .before .loop-test .taken) (was-false _ (c .before .no-other-at .ensures) (not-true _ (c .if1 .taken))))
 
 add-q : tie.Need-add-q Inv-loop μ-loop
 add-q c = omega arith
@@ -36,11 +36,11 @@ loop-less : tie.Need-loop-less Inv-loop μ-loop
 loop-less c = omega arith
 
 loop-again : tie.Need-loop-again Inv-loop μ-loop
-loop-again c = (omega arith, all-more _ _ (c .before .before .before .loop .inv .1) (was-true _ (c .before .leaves-at .ensures) (not-false _ (c .if1 .left))))
+loop-again c = (omega arith, all-more _ _ (c .before .before .before .loop .inv .1) (was-true _ (c .before .no-other-at .ensures) (not-false _ (c .if1 .left))))
 
 returns-2 : tie.Need-returns-2 Inv-loop μ-loop
 unfolding aloneAt
 returns-2 c = all-end _ _ _ (c .before .loop .inv .1) (omega arith)
 
 pub alone-spec : {M : Type 1} → statement M
-alone-spec = tie.close (tie.spec Inv-loop μ-loop loop-holds leaves-at-requires returns add-q loop-less loop-again returns-2)
+alone-spec = tie.close (tie.spec Inv-loop μ-loop loop-holds no-other-at-requires returns add-q loop-less loop-again returns-2)

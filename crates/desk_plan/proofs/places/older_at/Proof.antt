@@ -6,8 +6,8 @@ use Rattle.desk_plan.proofs.Tests.{or-holds, or-rest}
 use Rattle.desk_plan.proofs.places.older_at.Statement.{statement}
 use Rattle.desk_plan.proofs.places.older_at.Tie as tie
 
-leaves-at-requires : tie.Need-leaves-at-requires
-leaves-at-requires c κs = search needs
+no-other-at-requires : tie.Need-no-other-at-requires
+no-other-at-requires c κs = search needs
 
 returns : tie.Need-returns
 returns c = search (or-holds, was-true)
@@ -22,4 +22,4 @@ returns-2 : tie.Need-returns-2
 returns-2 c = search (or-rest, was-false)
 
 pub older-at-spec : {M : Type 1} → statement M
-older-at-spec = tie.close (tie.spec leaves-at-requires returns mul-result element-copy-out-result returns-2)
+older-at-spec = tie.close (tie.spec no-other-at-requires returns mul-result element-copy-out-result returns-2)
