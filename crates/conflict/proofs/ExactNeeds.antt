@@ -73,6 +73,10 @@ asked-becomes u-increment = (refl, refl, refl)
 pub promotion-asks : (held new : Mode) (a : Ask) → Becomes held a new ↔ (isFree held ≡ false) × (covers held (needed a) ≡ false) × (new ≡ asked held (needed a))
 promotion-asks held new a = (asked-becomes, λ h. rw (h .2) (becomes-asked held a (h .0) (h .1)))
 
+-- so a held mode becomes one mode by what is asked
+pub becomes-one : {held new other : Mode} {a : Ask} → Becomes held a new → Becomes held a other → new ≡ other
+becomes-one p q = asked-becomes p .2 ∙ sym (asked-becomes q .2)
+
 -- a promotion to X is granted next to another job exactly where that one holds nothing: "no other holder" of rule 2 is this case
 pub promotion-alone : (other : Mode) → grants other X ≡ isFree other
 unfolding grants isFree

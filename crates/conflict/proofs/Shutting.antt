@@ -7,8 +7,8 @@ use Rattle.laws.specs.Choice.{not-both}
 use Rattle.laws.proofs.Parts.{and-both}
 use Rattle.conflict.specs.declared.modes.Mode.{Mode}
 use Rattle.conflict.specs.declared.modes.Mode.the-variants.{Free, S, X, I, U}
-use Rattle.conflict.specs.Modes.{covers, beside, grants, shutsOut, isFree}
-use Rattle.conflict.proofs.EachMode.{implies, alike, of-two, follows, equal}
+use Rattle.conflict.specs.Modes.{covers, beside, grants, asked, shutsOut, isFree}
+use Rattle.conflict.proofs.EachMode.{implies, alike, of-modes, of-two, of-three, follows, equal}
 
 -- which modes shut others out
 only-shuts : (m : Mode) → shutsOut m ≡ true → (m ≡ U) ⊎ (m ≡ X)
@@ -40,6 +40,18 @@ pub shut-alone : (m n : Mode) → shutsOut m ≡ true → shutsOut n ≡ true �
 unfolding shutsOut beside grants
 shut-alone m n h g =
     equal (beside m n) false (follows (of-two (λ m n. implies (shutsOut m && shutsOut n) (alike (beside m n) false)) refl m n) (and-both (shutsOut m) (shutsOut n) h g))
+
+-- what becomes of such a mode where it does not cover a need is held alone
+pub shut-promoted : (m need n : Mode) → shutsOut m ≡ true → covers m need ≡ false → beside n (asked m need) ≡ true → isFree n ≡ true
+unfolding shutsOut covers beside grants asked isFree
+shut-promoted m need n h f b =
+    follows (of-three (λ m need n. implies (shutsOut m && (alike (covers m need) false && beside n (asked m need))) (isFree n)) refl m need n)
+    (and-both (shutsOut m) (alike (covers m need) false && beside n (asked m need)) h (and-both (alike (covers m need) false) (beside n (asked m need)) (rw f) b))
+
+-- nothing held shuts nobody out
+pub free-not-shut : (m : Mode) → isFree m ≡ true → shutsOut m ≡ false
+unfolding shutsOut isFree
+free-not-shut m h = equal (shutsOut m) false (follows (of-modes (λ m. implies (isFree m) (alike (shutsOut m) false)) refl m) h)
 
 -- who holds a cell beside one of them holds S, and that one is a U
 pub shut-beside : (m n : Mode) → shutsOut m ≡ true → beside n m ≡ true → isFree n ≡ false → (n ≡ S) × (m ≡ U)

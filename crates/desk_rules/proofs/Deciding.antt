@@ -22,9 +22,11 @@ use Rattle.desk_rules.specs.Releasing.{Seated}
 use Rattle.desk_rules.specs.Course.{from}
 use Rattle.desk_rules.specs.Decides.{Decides}
 use Rattle.desk_rules.proofs.Kept.{started-inv}
-use Rattle.desk_rules.proofs.Tests.{at-same, each-agrees, not-agrees, each-older, older-holders, each-older-waiters, older-waiters}
+use Rattle.desk_rules.proofs.Tests.{at-same, agrees-each, each-agrees, not-agrees, each-older, older-holders, each-older-waiters, older-waiters}
 use Rattle.desk_rules.proofs.RunEnd.{row-ready}
 use Rattle.desk_rules.proofs.Granting.{asking-step}
+use Rattle.desk_rules.proofs.Moved.{step-moved}
+use Rattle.desk_rules.proofs.WentAgreeing.{went-agrees}
 
 -- rule 2 decides a promotion
 by-rule2 : {d : Desk} {r : Request} {a : Ask} → Promotes d r a → step d r ≡ rule2 d (r .job) (r .cell) a
@@ -125,6 +127,7 @@ module _ {d : Desk} {h : History} (started : Started d h) (r : Request) (a : Ask
       let said2 : Promotes d r a → step d r .said ≡ rule2 d (r .job) (r .cell) a .said = λ p. ap (λ o. o .said) (by-rule2 p) in
       let said3 : Enters d r a → step d r .said ≡ rule3 d (r .job) (r .cell) a .said = λ p. ap (λ o. o .said) (by-rule3 p) in
       record {
+        goes-agreeing = λ k n g i o. agrees-each (d .jobs) held (r .job) (askedThere d r a) seats (went-agrees d r a (k .letter) n (step-moved d r) g) i (o .other);
         has-it = λ k h.
             let e : step d r ≡ rule1 d (r .job) = asking-step d r a k ∙ rw h in
             (ap (λ o. o .said) e, ap (λ o. o .desk) e, ap (λ o. o .wakes) e);

@@ -1,7 +1,7 @@
 -- What is promised of rules 2 and 3, over all jobs: when a job that asks goes, waits or is sent back (01, rules 2 and 3).
 use Prim.Native.Nat.{ℕ, _<_}
 use mathlib.Core.Path.{_≡_}
-use mathlib.Core.Bool.{true}
+use mathlib.Core.Bool.{true, false}
 use mathlib.Core.List.{[], _∷_, _++_}
 use Rattle.terms.specs.declared.letters.Ask.{Ask}
 use Rattle.conflict.specs.Modes.{needed, covers, grants}
@@ -18,6 +18,8 @@ pub record Decides (k : Course) (r : Request) (a : Ask) : Type 0 where
   pub promotion-waits : Promotes (now k) r a → (i : ℕ) → Opposed (now k) r (askedThere (now k) r a) i → ((i : ℕ) → OtherHolder (now k) r i → r .job < i) → to k r .said ≡ Wait (r .job)
   pub promotion-in-front : Promotes (now k) r a → (i : ℕ) → Opposed (now k) r (askedThere (now k) r a) i → ((i : ℕ) → OtherHolder (now k) r i → r .job < i) → to k r .desk .row (r .cell) ≡ record { held = heldThere (now k) r; queue = asker r a ∷ queueThere (now k) r }
   pub promotion-back : Promotes (now k) r a → (i : ℕ) → Opposed (now k) r (askedThere (now k) r a) i → (o : ℕ) → OtherHolder (now k) r o → o < r .job → to k r .said ≡ Back (r .job)
+  -- and whoever goes with a mode that it did not have agrees with the other holders (01, rules 2 and 3)
+  pub goes-agreeing : Asking (now k) r a → covers (ownMode (now k) r) (needed a) ≡ false → to k r .said ≡ Go (r .job) → (i : ℕ) → OtherHolder (now k) r i → grants (heldThere (now k) r i) (askedThere (now k) r a) ≡ true
   -- a job new to the cell, with nobody waiting and every holder agreeing: go; otherwise, older than every holder and every waiter: wait, at the end; otherwise back, behind an older holder or an older waiter (01, rule 3)
   pub entry-goes : Enters (now k) r a → queueThere (now k) r ≡ [] → ((i : ℕ) → OtherHolder (now k) r i → grants (heldThere (now k) r i) (needed a) ≡ true) → to k r .said ≡ Go (r .job)
   pub entry-waits : Enters (now k) r a → Hindered (now k) r a → ((i : ℕ) → OtherHolder (now k) r i → r .job < i) → ((w : Waiter) → In w (queueThere (now k) r) → r .job < w .job) → to k r .said ≡ Wait (r .job)
