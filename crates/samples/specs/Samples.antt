@@ -39,6 +39,10 @@ wakes = "b\nb\nb\nb\nw\t4\t5\nw\t4\t3\nr\t3\t5\nr\t2\t5\nw\t1\t3\nc\t4\n"
 abbrev pub returns : String
 returns = "b\nb\nr\t1\t5\nw\t2\t5\nt\t2\nr\t2\t5\nw\t1\t5\na\t2\nt\t1\nr\t1\t5\nk\t1\n"
 
+-- a run of ours with u: 2 has U beside 3's S; 1 waits for U; 3 may not have U beside U and goes back; 2 reads under U (01, rule 1) and is promoted to X; its commit wakes 1 (02, No. 1)
+abbrev pub updates : String
+updates = "b\nb\nb\nr\t3\t5\nu\t2\t5\nu\t1\t5\nu\t3\t5\nr\t2\t5\nw\t2\t5\nc\t2\n"
+
 -- the starred samples, S1 to S9, and after them ours; jobs are begun first, cell 5 unless said
 abbrev pub samples : List Sample
 samples =
@@ -101,8 +105,16 @@ samples =
       output = "1\tgo\t1\n2\tgo\t2\n3\tgo\t1\n4\tback\t2\n5\tgo\t2\n6\tgo\t2\n7\twait\t1\n8\tgo\t2\n8\twake\t1\n9\tno\t8\n10\tgo\t1\n11\tno\t9\n";
     }
     ∷ record { program = history; input = returns; output = "r\t1\t5\nk\t2\nr\t2\t5\na\t2\nw\t1\t5\nr\t1\t5\n" }
-    -- ours: what job 1 read before its k does not count; after an a there is no further line; t is of no history
+    -- ours: u beside a read, against another u, and woken; its history has r for u (02, No. 1)
+    ∷ record {
+      program = answers;
+      input = updates;
+      output = "1\tgo\t1\n2\tgo\t2\n3\tgo\t3\n4\tgo\t3\n5\tgo\t2\n6\twait\t1\n7\tback\t3\n8\tgo\t2\n9\tgo\t2\n10\tgo\t2\n10\twake\t1\n";
+    }
+    ∷ record { program = history; input = updates; output = "r\t3\t5\nr\t2\t5\nk\t3\nr\t2\t5\nw\t2\t5\nc\t2\nr\t1\t5\n" }
+    -- ours: what job 1 read before its k does not count; after an a there is no further line; t and u are of no history
     ∷ record { program = verdict; input = "r\t1\t0\nw\t2\t0\nk\t1\nr\t1\t0\nc\t1\nc\t2\n"; output = "orderly\t2\t1\n" }
     ∷ record { program = verdict; input = "r\t1\t0\na\t1\nc\t1\n"; output = "no\t3\t13\n" }
     ∷ record { program = verdict; input = "r\t1\t0\nt\t1\nc\t1\n"; output = "no\t2\t9\n" }
+    ∷ record { program = verdict; input = "r\t1\t0\nu\t1\t0\nc\t1\n"; output = "no\t2\t9\n" }
     ∷ []
