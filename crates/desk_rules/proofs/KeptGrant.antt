@@ -6,7 +6,7 @@ use mathlib.Core.Logic.{_≢_}
 use mathlib.Core.Bool.{true, false}
 use mathlib.Core.List.{List, [], _∷_}
 use Rattle.conflict.specs.declared.modes.Mode.{Mode}
-use Rattle.conflict.specs.Modes.{needed, covers, grants, isFree}
+use Rattle.conflict.specs.Modes.{covers, grants, isFree}
 use Rattle.conflict.proofs.ModeLaws.{stays-in-way}
 use Rattle.desk_rules.specs.Desk.{Status, running, waiting, Waiter, Row, Desk, isLive, at, In, first}
 use Rattle.desk_rules.specs.Locks.{wants}

@@ -4,24 +4,23 @@ use Prim.Native.Nat.{ℕ, _<_}
 use mathlib.Core.Path.{_≡_, refl, sym, ap, subst, _∙_}
 use mathlib.Core.Logic.{_≢_, inl}
 use mathlib.Core.Bool.{true, false}
-use mathlib.Core.List.{List, _∷_, _++_}
+use mathlib.Core.List.{List}
 use native.Mathlib.Omega.{arith}
 use Rattle.laws.specs.Choice.{by-test, not-both}
 use Rattle.conflict.specs.declared.modes.Mode.{Mode}
 use Rattle.conflict.specs.declared.modes.Mode.the-variants.{U}
-use Rattle.conflict.specs.Modes.{needed, covers, beside, grants, shutsOut, isFree}
+use Rattle.conflict.specs.Modes.{needed, grants, shutsOut, isFree}
 use Rattle.conflict.proofs.ModeLaws.{free-is-free}
 use Rattle.conflict.proofs.Shutting.{shuts-exactly, shut-grants, shut-promoted, free-not-shut}
-use Rattle.desk_rules.specs.Desk.{Waiter, Row, Desk, Request, at, In}
+use Rattle.desk_rules.specs.Desk.{Waiter, Desk, Request, at, In}
 use Rattle.desk_rules.specs.Locks.{agrees, wants}
 use Rattle.desk_rules.specs.Rules.{Outcome, refused, withRow, withStatus, rowsAfter, rule4}
 use Rattle.desk_rules.specs.Asked.{heldThere, queueThere}
 use Rattle.desk_rules.specs.Moves.{Moved, refuses, begins, commits, gives-up, retries, has-it, promotes, waits-in-front, enters, waits-last, goes-back}
 use Rattle.desk_rules.specs.Invariant.{Falling, Inv}
-use Rattle.desk_rules.specs.Waiting.{Ahead}
 use Rattle.desk_rules.proofs.Queue.{by-place, falling-left, without-falling}
 use Rattle.desk_rules.proofs.AheadLaws.{younger-ahead}
-use Rattle.desk_rules.proofs.Tests.{at-same, at-other, at-each, agrees-each}
+use Rattle.desk_rules.proofs.Tests.{at-other, at-each, agrees-each}
 use Rattle.desk_rules.proofs.RunEnd.{row-ready, row-releases}
 
 -- the mode m beside a job that shuts others out is granted only where it is nothing

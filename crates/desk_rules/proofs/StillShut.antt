@@ -1,11 +1,10 @@
 -- Through any requests beside a job that holds U or X, as long as its run has not ended: it still does, and its other holders only grow fewer; so who is in its way when it is sent back held S since before it got its U (02, No. 1).
 -- Assumes nothing.
-use Prim.Native.Nat.{ℕ, _<_}
-use mathlib.Core.Path.{_≡_, refl, sym, ap, subst, _∙_}
-use mathlib.Core.Logic.{_≢_, _⊎_, inl, inr, ⊎-elim}
+use Prim.Native.Nat.{ℕ}
+use mathlib.Core.Path.{_≡_, refl, sym, ap, _∙_}
+use mathlib.Core.Logic.{_≢_, _⊎_, ⊎-elim}
 use mathlib.Core.Bool.{true, false}
 use mathlib.Core.List.{List, [], _∷_, _++_}
-use native.Mathlib.Omega.{arith}
 use Rattle.laws.specs.Choice.{not-both}
 use Rattle.laws.proofs.Parts.{nor-first, nor-second}
 use Rattle.conflict.specs.Modes.{shutsOut, isFree}
@@ -16,7 +15,6 @@ use Rattle.conflict.proofs.Shutting.{shut-grows}
 use Rattle.desk_rules.specs.Desk.{Desk, Request}
 use Rattle.desk_rules.specs.Step.{step, events}
 use Rattle.desk_rules.specs.Requests.{writes, deskAfter, historyOf}
-use Rattle.desk_rules.specs.Effects.{Keeps}
 use Rattle.desk_rules.specs.Invariant.{Inv}
 use Rattle.desk_rules.proofs.Kept.{step-inv}
 use Rattle.desk_rules.proofs.Moved.{step-moved}

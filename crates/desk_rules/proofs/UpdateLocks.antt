@@ -4,23 +4,22 @@ use Prim.Native.Nat.{ℕ, _<_}
 use mathlib.Core.Path.{_≡_, refl, sym, ap, subst, subst₂, _∙_}
 use mathlib.Core.Logic.{_≢_, _⊎_, inl, inr, ⊎-elim}
 use mathlib.Core.Bool.{true, false}
-use mathlib.Core.List.{List, [], _∷_, _++_}
+use mathlib.Core.List.{List, []}
 use native.Mathlib.Omega.{arith}
 use Rattle.laws.specs.Choice.{by-test, not-both}
 use Rattle.terms.specs.declared.letters.Ask.{Ask}
-use Rattle.terms.specs.declared.letters.Ask.the-variants.{Read as asks-read, Update}
-use Rattle.conflict.specs.declared.action.Action.{Action}
+use Rattle.terms.specs.declared.letters.Ask.the-variants.{Update}
 use Rattle.conflict.specs.declared.action.Kind.the-variants.{Read}
 use Rattle.conflict.specs.declared.action.Event.the-variants.{Does}
 use Rattle.conflict.specs.declared.modes.Mode.{Mode}
-use Rattle.conflict.specs.declared.modes.Mode.the-variants.{S, X, I, U}
+use Rattle.conflict.specs.declared.modes.Mode.the-variants.{S, U}
 use Rattle.conflict.specs.History.{History}
 use Rattle.conflict.specs.Runs.{ended}
 use Rattle.conflict.specs.Modes.{needed, recorded as kindOf, covers, asked, shutsOut, isFree, Becomes}
 use Rattle.conflict.proofs.ModeLaws.{is-free, free-is-free, covers-free, asked-free, asked-covers, covers-not-free}
 use Rattle.conflict.proofs.Matrix.{beside-held-s, i-and-u-never}
 use Rattle.conflict.proofs.ExactNeeds.{needs-exactly, u-covers, x-covers, promotion-asks, promotion-to-u, becomes-one}
-use Rattle.conflict.proofs.Shutting.{shut-grants, shut-alone, shut-beside, shuts-exactly, free-not-shut}
+use Rattle.conflict.proofs.Shutting.{shut-grants, shut-alone, shut-beside}
 use Rattle.conflict.proofs.Clauses.{records-update}
 use Rattle.desk_rules.specs.declared.Answer.the-variants.{Go, Back}
 use Rattle.desk_rules.specs.Desk.{Desk, Request, In, first}
@@ -31,11 +30,10 @@ use Rattle.desk_rules.specs.UpdateLock.{Gets, by-go, by-wake, GoesUnchan
 use Rattle.desk_rules.specs.Requests.{deskAfter, historyOf}
 use Rattle.desk_rules.specs.Invariant.{Inv}
 use Rattle.desk_rules.proofs.Kept.{step-inv, started-inv}
-use Rattle.desk_rules.proofs.Queue.{in-right, is-first}
+use Rattle.desk_rules.proofs.Queue.{in-right}
 use Rattle.desk_rules.proofs.Statuses.{one-ask}
 use Rattle.desk_rules.proofs.Tests.{not-older-holders}
 use Rattle.desk_rules.proofs.Moved.{step-moved}
-use Rattle.desk_rules.proofs.Holding.{moved-held}
 use Rattle.desk_rules.proofs.AnswerTells.{ask-back}
 use Rattle.desk_rules.proofs.WakeRecords.{wake-recorded}
 use Rattle.desk_rules.proofs.StepEffects.{effects}

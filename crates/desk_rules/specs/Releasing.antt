@@ -7,7 +7,7 @@ use mathlib.Core.List.{List, _++_}
 use Rattle.laws.specs.Lists.{member}
 use Rattle.conflict.specs.declared.modes.Mode.{Mode}
 use Rattle.conflict.specs.declared.modes.Mode.the-variants.{Free}
-use Rattle.conflict.specs.Modes.{needed, covers, beside, grants, isFree}
+use Rattle.conflict.specs.Modes.{covers, beside, grants, isFree}
 use Rattle.desk_rules.specs.Desk.{In, Waiter, Row, Desk, Request}
 use Rattle.desk_rules.specs.Locks.{without, Settled, wants}
 use Rattle.desk_rules.specs.Invariant.{Falling, FirstBlocked}

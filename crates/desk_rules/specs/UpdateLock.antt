@@ -5,7 +5,7 @@ use mathlib.Core.Logic.{_≢_, _↔_, _⊎_}
 use mathlib.Core.Bool.{true, false}
 use mathlib.Core.List.{List, [], _++_}
 use Rattle.terms.specs.declared.letters.Ask.{Ask}
-use Rattle.terms.specs.declared.letters.Ask.the-variants.{Read as asks-read, Write, Increment, Update}
+use Rattle.terms.specs.declared.letters.Ask.the-variants.{Read as asks-read, Update}
 use Rattle.terms.specs.declared.letters.Letter.the-variants.{Asks}
 use Rattle.terms.specs.declared.letters.Lettered.the-variants.{Known}
 use Rattle.terms.specs.Letters.{letterOf}

@@ -1,4 +1,4 @@
--- The paper's starred samples S1 to S9: program, input text, output text (01, Samples to hold it against).
+-- The paper's starred samples S1 to S9, the update lock's own case, and more of ours: program, input text, output text (01, Samples to hold it against; 02, No. 1).
 use Prim.Native.Nat.{ℕ}
 use Prim.Native.String.{String}
 use mathlib.Core.List.{List, [], _∷_}
@@ -43,7 +43,15 @@ returns = "b\nb\nr\t1\t5\nw\t2\t5\nt\t2\nr\t2\t5\nw\t1\t5\na\t2\nt\t1\nr\t1\t5\n
 abbrev pub updates : String
 updates = "b\nb\nb\nr\t3\t5\nu\t2\t5\nu\t1\t5\nu\t3\t5\nr\t2\t5\nw\t2\t5\nc\t2\n"
 
--- the starred samples, S1 to S9, and after them ours; jobs are begun first, cell 5 unless said
+-- two jobs read a cell with intent to write it, and write it: 1 waits, the commit of 2 wakes it, and nobody is sent back (02, No. 1)
+abbrev pub scorers : String
+scorers = "b\nb\nu\t2\t5\nu\t1\t5\nw\t2\t5\nc\t2\nw\t1\t5\nc\t1\n"
+
+-- the history of that
+abbrev pub scorers-history : String
+scorers-history = "r\t2\t5\nw\t2\t5\nc\t2\nr\t1\t5\nw\t1\t5\nc\t1\n"
+
+-- the starred samples, S1 to S9, then the update lock's case, and after them ours; jobs are begun first, cell 5 unless said
 abbrev pub samples : List Sample
 samples =
     -- S1, whole
@@ -91,6 +99,20 @@ samples =
     -- S9: increments of two jobs; then with a read put in after the second line
     ∷ record { program = verdict; input = "i\t1\t0\ni\t2\t0\ni\t1\t0\nc\t1\nc\t2\n"; output = "orderly\t1\t2\n" }
     ∷ record { program = verdict; input = "i\t1\t0\ni\t2\t0\nr\t2\t0\ni\t1\t0\nc\t1\nc\t2\n"; output = "knot\t1\t2\n" }
+    -- the update lock: u 2, u 1, w 2, c 2, w 1, c 1; with r in place of u, w 2 goes back; with the older first, u 2 goes back at once (02, No. 1)
+    ∷ record {
+      program = answers;
+      input = scorers;
+      output = "1\tgo\t1\n2\tgo\t2\n3\tgo\t2\n4\twait\t1\n5\tgo\t2\n6\tgo\t2\n6\twake\t1\n7\tgo\t1\n8\tgo\t1\n";
+    }
+    ∷ record { program = history; input = scorers; output = scorers-history }
+    ∷ record { program = verdict; input = scorers-history; output = "orderly\t2\t1\n" }
+    ∷ record {
+      program = answers;
+      input = "b\nb\nr\t2\t5\nr\t1\t5\nw\t2\t5\n";
+      output = "1\tgo\t1\n2\tgo\t2\n3\tgo\t2\n4\tgo\t1\n5\tback\t2\n";
+    }
+    ∷ record { program = answers; input = "b\nb\nu\t1\t5\nu\t2\t5\n"; output = "1\tgo\t1\n2\tgo\t2\n3\tgo\t1\n4\tback\t2\n" }
     -- ours: three wakes of one step, on two cells and two of one queue
     ∷ record {
       program = answers;
