@@ -179,7 +179,7 @@ fn u_is_recorded_as_r() {
     check_verdict("u 256 64", "no 1 9");
     // The step tells the letter that was asked.
     let (output, _) = printed(&["steps", "1"], b"98 0 0\n98 0 0\n119 2 5\n117 1 5\n99 2 0\n");
-    assert_eq!(shown(&output), "go\t1\ngo\t2\ngo\t2\nwait\t1\ngo\t2\twake\t1\t5\t117\n");
+    assert_eq!(shown(&output), "go\t1\ngo\t2\ngo\t2\nwait\t1\ngo\t2\twake\t1\t5\t114\n");
 }
 
 #[test]
@@ -188,7 +188,7 @@ fn refusals_of_u() {
     let steps = "98 0 0|98 0 0|98 0 0|117 2 5|117 1 5|117 3 5|\
                  117 9 64|117 0 5|117 1 64|117 3 64|117 2 64|117 2 4294967295|85 2 5|117 2 63|99 2 0";
     let wanted =
-        "go 1|go 2|go 3|go 2|wait 1|back 3|no 3|no 3|no 4|no 5|no 2|no 2|no 1|go 2|go 2 wake 1 5 117";
+        "go 1|go 2|go 3|go 2|wait 1|back 3|no 3|no 3|no 4|no 5|no 2|no 2|no 1|go 2|go 2 wake 1 5 114";
     let (output, _) = printed(&["steps", "1"], steps.replace('|', "\n").as_bytes());
     assert_eq!(shown(&output).replace('\t', " ").trim_end().replace('\n', "|"), wanted);
 }
