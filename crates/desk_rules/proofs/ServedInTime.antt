@@ -105,7 +105,7 @@ module _ {d : Desk} {h : History} (s : Started d h) where
       record {
         somebody-in-way = way-some v c w k;
         lacks-it = v .rows c .lacks w (waiter-in v c w k);
-        promotion-in-front = λ f u b. front-only v c w k f u b;
+        holder-in-front = front-only v c w k;
         is-older = way-younger v c w k;
         in-way-live = way-live v c w k;
         at-most-31 = λ is o ways.

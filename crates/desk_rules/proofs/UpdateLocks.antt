@@ -140,6 +140,6 @@ update {d} s =
       nobody-gets-in = no-new s;
       only-fewer = λ rs c i j n t e f. fewer-through c j v rs i n t e f;
       one-at-a-time = λ c i j n t. by-test (shutsOut (d .row c .held j)) (λ u. not-both (v .rows c .pairs i j n) (shut-alone (d .row c .held i) (d .row c .held j) t u)) (λ f. f);
-      back-only-behind-s = λ got rest r a j c u l e f b. behind-s s got rest r j c u e f b;
+      back-only-behind-s = behind-s s;
       recorded-as-read = as-read s;
     }

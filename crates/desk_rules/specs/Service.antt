@@ -23,7 +23,7 @@ pub record Waiters (k : Course) (c : ℕ) (w : Waiter) : Type 0 where
   pub somebody-in-way : (i : ℕ) × InWay (now k .row c) w i
   -- it does not hold what it waits for; and if it holds the cell it stands at the front of its queue: at most the front is a promotion (01, rule 2; 02, No. 1)
   pub lacks-it : covers (now k .row c .held (w .job)) (needed (w .ask)) ≡ false
-  pub promotion-in-front : isFree (now k .row c .held (w .job)) ≡ false → (v : Waiter) → Ahead v w (now k .row c .queue) → ⊥
+  pub holder-in-front : isFree (now k .row c .held (w .job)) ≡ false → (v : Waiter) → Ahead v w (now k .row c .queue) → ⊥
   -- it is older than each, each is in a run, and they are at most 31 (01, rules 2 and 3; 01, Slips to rule out, 1)
   pub is-older : (i : ℕ) → InWay (now k .row c) w i → w .job < i
   pub in-way-live : (i : ℕ) → InWay (now k .row c) w i → isLive (now k .stat i) ≡ true

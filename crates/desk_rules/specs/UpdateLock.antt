@@ -69,7 +69,7 @@ pub record UpdateLock (k : Course) : Type 0 where
   pub only-fewer : (rs : List Request) (c i j : ℕ) → i ≢ j → shutsOut (holding k c j) ≡ true → ended j (k .wrote [] rs) ≡ false → isFree (k .seen rs .row c .held i) ≡ false → k .seen rs .row c .held i ≡ holding k c i
   -- and of two jobs that read with intent only one at a time holds U
   pub one-at-a-time : (c i j : ℕ) → i ≢ j → shutsOut (holding k c i) ≡ true → shutsOut (holding k c j) ≡ false
-  -- a job that holds U and asks for a write or an increment is sent back only where an older job has held S there since before it got its U
-  pub back-only-behind-s : (got : Request) (rest : List Request) (r : Request) (a : Ask) (j c : ℕ) → HasU k got rest j c → letterOf (r .kind) ≡ Known (Asks a) → r .job ≡ j → r .cell ≡ c → later k got .does rest r .said ≡ Back j → (i : ℕ) × (i < j) × HeldSince k got rest i c
+  -- a job that holds U and asks for more is sent back only where an older job has held S there since before it got its U
+  pub back-only-behind-s : (got : Request) (rest : List Request) (r : Request) (j c : ℕ) → HasU k got rest j c → r .job ≡ j → r .cell ≡ c → later k got .does rest r .said ≡ Back j → (i : ℕ) × (i < j) × HeldSince k got rest i c
   -- u is recorded as a read, at once, by rule 1 and as a wake
   pub recorded-as-read : (r : Request) (j c : ℕ) → Gets k r j c Update → In (Does (record { kind = Read; job = j; cell = c })) (records k r)
