@@ -1,13 +1,15 @@
--- The matrix of lock modes, row by row and both ways: what is granted beside each held mode, and what may be held together (01, The desk's rules; 02, No. 1).
+-- The matrix of lock modes, row by row and both ways: what is granted beside each held mode, and what may be held together (01, The desk's rules; 02, No. 1; 000, 18.4.4).
 -- Assumes nothing.
 use mathlib.Core.Path.{_≡_, refl}
 use mathlib.Core.Logic.{_↔_, _⊎_, inl, inr, ⊎-elim}
 use mathlib.Core.Bool.{true, false}
+use mathlib.Core.List.{[], _∷_}
 use Rattle.laws.specs.Choice.{not-both}
 use Rattle.laws.proofs.Parts.{or-either}
 use Rattle.conflict.specs.declared.modes.Mode.{Mode}
 use Rattle.conflict.specs.declared.modes.Mode.the-variants.{Free, S, X, I, U}
 use Rattle.conflict.specs.Modes.{beside, grants}
+use Rattle.conflict.proofs.EachMode.{alike, of-modes, equal}
 use Rattle.conflict.proofs.ModeLaws.{free-beside, beside-free}
 
 -- what is granted beside a held S
@@ -70,6 +72,25 @@ beside-held-i m = (only-beside-i m, ⊎-elim (λ e. rw e) (λ e. rw e))
 pub i-and-u-never : (grants I U ≡ false) × (grants U I ≡ false) × (beside I U ≡ false) × (beside U I ≡ false)
 unfolding beside grants
 i-and-u-never = (refl, refl, refl, refl)
+
+-- Figure 18.19 of the book: a row for each held mode, S, X and U, and in it whether S, X and U are granted beside it (000, 18.4.4)
+pub figure-18-19 :
+    (grants S S ∷ grants S X ∷ grants S U ∷ [])
+    ∷ (grants X S ∷ grants X X ∷ grants X U ∷ [])
+    ∷ (grants U S ∷ grants U X ∷ grants U U ∷ [])
+    ∷ []
+    ≡ (true ∷ false ∷ true ∷ []) ∷ (false ∷ false ∷ false ∷ []) ∷ (false ∷ false ∷ false ∷ []) ∷ []
+unfolding grants
+figure-18-19 = refl
+
+-- a U looks like an S to whoever asks for it, and like an X to whoever comes after: the columns of U and S are the same, and so are the rows of U and X (000, 18.4.4)
+pub u-asked-as-s : (m : Mode) → grants m U ≡ grants m S
+unfolding grants
+u-asked-as-s m = equal (grants m U) (grants m S) (of-modes (λ m. alike (grants m U) (grants m S)) refl m)
+
+pub u-held-as-x : (m : Mode) → grants U m ≡ grants X m
+unfolding grants
+u-held-as-x m = equal (grants U m) (grants X m) (of-modes (λ m. alike (grants U m) (grants X m)) refl m)
 
 -- one of two jobs holds nothing, or both hold S, or both hold I, or one holds S and the other U
 abbrev pub Agreeing : Mode → Mode → Type 0

@@ -48,7 +48,7 @@ covers X U = true
 covers I U = false
 covers U U = true
 
--- a mode held by one job agrees with a mode that another asks for: beside a held S an S or a U, beside a held I an I, beside a held X or U nothing (01, The desk's rules; 02, No. 1).
+-- a mode held by one job agrees with a mode that another asks for: beside a held S an S or a U, beside a held I an I, beside a held X or U nothing (01, The desk's rules; 02, No. 1; 000, 18.4.4).
 -- Beside a job that holds nothing everything is granted, and who asks for nothing gets it
 unfoldable pub grants : Mode → Mode → Bool
 grants Free m = true
