@@ -281,7 +281,7 @@ pub fn put_step(out: &mut Vec<u8>, outcome: &Outcome) {
         out.extend_from_slice(b"\twake");
         put_field(out, u64::from(wake.job));
         put_field(out, u64::from(wake.cell));
-        put_field(out, u64::from(wake.letter));
+        put_field(out, u64::from(recorded(wake.letter)));
     }
     out.push(b'\n');
 }

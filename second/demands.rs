@@ -1,4 +1,5 @@
-//! The demands, held against a random run of the desk by brute force.
+//! The demands, held against a random run of the desk by brute force. They read with the larger
+//! matrix of 02, No. 1; what that request promises of its own stands in `demands/update.rs`.
 
 use crate::desk::{history_of, Answer, Cell, Desk, Holder, Outcome, Status};
 use crate::judge::{judge, Verdict};
@@ -7,6 +8,7 @@ use crate::make::requests::Maker;
 use crate::make::Chance;
 use crate::words::*;
 use std::collections::{BTreeMap, BTreeSet};
+use update::{enough, grown, lets, together, update, Holds};
 
 /// Ends the function with the text if the statement does not hold.
 macro_rules! demand {
@@ -16,6 +18,8 @@ macro_rules! demand {
         }
     };
 }
+
+pub mod update;
 
 /// A wait under way: what was asked, the mode it is for, and the jobs that held the cell
 /// or stood ahead when it asked and have not ended that run since.
@@ -79,6 +83,7 @@ pub struct Watch {
     pub waits: BTreeMap<u32, Wait>,
     pub history: Vec<Line>,
     pub committed: Vec<(usize, Line)>,
+    pub holds: Holds,
 }
 
 impl Watch {
@@ -93,20 +98,23 @@ impl Watch {
         oldest_not_sent_back(seen)?;
         locks(seen)?;
         self.nobody_forgotten(seen)?;
-        self.events(seen, &history_of(seen.asked, seen.outcome))
+        let events = history_of(seen.asked, seen.outcome);
+        self.events(seen, &events)?;
+        update(seen, &events)?;
+        self.holds.see(seen)
     }
 
     /// g: the table of refusals, all rows looked at, the first that applies counts.
     pub fn table(&self, desk: &Desk, asked: Line) -> Option<u8> {
         let Line { letter, job, cell } = asked;
         let begin = letter == b'b';
-        let action = letter == b'r' || letter == b'w' || letter == b'i';
+        let action = matches!(letter, b'r' | b'w' | b'i' | b'u');
         let open = job != 0 && desk.jobs.iter().any(|open| open.number == job);
         let waiting = open && queues_of(desk, job) > 0;
         let sent_back = open && numbers_with(desk, Status::SentBack).contains(&job);
         let running = open && !waiting && !sent_back;
         let rows = [
-            (1, ![98, 99, 97, 116, 114, 119, 105].contains(&letter)),
+            (1, ![98, 99, 97, 116, 114, 119, 105, 117].contains(&letter)),
             (7, begin && self.given.contains(&4_294_967_295)),
             (6, begin && desk.jobs.len() == 32),
             (3, !begin && !open),
@@ -187,8 +195,7 @@ impl Watch {
         let runs = in_the_way(&seen.after.cells[number], job);
         demand!(runs.len() <= 31, "b: {} runs in the way of {job}", runs.len());
         demand!(!runs.is_empty(), "b: {job} waits with nobody in its way");
-        let promotion = seen.before.cells[number].held_by(job).is_some();
-        let mode = if promotion { Mode::X } else { needs(seen.asked.letter) };
+        let mode = grown(seen.before.cells[number].held_by(job), seen.asked.letter);
         self.waits.insert(job, Wait { asked: seen.asked, mode, runs });
         Ok(())
     }
@@ -363,7 +370,7 @@ pub fn locks(seen: &Seen) -> Result<(), String> {
         for (place, one) in cell.holders.iter().enumerate() {
             for other in &cell.holders[..place] {
                 demand!(one.job != other.job, "f: {} holds cell {number} twice", one.job);
-                let agree = one.mode == other.mode && one.mode != Mode::X;
+                let agree = together(one.mode, other.mode);
                 demand!(agree, "f: cell {number} held by {one:?} and {other:?}");
             }
             let live = seen.after.status(one.job).is_some_and(|status| status != Status::SentBack);
@@ -373,7 +380,8 @@ pub fn locks(seen: &Seen) -> Result<(), String> {
             demand!(!new || grant, "f: cell {number} came to {one:?} without a grant");
         }
         for old in &seen.before.cells[number].holders {
-            let stays = cell.held_by(old.job).is_some_and(|mode| mode == old.mode || mode == Mode::X);
+            let bigger = |mode: Mode| mode == Mode::X || (old.mode, mode) == (Mode::S, Mode::U);
+            let stays = cell.held_by(old.job).is_some_and(|mode| mode == old.mode || bigger(mode));
             demand!(
                 stays || seen.ended() == Some(old.job),
                 "f: {} lost cell {number} within its run",
@@ -383,10 +391,7 @@ pub fn locks(seen: &Seen) -> Result<(), String> {
     }
     for grant in granted {
         let held = seen.after.cells[grant.cell as usize].held_by(grant.job);
-        demand!(
-            held.is_some_and(|mode| covers(mode, needs(grant.letter))),
-            "f: {grant:?} granted under {held:?}"
-        );
+        demand!(enough(held, grant.letter), "f: {grant:?} granted under {held:?}");
     }
     Ok(())
 }
@@ -440,8 +445,7 @@ pub fn places_and_queues(desk: &Desk) -> Result<(), String> {
         demand!(queue.windows(2).all(|pair| pair[0] > pair[1]), "g: the queue of cell {number} is {queue:?}");
         demand!(queue.iter().all(|job| numbers.contains(job)), "g: not all of {queue:?} are open");
         if let Some(first) = cell.queue.front() {
-            let beside = |mode: Mode| mode == first.mode && mode != Mode::X;
-            let blocks = |holder: &Holder| holder.job != first.job && !beside(holder.mode);
+            let blocks = |holder: &Holder| holder.job != first.job && !lets(holder.mode, first.mode);
             demand!(cell.holders.iter().any(blocks), "g: nothing blocks {} on cell {number}", first.job);
         }
     }

@@ -23,7 +23,7 @@ pub struct Holder {
     pub mode: Mode,
 }
 
-/// A waiter asked with `letter` and waits for `mode` (X for a promotion).
+/// A waiter asked with `letter` and waits to hold the cell in `mode`.
 #[derive(Clone, PartialEq, Debug)]
 pub struct Waiter {
     pub job: u32,
@@ -43,9 +43,10 @@ impl Cell {
         self.holders.iter().find(|holder| holder.job == job).map(|holder| holder.mode)
     }
 
-    /// Rules 3 and 4: the mode agrees with every holder other than the job itself.
+    /// Rules 2 to 4, and 02, No. 1: the mode may be granted beside every holder other than the job
+    /// itself.
     pub fn agrees(&self, job: u32, mode: Mode) -> bool {
-        self.holders.iter().all(|holder| holder.job == job || together(holder.mode, mode))
+        self.holders.iter().all(|holder| holder.job == job || granted_beside(holder.mode, mode))
     }
 
     /// Rules 2 and 3: older (smaller) than every holder other than the job itself.
@@ -212,24 +213,26 @@ impl Desk {
         wakes
     }
 
-    /// Read, write and increment by a running job: rule 1, 2 or 3.
+    /// Read, write, increment and `u` by a running job: rule 1, 2 or 3.
     pub fn ask(&mut self, asked: Line) -> Outcome {
         match self.cells[asked.cell as usize].held_by(asked.job) {
             Some(held) if covers(held, needs(asked.letter)) => Outcome::alone(Answer::Go(asked.job)),
-            Some(_) => self.promote(asked),
+            Some(held) => self.promote(asked, held),
             None => self.ask_anew(asked),
         }
     }
 
-    /// Rule 2: a promotion to X.
-    pub fn promote(&mut self, asked: Line) -> Outcome {
+    /// Rule 2, and 02, No. 1: a promotion is granted when its new mode agrees with the other holders
+    /// (for X: when there are none), whoever waits; age is held against every other holder.
+    pub fn promote(&mut self, asked: Line, held: Mode) -> Outcome {
         let Line { letter, job, .. } = asked;
+        let mode = held_after(Some(held), letter);
         let cell = &mut self.cells[asked.cell as usize];
-        if cell.holders.len() == 1 {
-            cell.hold(job, Mode::X);
+        if cell.agrees(job, mode) {
+            cell.hold(job, mode);
             Outcome::alone(Answer::Go(job))
         } else if cell.older_than_holders(job) {
-            cell.queue.push_front(Waiter { job, letter, mode: Mode::X });
+            cell.queue.push_front(Waiter { job, letter, mode });
             self.wait(job)
         } else {
             self.back(job)
@@ -239,7 +242,7 @@ impl Desk {
     /// Rule 3: a job that does not hold the cell.
     pub fn ask_anew(&mut self, asked: Line) -> Outcome {
         let Line { letter, job, .. } = asked;
-        let mode = needs(letter);
+        let mode = held_after(None, letter);
         let cell = &mut self.cells[asked.cell as usize];
         if cell.queue.is_empty() && cell.agrees(job, mode) {
             cell.hold(job, mode);
@@ -260,7 +263,8 @@ impl Desk {
 }
 
 /// 01, Lines, "History records": the step's events; `c`, `a`, `k` before the wakes. A
-/// record's letter is the letter asked (docs/DECISIONS.md, "Records of rule 1").
+/// record's letter is the letter asked (docs/DECISIONS.md, "Records of rule 1"), and `r` for `u`,
+/// however it was granted (02, No. 1).
 pub fn history_of(asked: Line, outcome: &Outcome) -> Vec<Line> {
     let mut events = Vec::new();
     match outcome.answer {
@@ -269,5 +273,5 @@ pub fn history_of(asked: Line, outcome: &Outcome) -> Vec<Line> {
         _ => {}
     }
     events.extend(&outcome.wakes);
-    events
+    events.iter().map(|event| Line { letter: recorded(event.letter), ..*event }).collect()
 }

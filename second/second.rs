@@ -1,7 +1,7 @@
 //! The second program: the feeding desk, its line reader and the judge of
-//! histories once more, written from document 01 (cited as "01") and, where 01
-//! leaves a point open, from docs/DECISIONS.md alone. It is the yardstick for random
-//! runs, so it is simple rather than clever.
+//! histories once more, written from documents 01 and 02 (cited as "01" and "02") and,
+//! where they leave a point open, from docs/DECISIONS.md alone. It is the yardstick for
+//! random runs, so it is simple rather than clever.
 //!
 //! This file has the command line. Each subject has a file: words, lines, desk, judge,
 //! commands, make with its four, demands; and tests with a file for each of these.

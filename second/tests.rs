@@ -5,6 +5,8 @@ mod desk;
 mod judge;
 mod lines;
 mod makers;
+mod update;
+mod update_makers;
 
 use crate::judge::{judge, Verdict};
 use crate::run;

@@ -1,6 +1,8 @@
-//! The paper's words: letters, limits and refusals, the modes of locks, and what conflicts.
+//! The papers' words: letters, limits and refusals, the modes of locks, and what conflicts.
 
-/// 01, Lines: the letters of requests and histories.
+use Mode::{I, S, U, X};
+
+/// 01, Lines, and 02, No. 1: the letters of requests and histories.
 pub const BEGIN: u8 = b'b';
 pub const COMMIT: u8 = b'c';
 pub const GIVE_UP: u8 = b'a';
@@ -8,10 +10,11 @@ pub const RETRY: u8 = b't';
 pub const READ: u8 = b'r';
 pub const WRITE: u8 = b'w';
 pub const INCREMENT: u8 = b'i';
+pub const UPDATE: u8 = b'u';
 pub const SENT_BACK: u8 = b'k';
 
-/// 01, Lines: "Requests" and "History".
-pub const REQUEST_LETTERS: &[u8] = b"bcatrwi";
+/// 01, Lines: "Requests" and "History"; `u` is a request alone (02, No. 1).
+pub const REQUEST_LETTERS: &[u8] = b"bcatrwiu";
 pub const HISTORY_LETTERS: &[u8] = b"rwicak";
 
 /// 01, What is delivered, Jobs and their numbers, Lines, Refusals by number.
@@ -54,36 +57,80 @@ pub fn has_job(letter: u8) -> bool {
     letter != BEGIN
 }
 
-/// 01, Lines: `r`, `w` and `i` have a cell.
+/// 01, Lines: `r`, `w` and `i` have a cell; and so has `u` (02, No. 1).
 pub fn has_cell(letter: u8) -> bool {
-    matches!(letter, READ | WRITE | INCREMENT)
+    matches!(letter, READ | WRITE | INCREMENT | UPDATE)
 }
 
-/// 01, The desk's rules: lock modes.
-#[derive(Clone, Copy, PartialEq, Debug)]
-pub enum Mode {
-    S,
-    X,
-    I,
-}
-
-/// 01, The desk's rules: "Read needs S, write X, increment I."
-pub fn needs(letter: u8) -> Mode {
-    match letter {
-        READ => Mode::S,
-        WRITE => Mode::X,
-        _ => Mode::I,
+/// 02, No. 1: "The history records `u` as `r`."
+pub fn recorded(letter: u8) -> u8 {
+    if letter == UPDATE {
+        READ
+    } else {
+        letter
     }
 }
 
-/// 01, The desk's rules: two jobs hold a cell together as S with S or I with I.
-pub fn together(one: Mode, other: Mode) -> bool {
-    matches!((one, other), (Mode::S, Mode::S) | (Mode::I, Mode::I))
+/// 01, The desk's rules, and 02, No. 1: lock modes, in the order of the tables below.
+#[derive(Clone, Copy, PartialEq, Debug)]
+pub enum Mode {
+    S,
+    U,
+    I,
+    X,
 }
 
-/// 01, The desk's rules: "X covers all three needs, S covers S, I covers I."
+/// 01, The desk's rules: "Read needs S, write X, increment I."; 02, No. 1: "`u` ... asks for U."
+pub fn needs(letter: u8) -> Mode {
+    match letter {
+        READ => S,
+        UPDATE => U,
+        INCREMENT => I,
+        _ => X,
+    }
+}
+
+/// 01, The desk's rules, and 02, No. 1: whether a mode asked for may be granted beside a mode that
+/// another job holds. Not the same both ways: U beside a held S, but S not beside a held U.
+#[rustfmt::skip]
+pub fn granted_beside(held: Mode, asked: Mode) -> bool {
+    let row = match held {
+        // asked: S, U, I, X
+        S => [true,  true,  false, false],
+        U => [false, false, false, false],
+        I => [false, false, true,  false],
+        X => [false, false, false, false],
+    };
+    row[asked as usize]
+}
+
+/// 01, The desk's rules, and 02, No. 1: X covers all four needs, U covers U and S, S covers S, I
+/// covers I.
+#[rustfmt::skip]
 pub fn covers(held: Mode, need: Mode) -> bool {
-    held == Mode::X || held == need
+    let row = match held {
+        // needed: S, U, I, X
+        S => [true,  false, false, false],
+        U => [true,  true,  false, false],
+        I => [false, false, true,  false],
+        X => [true,  true,  true,  true],
+    };
+    row[need as usize]
+}
+
+/// 01, Rules 2 and 3, and 02, No. 1: the mode that a job holds once a request is granted, by what it
+/// held before.
+#[rustfmt::skip]
+pub fn held_after(held: Option<Mode>, letter: u8) -> Mode {
+    let row = match held {
+        // r, u, i, w
+        None    => [S, U, I, X],
+        Some(S) => [S, U, X, X],
+        Some(U) => [U, U, X, X],
+        Some(I) => [X, X, I, X],
+        Some(X) => [X, X, X, X],
+    };
+    row[needs(letter) as usize]
 }
 
 /// 01, The judge's rules: two jobs' actions on one cell conflict unless both are reads

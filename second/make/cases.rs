@@ -125,6 +125,7 @@ pub fn put_case_fault(chance: &mut Chance, kind: u64, events: &[Line], lines: &m
     let above = chance.of(&[64, 65, 99]);
     let mut event = events[at];
     match kind {
+        11 if chance.percent(25) => event.letter = UPDATE,
         11 => {
             lines[at] = spoil_line(chance, &lines[at]);
             return;
@@ -139,7 +140,7 @@ pub fn put_case_fault(chance: &mut Chance, kind: u64, events: &[Line], lines: &m
             event.job = if ended.is_empty() { event.job } else { chance.of(&ended) };
         }
         _ => {
-            event.letter = chance.of(b"rwi");
+            event.letter = chance.of(b"rwirwiu");
             event.cell = above;
             event.job = if ended.is_empty() || chance.percent(50) { outside } else { chance.of(&ended) };
             let other = chance.below(lines.len());

@@ -50,7 +50,7 @@ pub fn fill_text(chance: &mut Chance, text: &mut [Vec<u8>]) {
     }
 }
 
-/// 01, Refusals by number: puts 12, 2, 13 or two of them on one line.
+/// 01, Refusals by number: puts 12, 2, 13 or two of them on one line; at times with a `u`, which is 9.
 pub fn put_fault(chance: &mut Chance, events: &mut [Line]) {
     let at = chance.below(events.len());
     let outside = chance.of(&[0, 256, 257, 511, 65_537, LAST_NUMBER]);
@@ -69,6 +69,9 @@ pub fn put_fault(chance: &mut Chance, events: &mut [Line]) {
     if kind == 1 || kind == 2 || kind == 4 {
         events[at].letter = chance.of(b"rwi");
         events[at].cell = chance.of(&[64, 65, 99]);
+    }
+    if chance.percent(15) {
+        events[at].letter = UPDATE;
     }
 }
 

@@ -20,7 +20,7 @@ pub fn odd_byte(chance: &mut Chance) -> u8 {
     let byte = match chance.below(3) {
         0 => chance.below(256) as u8,
         1 => chance.of(b"0123456789"),
-        _ => chance.of(b"\t\t \r\0+-.,/:bcatrwikBCATRWIKx\x0b\x0c\x7f\x80\xff"),
+        _ => chance.of(b"\t\t \r\0+-.,/:bcatrwikuBCATRWIKUx\x0b\x0c\x7f\x80\xff"),
     };
     if byte == b'\n' {
         b'\r'
@@ -31,7 +31,7 @@ pub fn odd_byte(chance: &mut Chance) -> u8 {
 
 /// A line that is well formed for at least one reader, without its newline.
 pub fn good_line(chance: &mut Chance) -> Vec<u8> {
-    let letter = chance.of(b"bcatrwikrwirwi");
+    let letter = chance.of(b"bcatrwikurwiurwi");
     let job = match chance.below(4) {
         0 => chance.number() as u32,
         1 => chance.of(&[0, 1, 255, 256, 999_999_999, 1_000_000_000, LAST_NUMBER - 1, LAST_NUMBER]),
@@ -76,7 +76,7 @@ pub fn spoil_fields(chance: &mut Chance, line: &[u8]) -> Vec<u8> {
         5 => fields[at].insert(0, chance.of(b"0+- ")),
         6 => fields[at].push(chance.of(b"0 \r\0")),
         7 => fields.swap(at, 0),
-        8 => fields[0] = vec![chance.of(b"abcdefghijklmnopqrstuvwxyzABCIKRTW01 ")],
+        8 => fields[0] = vec![chance.of(b"abcdefghijklmnopqrstuvwxyzABCIKRTUW01 ")],
         9 => fields[at] = number,
         10 if fields.len() > 1 => fields[1] = number,
         _ if fields.len() > 2 => fields[2] = number,

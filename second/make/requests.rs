@@ -6,7 +6,8 @@ use crate::desk::{Cell, Desk, Job, Status};
 use crate::lines::put_fields;
 use crate::words::*;
 
-/// How requests are chosen for some tens of steps; shares are percents.
+/// How requests are chosen for some tens of steps; shares are percents, but for the four letters' (`reads`
+/// to `increments`), which are weights.
 pub struct Mix {
     pub hot: Vec<u32>,
     pub hot_share: usize,
@@ -14,11 +15,15 @@ pub struct Mix {
     pub begin: usize,
     pub reads: usize,
     pub writes: usize,
+    pub updates: usize,
+    pub increments: usize,
     pub end: usize,
     pub commit: usize,
     pub leave: usize,
     pub seek_wait: usize,
     pub seek_promotion: usize,
+    pub seek_beside: usize,
+    pub seek_among: usize,
     pub prod: usize,
 }
 
@@ -71,11 +76,15 @@ impl Maker {
             begin: if full { 60 } else { chance.of(&[10, 25, 50]) },
             reads: chance.of(&[10, 35, 50, 70]),
             writes: chance.of(&[10, 15, 20, 30]),
+            updates: chance.of(&[10, 25, 50]),
+            increments: chance.of(&[5, 15, 40]),
             end: chance.of(&[3, 8, 15, 25]),
             commit: chance.of(&[50, 80, 95]),
             leave: chance.of(&[5, 15, 30]),
             seek_wait: chance.of(&[0, 20, 40]),
             seek_promotion: chance.of(&[0, 10, 25]),
+            seek_beside: chance.of(&[20, 45, 70]),
+            seek_among: chance.of(&[10, 20, 30]),
             prod: if hottest { 2 } else { chance.of(&[2, 8, 15]) },
         }
     }
@@ -133,11 +142,15 @@ impl Maker {
         }
     }
 
-    /// A request of some open job, as its status allows; None to look at another.
+    /// A request of some open job, as its status allows, or of one that holds a cell with others; None to
+    /// look at another.
     pub fn sensible(&mut self) -> Option<Line> {
         let open = self.desk.jobs.len();
         if open == 0 {
             return None;
+        }
+        if self.chance.percent(self.mix.seek_among) {
+            return self.among_others();
         }
         let Job { number: job, status } = self.desk.jobs[self.chance.below(open)];
         let letter = match status {
@@ -148,7 +161,7 @@ impl Maker {
                     GIVE_UP
                 }
             }
-            Status::Running => return Some(Line { letter: self.action(), job, cell: self.cell_for(job) }),
+            Status::Running => return Some(self.action_of(job)),
             Status::Waiting if self.chance.percent(self.mix.leave) && self.may_close() => GIVE_UP,
             Status::SentBack if self.chance.percent(self.mix.leave / 2) && self.may_close() => GIVE_UP,
             Status::SentBack if self.chance.percent(60) => RETRY,
@@ -157,14 +170,15 @@ impl Maker {
         Some(Line { letter, job, cell: 0 })
     }
 
+    /// One of the four letters that have a cell.
     pub fn action(&mut self) -> u8 {
-        let drawn = self.chance.below(100);
-        if drawn < self.mix.reads {
-            READ
-        } else if drawn < self.mix.reads + self.mix.writes {
-            WRITE
-        } else {
-            INCREMENT
+        let Mix { reads, writes, updates, increments, .. } = self.mix;
+        let drawn = self.chance.below(reads + writes + updates + increments);
+        match drawn {
+            _ if drawn < reads => READ,
+            _ if drawn < reads + writes => WRITE,
+            _ if drawn < reads + writes + updates => UPDATE,
+            _ => INCREMENT,
         }
     }
 
@@ -176,25 +190,73 @@ impl Maker {
         }
     }
 
-    /// A cell to ask for; at times one whose holders and waiters are all younger, or one
-    /// that the job holds in S or I.
-    pub fn cell_for(&mut self, job: u32) -> u32 {
+    /// What a running job asks for; at times a cell whose holders and waiters are all younger, one that
+    /// it holds in S, U or I (with any letter), or one that is granted beside others.
+    pub fn action_of(&mut self, job: u32) -> Line {
         let younger = |cell: &Cell| {
             let others = cell.holders.iter().any(|holder| holder.job != job);
             others && cell.older_than_holders(job) && cell.older_than_waiters(job)
         };
         let weak = |cell: &Cell| cell.held_by(job).is_some_and(|mode| mode != Mode::X);
+        let mut letter = self.action();
         let mut found = Vec::new();
         if self.chance.percent(self.mix.seek_wait) {
             found = self.cells_that(younger);
         } else if self.chance.percent(self.mix.seek_promotion) {
             found = self.cells_that(weak);
+            letter = self.chance.of(b"rwiu");
+        } else if self.chance.percent(self.mix.seek_beside) {
+            if let Some(asked) = self.beside_others(job) {
+                return asked;
+            }
         }
-        if found.is_empty() {
-            self.cell()
-        } else {
-            self.chance.of(&found)
+        let cell = if found.is_empty() { self.cell() } else { self.chance.of(&found) };
+        Line { letter, job, cell }
+    }
+
+    /// A request that is granted beside others; a `u` at times beside younger or older ones alone.
+    pub fn beside_others(&mut self, job: u32) -> Option<Line> {
+        let letter = self.chance.of(b"rriuu");
+        let age = if letter == UPDATE { self.chance.below(3) } else { 0 };
+        let found = self.cells_that(|cell| {
+            let beside = !cell.holders.is_empty() && cell.held_by(job).is_none() && cell.queue.is_empty();
+            let fits = match age {
+                0 => true,
+                1 => cell.older_than_holders(job),
+                _ => cell.holders.iter().all(|holder| holder.job < job),
+            };
+            beside && fits && cell.agrees(job, held_after(None, letter))
+        });
+        let cell = self.fuller_of(&found)?;
+        Some(Line { letter, job, cell })
+    }
+
+    /// A request of a job that holds a cell with others, or before others that wait; mostly of one of the
+    /// two oldest that hold it.
+    pub fn among_others(&mut self) -> Option<Line> {
+        let crowded = |cell: &Cell| cell.holders.len() + cell.queue.len() > 1;
+        let weak = |cell: &Cell| cell.holders.iter().any(|holder| holder.mode != Mode::X);
+        let found = self.cells_that(|cell| crowded(cell) && weak(cell));
+        let cell = self.fuller_of(&found)?;
+        let holders = &self.desk.cells[cell as usize].holders;
+        let mut jobs: Vec<u32> = holders.iter().map(|holder| holder.job).collect();
+        jobs.sort();
+        if self.chance.percent(75) {
+            jobs.truncate(2);
         }
+        let letter = self.chance.of(b"rwwiiuuu");
+        let job = self.chance.of(&jobs);
+        let runs = self.desk.status(job) == Some(Status::Running);
+        runs.then_some(Line { letter, job, cell })
+    }
+
+    /// Of two drawn cells the one with more holders.
+    pub fn fuller_of(&mut self, cells: &[u32]) -> Option<u32> {
+        if cells.is_empty() {
+            return None;
+        }
+        let drawn = [self.chance.of(cells), self.chance.of(cells)];
+        drawn.into_iter().max_by_key(|&cell| self.desk.cells[cell as usize].holders.len())
     }
 
     pub fn cells_that(&self, fit: impl Fn(&Cell) -> bool) -> Vec<u32> {
@@ -203,7 +265,7 @@ impl Maker {
 
     /// A request that asks for one of the refusals 2, 3, 4, 5, 6, 8, if the desk has a job for it.
     pub fn prod(&mut self) -> Line {
-        let any = self.chance.of(b"catrwi");
+        let any = self.chance.of(b"catrwiu");
         let (letter, status) = match self.chance.below(6) {
             0 => (self.action(), Some(Status::Running)),
             1 => (any, Some(Status::Waiting)),
@@ -261,7 +323,7 @@ impl Maker {
         let anything = self.chance.number() as u32;
         match self.chance.below(6) {
             0 => asked.letter = self.chance.below(256) as u8,
-            1 => asked.letter = self.chance.of(&[0, 1, b'k', b'B', b'R', b'C', asked.letter ^ 128, 255]),
+            1 => asked.letter = self.chance.of(&[0, 1, b'k', b'B', b'R', b'C', b'U', asked.letter ^ 128, 255]),
             2 => {
                 asked.cell = self.chance.of(&[64, 65, 127, 128, 255, 256, 320, 65_536, 1 << 31, LAST_NUMBER])
             }

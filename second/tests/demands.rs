@@ -1,6 +1,7 @@
 //! The demands: each statement is able to fail.
 
 use super::{printed, shown, text};
+use crate::demands::update::{nobody_beside, one_writer, promotions, records, Holds};
 use crate::demands::*;
 use crate::desk::{Answer, Desk, Holder, Job, Outcome, Status, Waiter};
 use crate::lines::{read_line, read_request};
@@ -17,7 +18,7 @@ fn desk_after(steps: &str) -> Desk {
 }
 
 fn line(words: &str) -> Line {
-    read_line(&text(words), b"bcatrwik").expect("a good line")
+    read_line(&text(words), b"bcatrwiku").expect("a good line")
 }
 
 fn fails(found: Result<(), String>, letter: &str) {
@@ -277,4 +278,103 @@ fn demand_g_looks_at_begin_retry_and_wakes() {
     let steps = "b, b, b, w 3 63, w 3 0, r 1 63, r 2 0, c 3";
     assert_eq!(watched(steps, |_, _| {}), Ok(()));
     fails(watched(steps, |outcome, _| outcome.wakes.swap(0, 1)), "g: wakes not in order");
+}
+
+/// The desk sends the job back, whatever it should do.
+fn send_back(job: u32) -> impl Fn(&mut Outcome, &mut Desk) {
+    move |outcome, desk| {
+        outcome.answer = Answer::Back(job);
+        desk.set_status(job, Status::SentBack);
+        outcome.wakes = desk.end_run(job);
+    }
+}
+
+#[test]
+fn update_locks_let_nobody_in() {
+    let go = |outcome: &mut Outcome, desk: &mut Desk| {
+        outcome.answer = Answer::Go(1);
+        desk.set_status(1, Status::Running);
+        desk.cells[5].queue.clear();
+        desk.cells[5].hold(1, Mode::S);
+    };
+    fails(watched("b, b, u 2 5, r 1 5", go), "u: Holder { job: 1, mode: S } came to cell 5");
+    let steps = "b, b, r 1 5, u 2 5, u 1 5";
+    assert_eq!(watched(steps, |_, _| {}), Ok(()));
+    let grow = |outcome: &mut Outcome, desk: &mut Desk| {
+        go(outcome, desk);
+        desk.cells[5].hold(1, Mode::U);
+    };
+    fails(watched(steps, grow), "f: cell 5 held by");
+    let mut desk = desk_after("b, b, r 1 5, u 2 5");
+    let (before, asked) = (desk.clone(), line("u 1 5"));
+    desk.cells[5].hold(1, Mode::U);
+    fails(one_writer(&desk), "u: [2, 1] hold U or X on cell 5");
+    let outcome = Outcome::alone(Answer::Go(1));
+    let seen = Seen { before: &before, asked, outcome: &outcome, after: &desk };
+    fails(nobody_beside(&seen), "u: Holder { job: 1, mode: U } came to cell 5");
+}
+
+#[test]
+fn update_locks_by_the_table() {
+    fails(
+        watched("b, r 1 5, u 1 5", |_, desk| desk.cells[5].hold(1, Mode::X)),
+        "u: after Line { letter: 117, job: 1, cell: 5 } Some(X) is held",
+    );
+    fails(watched("b, i 1 5, u 1 5", |_, desk| desk.cells[5].hold(1, Mode::U)), "f: 1 lost cell 5");
+    fails(watched("b, b, r 1 5, r 2 5, u 2 5", send_back(2)), "u: with Some(S)");
+    fails(watched("b, b, b, r 2 5, u 3 5, u 2 5", send_back(2)), "u: with Some(S)");
+    fails(watched("b, b, b, u 3 5, r 2 5", send_back(2)), "u: with None");
+    let mut desk = desk_after("b, b, b, r 3 5, r 2 5, w 1 5, w 2 5");
+    assert_eq!(promotions(&desk), Ok(()));
+    desk.cells[5].queue.swap(0, 1);
+    fails(promotions(&desk), "u: Waiter { job: 2, letter: 119, mode: X } waits behind");
+    desk.cells[5].queue.swap(0, 1);
+    desk.cells[5].queue[0].letter = READ;
+    fails(promotions(&desk), "u: Waiter { job: 2, letter: 114, mode: X } waits for cell 5 and has Some(S)");
+    desk.cells[5].queue[0].letter = UPDATE;
+    fails(promotions(&desk), "u: Waiter { job: 2, letter: 117, mode: X } waits for cell 5, the table has U");
+}
+
+#[test]
+fn update_locks_are_recorded_as_reads() {
+    let before = desk_after("b, b, w 2 5, u 1 5, u 2 6");
+    let (mut after, asked) = (before.clone(), line("c 2"));
+    let outcome = after.step(asked);
+    let seen = Seen { before: &before, asked, outcome: &outcome, after: &after };
+    let (end, read) = (line("c 2"), line("r 1 5"));
+    assert_eq!(records(&seen, &[end, read]), Ok(()));
+    fails(records(&seen, &[end, line("u 1 5")]), "u: the record Line { letter: 117");
+    fails(records(&seen, &[end, line("w 1 5")]), "u: [Line { letter: 114");
+    fails(records(&seen, &[end]), "u: [Line { letter: 114");
+    fails(records(&seen, &[end, read, read]), "u: [Line { letter: 114");
+    let outcome = Outcome::alone(Answer::Go(2));
+    let seen = Seen { asked: line("u 2 6"), outcome: &outcome, before: &before, after: &before };
+    assert_eq!(records(&seen, &[line("r 2 6")]), Ok(()));
+    fails(records(&seen, &[line("i 2 6")]), "u: [Line { letter: 114");
+}
+
+#[test]
+fn update_locks_go_back_for_older_readers_alone() {
+    // The holds before the last step, as they are seen, and that step sent back.
+    let seen = |steps: &str, job: u32, change: &dyn Fn(&mut Holds)| {
+        let (mut desk, mut holds) = (Desk::start(1).unwrap(), Holds::default());
+        let steps = text(steps);
+        let steps: Vec<&[u8]> = steps.split_inclusive(|&byte| byte == b'\n').collect();
+        for step in &steps[..steps.len() - 1] {
+            let (before, asked) = (desk.clone(), read_request(step).unwrap());
+            let outcome = desk.step(asked);
+            holds.see(&Seen { before: &before, asked, outcome: &outcome, after: &desk }).unwrap();
+        }
+        change(&mut holds);
+        let (before, asked) = (desk.clone(), read_request(steps[steps.len() - 1]).unwrap());
+        let mut outcome = Outcome::alone(Answer::Back(job));
+        send_back(job)(&mut outcome, &mut desk);
+        holds.see(&Seen { before: &before, asked, outcome: &outcome, after: &desk })
+    };
+    assert_eq!(seen("b, b, r 1 5, u 2 5, w 2 5", 2, &|_| {}), Ok(()));
+    assert_eq!(seen("b, b, r 1 5, r 2 5, u 2 5, i 2 5", 2, &|_| {}), Ok(()));
+    fails(seen("b, b, r 2 5, u 1 5, w 1 5", 1, &|_| {}), "u: 1 had U on cell 5 from step 4");
+    fails(seen("b, b, b, r 1 6, r 3 5, r 2 5, u 2 5, i 2 5", 2, &|_| {}), "u: 2 had U on cell 5 from step 7");
+    let later = |holds: &mut Holds| holds.all.get_mut(&(5, 1)).unwrap().since = 4;
+    fails(seen("b, b, r 1 5, u 2 5, w 2 5", 2, &later), "u: 2 had U on cell 5 from step 4");
 }

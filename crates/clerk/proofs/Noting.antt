@@ -4,15 +4,13 @@ use Prim.Native.Nat.{ℕ}
 use mathlib.Core.Path.{_≡_, sym, ap, _∙_}
 use mathlib.Core.List.{append-nil}
 use Rattle.terms.specs.declared.letters.Ask.{Ask}
-use Rattle.terms.specs.declared.letters.Ask.the-variants.{Read, Write, Increment}
 use Rattle.terms.specs.declared.letters.Letter.{Letter}
 use Rattle.terms.specs.declared.letters.Letter.the-variants.{Begin, Commit, GiveUp, Retry, Back, Asks}
 use Rattle.terms.specs.declared.letters.Lettered.the-variants.{Known}
 use Rattle.terms.specs.declared.refusals.Refusal.{Refusal}
 use Rattle.terms.proofs.Alphabet.{letter-of-byte}
+use Rattle.conflict.specs.declared.action.Kind.{Kind}
 use Rattle.conflict.specs.Modes.{recorded}
-use Rattle.conflict.proofs.Clauses.{records-read, records-write, records-increment}
-use Rattle.text_rules.specs.Records.{lineRecord}
 use Rattle.text_rules.specs.EventRecords.{askBy, markLetter, eventLine, textOf}
 use Rattle.desk_rules.specs.declared.Answer.{Answer}
 use Rattle.desk_rules.specs.declared.Answer.the-variants.{Go, Wait, Back as goes-back, No}
@@ -20,13 +18,6 @@ use Rattle.desk_rules.specs.Step.{wentBy, ownRecords}
 use Rattle.clerk.specs.declared.records.Noted.{Noted}
 use Rattle.clerk.specs.declared.records.Noted.the-variants.{Nothing, Line}
 use Rattle.clerk.specs.Parts.{asking, notedBytes}
-
--- what is asked is the letter of the kind that is recorded of it
-ask-recorded : (a : Ask) → askBy (recorded a) ≡ a
-unfolding askBy
-ask-recorded Read = rw records-read
-ask-recorded Write = rw records-write
-ask-recorded Increment = rw records-increment
 
 -- what is noted of a request that goes
 abbrev Went : Noted → Letter → ℕ → ℕ → Type 0
@@ -55,10 +46,10 @@ module _ (l : Letter) (job cell : ℕ) where
   unfolding notedBytes wentBy textOf eventLine markLetter
   went-give-up e = rw e (sym (append-nil _))
 
-  -- r, w and i with job and cell
-  pub went-asks : (a : Ask) → l ≡ Asks a → Went (Line (Asks a) job cell) l job cell
+  -- r, w and i with job and cell, by the kind that is recorded: r for u (02, No. 1)
+  pub went-asks : (a b : Ask) (k : Kind) → l ≡ Asks a → k ≡ recorded a → b ≡ askBy k → Went (Line (Asks b) job cell) l job cell
   unfolding notedBytes wentBy textOf eventLine
-  went-asks a e = rw e (ap (λ b. lineRecord (Asks b) job cell) (sym (ask-recorded a)) ∙ sym (append-nil _))
+  went-asks a b k e f g = rw (e, g, f) (sym (append-nil _))
 
 module _ (l : Letter) (cell : ℕ) (a : Answer) where
   -- a go notes what its letter does

@@ -1,6 +1,7 @@
 // The records of one line in either view: the answer or what the history notes of it, and then the wakes (01, Lines).
 use conflict::action::Action;
 use conflict::action::Kind;
+use conflict::modes::recorded_kind;
 use desk::wakes::wake_at;
 use desk_rules::Answer;
 use program_rules::View;
@@ -59,7 +60,7 @@ fn number_beside(a: Answer) -> u64
     }
 }
 
-// What is asked, by the kind that is recorded of it.
+// The letter r, w or i, by the kind that is recorded.
 fn ask_by(k: Kind) -> Ask
     ensures { λ r. ⌜ r ≡ askBy k ⌝ }
 {
@@ -70,7 +71,7 @@ fn ask_by(k: Kind) -> Ask
     }
 }
 
-// What the history notes of a request that goes.
+// What the history notes of a request that goes: of u it notes r.
 fn noted_go(letter: Letter, job: u32, cell: u32) -> Noted
     ensures { λ r. ⌜ notedBytes r ≡ textOf (wentBy (asking letter cell) job (Known letter)) ⌝ }
 {
@@ -89,7 +90,7 @@ fn noted_go(letter: Letter, job: u32, cell: u32) -> Noted
         Letter::Retry => Noted::Nothing,
         Letter::Back => Noted::Nothing,
         Letter::Asks(a) => Noted::Line {
-            letter: Letter::Asks(a),
+            letter: Letter::Asks(ask_by(recorded_kind(a))),
             job,
             cell,
         },

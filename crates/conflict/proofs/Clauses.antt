@@ -5,7 +5,7 @@ use mathlib.Core.Path.{_≡_, refl}
 use mathlib.Core.Bool.{true, false, not, _&&_, _||_}
 use mathlib.Core.List.{[], _∷_}
 use lib.Dec.{eqb}
-use Rattle.terms.specs.declared.letters.Ask.the-variants.{Read as asks-read, Write as asks-write, Increment as asks-increment}
+use Rattle.terms.specs.declared.letters.Ask.the-variants.{Read as asks-read, Write as asks-write, Increment as asks-increment, Update as asks-update}
 use Rattle.conflict.specs.declared.action.Kind.the-variants.{Read, Write, Increment}
 use Rattle.conflict.specs.declared.action.Action.{Action}
 use Rattle.conflict.specs.Modes.{recorded}
@@ -20,6 +20,11 @@ records-read = refl
 pub records-write : recorded asks-write ≡ Write
 unfolding recorded
 records-write = refl
+
+-- of a read with intent to write a read (02, No. 1)
+pub records-update : recorded asks-update ≡ Read
+unfolding recorded
+records-update = refl
 
 -- and of an increment an increment
 pub records-increment : recorded asks-increment ≡ Increment

@@ -4,8 +4,10 @@ pub mod OwnActions
 pub mod Forward
 pub mod Backward
 pub mod Book
+pub mod EachMode
 pub mod ModeLaws
 pub mod Matrix
+pub mod Shutting
 pub mod Unique
 pub mod CommittedJobs
 pub mod Marks

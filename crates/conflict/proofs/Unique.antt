@@ -19,8 +19,6 @@ use Rattle.conflict.proofs.modes.recorded_kind.Reads as recorded-kind
 use Rattle.conflict.proofs.modes.recorded_kind.Kinds as recorded-kindK
 use Rattle.conflict.proofs.modes.mode_covers.Reads as mode-covers
 use Rattle.conflict.proofs.modes.mode_covers.Kinds as mode-coversK
-use Rattle.conflict.proofs.modes.modes_beside.Reads as modes-beside
-use Rattle.conflict.proofs.modes.modes_beside.Kinds as modes-besideK
 use Rattle.conflict.proofs.modes.mode_grants.Reads as mode-grants
 use Rattle.conflict.proofs.modes.mode_grants.Kinds as mode-grantsK
 use Rattle.conflict.proofs.modes.asked_mode.Reads as asked-mode
@@ -55,9 +53,6 @@ recorded-kind-unique κs a x y e f p q = p ∙ sym q
 
 pub mode-covers-unique : Unique mode-coversK.ps mode-coversK.r mode-covers.Post
 mode-covers-unique κs a x y e f p q = p ∙ sym q
-
-pub modes-beside-unique : Unique modes-besideK.ps modes-besideK.r modes-beside.Post
-modes-beside-unique κs a x y e f p q = p ∙ sym q
 
 pub mode-grants-unique : Unique mode-grantsK.ps mode-grantsK.r mode-grants.Post
 mode-grants-unique κs a x y e f p q = p ∙ sym q

@@ -1,71 +1,98 @@
--- Lock modes: what each kind needs, what covers what, and the paper's matrix of modes that may be held together (01, The desk's rules).
+-- Lock modes: what each kind needs, what covers what, the paper's matrix of what is granted beside what is held, and what may be held together (01, The desk's rules; 02, No. 1).
 use Prim.Native.Nat.{ℕ}
-use mathlib.Core.Bool.{Bool, true, false}
+use mathlib.Core.Bool.{Bool, true, false, _||_}
 use lib.Dec.{eqb}
 use Rattle.laws.specs.Choice.{pick}
 use Rattle.terms.specs.declared.letters.Ask.{Ask}
-use Rattle.terms.specs.declared.letters.Ask.the-variants.{Read as asks-read, Write as asks-write, Increment as asks-increment}
+use Rattle.terms.specs.declared.letters.Ask.the-variants.{Read as asks-read, Write as asks-write, Increment as asks-increment, Update as asks-update}
 use Rattle.conflict.specs.declared.action.Kind.{Kind}
 use Rattle.conflict.specs.declared.action.Kind.the-variants.{Read, Write, Increment}
 use Rattle.conflict.specs.declared.modes.Mode.{Mode}
-use Rattle.conflict.specs.declared.modes.Mode.the-variants.{Free, S, X, I}
+use Rattle.conflict.specs.declared.modes.Mode.the-variants.{Free, S, X, I, U}
 
--- read needs S, write X, increment I (01, The desk's rules)
+-- read needs S, write X, increment I (01, The desk's rules); a read with intent to write needs U (02, No. 1)
 unfoldable pub needed : Ask → Mode
 needed asks-read = S
 needed asks-write = X
 needed asks-increment = I
+needed asks-update = U
 
--- the kind of action that a history records of what is asked (01, Lines: the history's letters)
+-- the kind of action that a history records of what is asked (01, Lines: the history's letters); of a read with intent to write it records a read (02, No. 1)
 unfoldable pub recorded : Ask → Kind
 recorded asks-read = Read
 recorded asks-write = Write
 recorded asks-increment = Increment
+recorded asks-update = Read
 
--- X covers all three needs, S covers S, I covers I; nothing held covers no need (01, The desk's rules). Where nothing is needed, anything covers it
+-- X covers every need, S covers S, I covers I (01, The desk's rules), U covers U and S (02, No. 1); nothing held covers no need. Where nothing is needed, anything covers it
 unfoldable pub covers : Mode → Mode → Bool
 covers m Free = true
 covers Free S = false
 covers S S = true
 covers X S = true
 covers I S = false
+covers U S = true
 covers Free X = false
 covers S X = false
 covers X X = true
 covers I X = false
+covers U X = false
 covers Free I = false
 covers S I = false
 covers X I = true
 covers I I = true
+covers U I = false
+covers Free U = false
+covers S U = false
+covers X U = true
+covers I U = false
+covers U U = true
 
--- two jobs may hold a cell together as S with S or I with I; every other pair conflicts (01, The desk's rules). A job that holds nothing is beside every other
-unfoldable pub beside : Mode → Mode → Bool
-beside Free m = true
-beside S Free = true
-beside S S = true
-beside S X = false
-beside S I = false
-beside X Free = true
-beside X S = false
-beside X X = false
-beside X I = false
-beside I Free = true
-beside I S = false
-beside I X = false
-beside I I = true
-
--- a mode held by one job agrees with a mode that another asks for, if the two may be held together (01, rules 2 to 4)
+-- a mode held by one job agrees with a mode that another asks for: beside a held S an S or a U, beside a held I an I, beside a held X or U nothing (01, The desk's rules; 02, No. 1; 000, 18.4.4).
+-- Beside a job that holds nothing everything is granted, and who asks for nothing gets it
 unfoldable pub grants : Mode → Mode → Bool
-grants held asks = beside held asks
+grants Free m = true
+grants S Free = true
+grants S S = true
+grants S X = false
+grants S I = false
+grants S U = true
+grants X Free = true
+grants X S = false
+grants X X = false
+grants X I = false
+grants X U = false
+grants I Free = true
+grants I S = false
+grants I X = false
+grants I I = true
+grants I U = false
+grants U Free = true
+grants U S = false
+grants U X = false
+grants U I = false
+grants U U = false
 
--- what a job asks for: the mode it needs where it holds nothing, and X where it holds a mode already, which rule 1 has found not to cover its need (01, rules 2 and 3)
+-- two jobs may hold together what one of them may be granted beside the other (02, No. 1: holders of one cell are no longer all of one mode)
+unfoldable pub beside : Mode → Mode → Bool
+beside m n = grants m n || grants n m
+
+-- what a job asks for: what it holds where that covers its need, what it needs where that covers what it holds, and X else (01, rules 2 and 3; 02, No. 1)
 unfoldable pub asked : Mode → Mode → Mode
-asked Free need = need
-asked S need = X
-asked X need = X
-asked I need = X
+asked held need = pick (covers held need) held (pick (covers need held) need X)
 
--- the kinds of action that may be done under a held mode: any under X, reads under S, increments under I
+-- what becomes of a held mode that does not cover what is asked, by names: S with u becomes U, with write or increment X; U with write or increment becomes X; I with read, write or u becomes X (01, rule 2; 02, No. 1)
+pub data Becomes : Mode → Ask → Mode → Type 0 where
+  s-write : Becomes S asks-write X
+  s-increment : Becomes S asks-increment X
+  s-update : Becomes S asks-update U
+  i-read : Becomes I asks-read X
+  i-write : Becomes I asks-write X
+  i-update : Becomes I asks-update X
+  u-write : Becomes U asks-write X
+  u-increment : Becomes U asks-increment X
+
+-- the kinds of action that may be done under a held mode: any under X, reads under S and under U, increments under I
 unfoldable pub lets : Mode → Kind → Bool
 lets Free k = false
 lets S Read = true
@@ -75,6 +102,17 @@ lets X k = true
 lets I Read = false
 lets I Write = false
 lets I Increment = true
+lets U Read = true
+lets U Write = false
+lets U Increment = false
+
+-- whether a mode is one beside which no other job gets a lock: U and X (02, No. 1)
+unfoldable pub shutsOut : Mode → Bool
+shutsOut Free = false
+shutsOut S = false
+shutsOut X = true
+shutsOut I = false
+shutsOut U = true
 
 -- whether a job holds nothing
 unfoldable pub isFree : Mode → Bool
@@ -82,6 +120,7 @@ isFree Free = true
 isFree S = false
 isFree X = false
 isFree I = false
+isFree U = false
 
 -- the number that stands for a mode in the desk's table
 unfoldable pub codeOf : Mode → ℕ
@@ -89,7 +128,9 @@ codeOf Free = 0
 codeOf S = 1
 codeOf X = 2
 codeOf I = 3
+codeOf U = 4
 
 -- the mode that a number stands for: the one whose code it is, and nothing held for any other number
 unfoldable pub modeOf : ℕ → Mode
-modeOf n = pick (eqb n (codeOf S)) S (pick (eqb n (codeOf X)) X (pick (eqb n (codeOf I)) I Free))
+modeOf n =
+    pick (eqb n (codeOf S)) S (pick (eqb n (codeOf X)) X (pick (eqb n (codeOf I)) I (pick (eqb n (codeOf U)) U Free)))

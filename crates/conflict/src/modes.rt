@@ -1,8 +1,8 @@
-// Lock modes: what each need is, what covers it, what goes beside it and what a promotion asks for (01, The desk's rules).
+// Lock modes: what each need is, what covers it, what is granted beside it and what a promotion asks for (01, The desk's rules; 02, No. 1).
 use crate::action::Kind;
 use terms::letters::Ask;
 ghost use mathlib.Core.Path.{_≡_};
-ghost use Rattle.conflict.specs.Modes.{needed, recorded, covers, beside, grants, asked, isFree, codeOf, modeOf};
+ghost use Rattle.conflict.specs.Modes.{needed, recorded, covers, grants, asked, isFree, codeOf, modeOf};
 
 // What a job holds on a cell.
 pub enum Mode {
@@ -14,6 +14,8 @@ pub enum Mode {
     X,
     // an increment lock, under which it may increment
     I,
+    // an update lock, under which it may read, and beside which nobody else gets a lock
+    U,
 }
 
 // The numbers that stand for the modes in a table.
@@ -25,6 +27,8 @@ pub const EXCLUSIVE: u8 = 2;
 
 pub const INCREMENTING: u8 = 3;
 
+pub const UPDATING: u8 = 4;
+
 // The mode that what is asked needs.
 pub fn needed_mode(a: Ask) -> Mode
     ensures { λ r. ⌜ r ≡ needed a ⌝ }
@@ -33,6 +37,7 @@ pub fn needed_mode(a: Ask) -> Mode
         Ask::Read => Mode::S,
         Ask::Write => Mode::X,
         Ask::Increment => Mode::I,
+        Ask::Update => Mode::U,
     }
 }
 
@@ -44,10 +49,11 @@ pub fn recorded_kind(a: Ask) -> Kind
         Ask::Read => Kind::Read,
         Ask::Write => Kind::Write,
         Ask::Increment => Kind::Increment,
+        Ask::Update => Kind::Read,
     }
 }
 
-// Whether a held mode covers a needed one: X covers every need, S and I their own.
+// Whether a held mode covers a needed one: X covers every need, U that of a read, and each its own.
 pub fn mode_covers(held: Mode, need: Mode) -> bool
     ensures { λ r. ⌜ r ≡ covers held need ⌝ }
 {
@@ -59,44 +65,50 @@ pub fn mode_covers(held: Mode, need: Mode) -> bool
     if h == EXCLUSIVE {
         return true;
     }
-    h == n
-}
-
-// Whether two jobs may hold a cell in these modes together: S with S, I with I, and whatever the other holds where one holds nothing.
-pub fn modes_beside(a: Mode, b: Mode) -> bool
-    ensures { λ r. ⌜ r ≡ beside a b ⌝ }
-{
-    let x = code_of(a);
-    let y = code_of(b);
-    if x == NOTHING {
+    if h == n {
         return true;
     }
-    if y == NOTHING {
-        return true;
+    if h == UPDATING {
+        return n == SHARED;
     }
-    if x == EXCLUSIVE {
-        return false;
-    }
-    x == y
+    false
 }
 
-// Whether a mode that one job holds lets another be granted the mode that it asks for.
+// Whether a mode that one job holds lets another be granted the mode that it asks for: S or U beside S, I beside I, and anything where one of the two is nothing.
 pub fn mode_grants(held: Mode, asks: Mode) -> bool
     ensures { λ r. ⌜ r ≡ grants held asks ⌝ }
 {
-    modes_beside(held, asks)
+    let h = code_of(held);
+    let a = code_of(asks);
+    if h == NOTHING {
+        return true;
+    }
+    if a == NOTHING {
+        return true;
+    }
+    if h == INCREMENTING {
+        return a == INCREMENTING;
+    }
+    if h == SHARED {
+        if a == UPDATING {
+            return true;
+        }
+        return a == SHARED;
+    }
+    false
 }
 
-// The mode that a job asks for, given what it holds and what it needs: a promotion asks for X.
+// The mode that a job asks for, given what it holds and what it needs: the one of the two that covers the other, or X.
 pub fn asked_mode(held: Mode, need: Mode) -> Mode
     ensures { λ r. ⌜ r ≡ asked held need ⌝ }
 {
-    match held {
-        Mode::Free => need,
-        Mode::S => Mode::X,
-        Mode::X => Mode::X,
-        Mode::I => Mode::X,
+    if mode_covers(held, need) {
+        return held;
     }
+    if mode_covers(need, held) {
+        return need;
+    }
+    Mode::X
 }
 
 // Whether a mode is that of a job that holds nothing.
@@ -108,6 +120,7 @@ pub fn mode_is_free(m: Mode) -> bool
         Mode::S => false,
         Mode::X => false,
         Mode::I => false,
+        Mode::U => false,
     }
 }
 
@@ -120,6 +133,7 @@ pub fn code_of(m: Mode) -> u8
         Mode::S => SHARED,
         Mode::X => EXCLUSIVE,
         Mode::I => INCREMENTING,
+        Mode::U => UPDATING,
     }
 }
 
@@ -131,6 +145,7 @@ pub fn mode_of(code: u8) -> Mode
         SHARED => Mode::S,
         EXCLUSIVE => Mode::X,
         INCREMENTING => Mode::I,
+        UPDATING => Mode::U,
         _ => Mode::Free,
     }
 }

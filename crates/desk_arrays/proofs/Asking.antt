@@ -15,21 +15,21 @@ use Rattle.conflict.specs.declared.modes.Mode.the-variants.{Free}
 use Rattle.conflict.specs.Modes.{needed, covers, asked, isFree}
 use Rattle.desk_rules.specs.declared.Answer.the-variants.{Go, Wait}
 use Rattle.desk_rules.specs.Desk.{closed, running, Waiter}
-use Rattle.desk_rules.specs.Locks.{agrees, alone, olderThanHolders, olderThanWaiters, isEmpty}
+use Rattle.desk_rules.specs.Locks.{agrees, olderThanHolders, olderThanWaiters, isEmpty}
 use Rattle.desk_rules.specs.Rules.{grant, queued, sendBack, rule1, rule2, rule3, ask}
 use Rattle.desk_rules.specs.Step.{stepAsk}
 use Rattle.desk_rules.specs.Invariant.{Inv}
 use Rattle.desk_arrays.specs.declared.state.Desk.{Desk}
 use Rattle.desk_arrays.specs.declared.moves.Ending.the-variants.{SentBack}
 use Rattle.desk_arrays.specs.declared.moves.Move.the-variants.{Refuse, Keep, Take, Stay, End}
-use Rattle.desk_arrays.specs.Places.{modeAt, agreesAt, aloneAt, olderAt, nobodyWaits, oldestOf}
+use Rattle.desk_arrays.specs.Places.{modeAt, agreesAt, olderAt, nobodyWaits, oldestOf}
 use Rattle.desk_arrays.specs.Moves.{promotes, enters, decided}
 use Rattle.desk_arrays.specs.Steps.{carried, answerTo, performed}
 use Rattle.desk_arrays.specs.Stands.{byNumber, statusAt, statusBy, modeBy, Plain, Tied}
 use Rattle.desk_arrays.proofs.Seats.{Seat}
 use Rattle.desk_arrays.proofs.ByNumber.{FreeHas, seat-has}
 use Rattle.desk_arrays.proofs.FreePlaces.{free-closed, free-none}
-use Rattle.desk_arrays.proofs.HolderTests.{agrees-at, alone-at, older-at}
+use Rattle.desk_arrays.proofs.HolderTests.{agrees-at, older-at}
 use Rattle.desk_arrays.proofs.Queues.{QueueOf, nobody-waits, oldest-of}
 use Rattle.desk_arrays.proofs.Telling.{quiet-tied}
 use Rattle.desk_arrays.proofs.Reading.{paperOf, plain-stands, refuse-tied, pick-tied}
@@ -78,10 +78,12 @@ module _ {d : Desk} {q : ℕ → List Waiter} (plain : Plain d) (v : Inv (paperO
   promotion-tied : c < cells → Tied (performed d j c (promotes (d .number) (d .held) p c j a)) (rule2 (paperOf d q) j c a)
   unfolding promotes rule2 modeBy
   promotion-tied b =
-      pick-tied d j c (aloneAt (d .held) c p) (alone (d .number) (modeBy d c) j) _ _
-      (alone-at (d .number) (d .held) c (plain .numbers) (v .once) none-held seat) (λ _. rw mine (take-tied (asked (modeBy d c j) (needed a)) b))
+      let m : Mode = asked (modeBy d c j) (needed a) in
+      rw mine
+      (pick-tied d j c (agreesAt (d .held) c p m) (agrees (d .number) (modeBy d c) j m) _ _
+      (agrees-at (d .number) (d .held) c (plain .numbers) (v .once) none-held seat m) (λ _. take-tied m b)
       (λ _. pick-tied d j c (olderAt (d .held) (d .number) c p j) (olderThanHolders (d .number) (modeBy d c) j) _ _
-      (older-at (d .number) (d .held) c (plain .numbers) (v .once) none-held seat) (λ _. stay-tied (record { job = j; ask = a } ∷ q c)) (λ _. away-tied))
+      (older-at (d .number) (d .held) c (plain .numbers) (v .once) none-held seat) (λ _. stay-tied (record { job = j; ask = a } ∷ q c)) (λ _. away-tied)))
 
   -- a job new to the cell
   entry-tied : c < cells → Tied (performed d j c (enters (d .number) (d .status) (d .cell) (d .held) p c j a)) (rule3 (paperOf d q) j c a)
@@ -99,7 +101,7 @@ module _ {d : Desk} {q : ℕ → List Waiter} (plain : Plain d) (v : Inv (paperO
       pick-tied d j c (covers (modeAt (d .held) c p) (needed a)) (covers (modeBy d c j) (needed a)) _ _ (ap (λ m. covers m (needed a)) mine) (λ _. keep-tied)
       (λ _. pick-tied d j c (isFree (modeAt (d .held) c p)) (isFree (modeBy d c j)) _ _ (ap isFree mine) (λ _. entry-tied b) (λ _. promotion-tied b))
 
-  -- read, write and increment of a running job: 2 for a cell above 63, else by the rules
+  -- read, write, increment and u of a running job: 2 for a cell above 63, else by the rules
   pub ask-tied : Tied (performed d j c (pick (ltb c cells) (decided (d .number) (d .status) (d .cell) (d .held) p c j a) (Refuse CellAbove))) (stepAsk (paperOf d q) j c a running)
   unfolding stepAsk
   ask-tied = pick-tied d j c (ltb c cells) (ltb c cells) _ _ refl (λ t. rules-tied (ltb-true c cells t)) (λ _. refuse-tied d j c _ (plain-stands plain q))

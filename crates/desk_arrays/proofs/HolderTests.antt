@@ -1,4 +1,4 @@
--- The tests of holders over the places are the rules' own: agreeing with every other holder, being alone, being older than every other holder.
+-- The tests of holders over the places are the rules' own: agreeing with every other holder, being older than every other holder.
 -- Assumes nothing.
 use Prim.Native.Nat.{ℕ}
 use mathlib.Core.Path.{_≡_}
@@ -7,9 +7,9 @@ use lib.ListN.{length}
 use Rattle.terms.specs.Limits.{places}
 use Rattle.conflict.specs.declared.modes.Mode.{Mode}
 use Rattle.conflict.specs.declared.modes.Mode.the-variants.{Free}
-use Rattle.desk_rules.specs.Locks.{agrees, alone, olderThanHolders}
+use Rattle.desk_rules.specs.Locks.{agrees, olderThanHolders}
 use Rattle.desk_rules.specs.Invariant.{Once}
-use Rattle.desk_arrays.specs.Places.{modeAt, agreesAt, aloneAt, olderAt}
+use Rattle.desk_arrays.specs.Places.{modeAt, agreesAt, olderAt}
 use Rattle.desk_arrays.specs.Stands.{byNumber}
 use Rattle.desk_arrays.proofs.Seats.{Seat, seat-same}
 use Rattle.desk_arrays.proofs.ByNumber.{FreeHas, place-has}
@@ -20,12 +20,6 @@ module _ (ks held : List ℕ) (c : ℕ) {j p : ℕ} (size : length ks ≡ places
   pub agrees-at : (m : Mode) → agreesAt held c p m ≡ agrees ks (byNumber Free ks (modeAt held c)) j m
   unfolding agreesAt agrees
   agrees-at m =
-      all-every _ _ ks _ (rw size) (λ q l. rw (seat-same s o q l, place-has Free ks (modeAt held c) o free q l))
-
-  -- no other place holds the cell where no other job does
-  pub alone-at : aloneAt held c p ≡ alone ks (byNumber Free ks (modeAt held c)) j
-  unfolding aloneAt alone
-  alone-at =
       all-every _ _ ks _ (rw size) (λ q l. rw (seat-same s o q l, place-has Free ks (modeAt held c) o free q l))
 
   -- the job at a place is older than every other holder

@@ -13,7 +13,7 @@ use borrow.Author.Tests.{eqb-true, eqb-false, eq-eqb}
 use Rattle.laws.specs.Choice.{by-test, not-both}
 use Rattle.laws.proofs.Parts.{and-first, and-second, and-both}
 use Rattle.terms.specs.declared.letters.Ask.{Ask}
-use Rattle.terms.specs.declared.letters.Ask.the-variants.{Read, Write, Increment}
+use Rattle.terms.specs.declared.letters.Ask.the-variants.{Read, Write, Increment, Update}
 use Rattle.desk_rules.specs.Desk.{Status, closed, running, waiting, sentback, isOpen, at}
 use Rattle.desk_rules.proofs.Statuses.{running-open, waiting-open, sentback-open, closed-not-open, running-not-waiting, sentback-not-waiting, not-open-not-waiting, one-cell, one-ask}
 use Rattle.desk_rules.proofs.Tests.{at-all}
@@ -27,6 +27,7 @@ pub ask-code : (a : Ask) → askOf (askCode a) ≡ a
 ask-code Read = refl
 ask-code Write = refl
 ask-code Increment = refl
+ask-code Update = refl
 
 -- a proof by what the code says
 pub by-code : (P : Status → Type 0) (code c : ℕ) (a : Ask) → (code ≡ freeCode → P closed) → (code ≡ waitingCode → P (waiting c a)) → (code ≡ sentBackCode → P sentback) → (code ≢ waitingCode → P running) → P (statusFor code c a)

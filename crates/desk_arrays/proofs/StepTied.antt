@@ -111,7 +111,7 @@ module _ {d : Desk} {q : ℕ → List Waiter} (plain : Plain d) (v : Inv (paperO
         (λ n. rw n (by-test (eqb code waitingCode) (λ t. rw t (refuse Waiting))
         (λ m. rw m (by-test (eqb code sentBackCode) (λ t. rw t (again (is ∙ eqb-true code sentBackCode t) (seat (eqb-false code freeCode n)))) (λ k. rw k (refuse Running))))))
 
-    -- read, write and increment: 3, 4, 5, 2, else by the rules
+    -- read, write, increment and u: 3, 4, 5, 2, else by the rules
     ask-by : (x : Ask) → Tied (performed d j c (ifRuns (standingOf code) (pick (ltb c cells) (decided (d .number) (d .status) (d .cell) (d .held) (pos (d .number) j) c j x) (Refuse CellAbove)))) (stepAsk (paperOf d q) j c x (statusFor code b a))
     unfolding stepAsk
     ask-by x = runs-by _ (stepAsk (paperOf d q) j c x) refl refl refl (λ s. ask-tied plain v s c x)

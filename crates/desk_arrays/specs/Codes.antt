@@ -3,7 +3,7 @@ use Prim.Native.Nat.{ℕ}
 use lib.Dec.{eqb}
 use Rattle.laws.specs.Choice.{pick}
 use Rattle.terms.specs.declared.letters.Ask.{Ask}
-use Rattle.terms.specs.declared.letters.Ask.the-variants.{Read, Write, Increment}
+use Rattle.terms.specs.declared.letters.Ask.the-variants.{Read, Write, Increment, Update}
 
 -- a place is free, or its job is running, waiting or sent back (01, Jobs and their numbers)
 abbrev pub freeCode : ℕ
@@ -21,12 +21,13 @@ waitingCode = 2
 abbrev pub sentBackCode : ℕ
 sentBackCode = 3
 
--- the number that stands for what was asked
+-- the number that stands for what was asked (01, Lines; 02, No. 1)
 abbrev pub askCode : Ask → ℕ
 askCode Read = 0
 askCode Write = 1
 askCode Increment = 2
+askCode Update = 3
 
--- what was asked, by its number
+-- what was asked, by its number; a number that stands for nothing is read as an increment
 abbrev pub askOf : ℕ → Ask
-askOf n = pick (eqb n (askCode Read)) Read (pick (eqb n (askCode Write)) Write Increment)
+askOf n = pick (eqb n (askCode Read)) Read (pick (eqb n (askCode Write)) Write (pick (eqb n (askCode Update)) Update Increment))

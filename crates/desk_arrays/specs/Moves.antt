@@ -20,7 +20,7 @@ use Rattle.desk_arrays.specs.declared.moves.Ending.the-variants.{Closed,
 use Rattle.desk_arrays.specs.declared.moves.Move.{Move}
 use Rattle.desk_arrays.specs.declared.moves.Move.the-variants.{Refuse, Begin, Keep, Take, Stay, End, Retry}
 use Rattle.desk_arrays.specs.Codes.{freeCode, waitingCode, sentBackCode}
-use Rattle.desk_arrays.specs.Places.{modeAt, agreesAt, aloneAt, olderAt, nobodyWaits, oldestOf}
+use Rattle.desk_arrays.specs.Places.{modeAt, agreesAt, olderAt, nobodyWaits, oldestOf}
 
 -- what a job is doing: free for 0 and for a number that no place has
 unfoldable pub statusOf : List ℕ → List ℕ → ℕ → ℕ
@@ -61,10 +61,11 @@ retryMove f =
     pick (eqb (f .code) freeCode) (Refuse NotOpen)
     (pick (eqb (f .code) waitingCode) (Refuse Waiting) (pick (eqb (f .code) sentBackCode) Retry (Refuse Running)))
 
--- rule 2, for a job that holds another mode: no other holder, or older than every one of them (01, rule 2)
+-- rule 2, for a job that holds another mode: its new mode agrees with the other holders, or it is older than every one of them (01, rule 2; 02, No. 1)
 unfoldable pub promotes : List ℕ → List ℕ → ℕ → ℕ → ℕ → Ask → Move
 promotes number held p c job a =
-    pick (aloneAt held c p) (Take p (asked (modeAt held c p) (needed a)))
+    let m = asked (modeAt held c p) (needed a) in
+    pick (agreesAt held c p m) (Take p m)
     (pick (olderAt held number c p job) (Stay p a) (End p SentBack))
 
 module _ (number status cell held : List ℕ) where
@@ -80,7 +81,7 @@ module _ (number status cell held : List ℕ) where
       pick (covers (modeAt held c p) (needed a)) Keep
       (pick (isFree (modeAt held c p)) (enters p c job a) (promotes number held p c job a))
 
-  -- read, write and increment: 3, 4, 5, 2, else what rules 1 to 3 decide
+  -- read, write, increment and u: 3, 4, 5, 2, else what rules 1 to 3 decide
   unfoldable pub askMove : ℕ → ℕ → Ask → Move
   askMove job c a =
       let f = foundAt number status job in

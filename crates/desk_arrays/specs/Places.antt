@@ -24,13 +24,9 @@ unfoldable pub allBelow : (ℕ → Bool) → ℕ → Bool
 allBelow f zero = true
 allBelow f (suc n) = f n && allBelow f n
 
--- the mode agrees with what every other place holds (01, rules 3 and 4)
+-- the mode agrees with what every other place holds (01, rules 2 to 4; 02, No. 1)
 unfoldable pub agreesAt : List ℕ → ℕ → ℕ → Mode → Bool
 agreesAt held c p m = allBelow (λ q. eqb q p || grants (modeAt held c q) m) places
-
--- no other place holds the cell (01, rule 2)
-unfoldable pub aloneAt : List ℕ → ℕ → ℕ → Bool
-aloneAt held c p = allBelow (λ q. eqb q p || isFree (modeAt held c q)) places
 
 -- the job, at place p, is older than every other holder (01, rules 2 and 3)
 unfoldable pub olderAt : List ℕ → List ℕ → ℕ → ℕ → ℕ → Bool

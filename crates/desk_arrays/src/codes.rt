@@ -19,6 +19,7 @@ pub fn ask_code(a: Ask) -> u8
         Ask::Read => 0,
         Ask::Write => 1,
         Ask::Increment => 2,
+        Ask::Update => 3,
     }
 }
 
@@ -29,6 +30,7 @@ pub fn ask_of(code: u8) -> Ask
     match code {
         0 => Ask::Read,
         1 => Ask::Write,
+        3 => Ask::Update,
         _ => Ask::Increment,
     }
 }

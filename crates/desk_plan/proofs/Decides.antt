@@ -10,7 +10,7 @@ use Rattle.conflict.specs.Modes.{needed, covers, asked, isFree}
 use Rattle.desk_arrays.specs.declared.moves.Ending.the-variants.{SentBack}
 use Rattle.desk_arrays.specs.declared.moves.Move.{Move}
 use Rattle.desk_arrays.specs.declared.moves.Move.the-variants.{Keep, Take, Stay, End}
-use Rattle.desk_arrays.specs.Places.{modeAt, agreesAt, aloneAt, olderAt, nobodyWaits, oldestOf}
+use Rattle.desk_arrays.specs.Places.{modeAt, agreesAt, olderAt, nobodyWaits, oldestOf}
 use Rattle.desk_arrays.specs.Moves.{promotes, enters, decided}
 
 module _ (number status cell held : List ℕ) (p c job : ℕ) (a : Ask) where
@@ -31,22 +31,22 @@ module _ (number status cell held : List ℕ) (p c job : ℕ) (a : Ask) where
       unfolding enters
       leaves h = rw (← needs, ← taking, not-now, ← older, h)
 
-  module _ {t : Bool} (alone : t ≡ aloneAt held c p) where
-    -- rule 2: no other holder
-    pub promoted : {mine need m : Mode} → mine ≡ modeAt held c p → need ≡ needed a → t ≡ true → m ≡ asked mine need → Take p m ≡ promotes number held p c job a
+  module _ {mine need m : Mode} (has : mine ≡ modeAt held c p) (needs : need ≡ needed a) (wants : m ≡ asked mine need) {t : Bool} (agreeing : t ≡ agreesAt held c p m) where
+    -- rule 2: the new mode agrees with the other holders
+    pub promoted : t ≡ true → Take p m ≡ promotes number held p c job a
     unfolding promotes
-    promoted e f h g = rw (← alone, h, ← e, ← f, g)
+    promoted h = rw (← has, ← needs, ← wants, ← agreeing, h)
 
     module _ (others : t ≡ false) {u : Bool} (older : u ≡ olderAt held number c p job) where
       -- rule 2: older than every other holder
       pub waits-promoted : u ≡ true → Stay p a ≡ promotes number held p c job a
       unfolding promotes
-      waits-promoted h = rw (← alone, others, ← older, h)
+      waits-promoted h = rw (← has, ← needs, ← wants, ← agreeing, others, ← older, h)
 
       -- rule 2: not so
       pub leaves-promoted : u ≡ false → End p SentBack ≡ promotes number held p c job a
       unfolding promotes
-      leaves-promoted h = rw (← alone, others, ← older, h)
+      leaves-promoted h = rw (← has, ← needs, ← wants, ← agreeing, others, ← older, h)
 
   module _ {mine need : Mode} (has : mine ≡ modeAt held c p) (needs : need ≡ needed a) {r : Bool} (covering : r ≡ covers mine need) where
     -- rule 1: a covering mode is held

@@ -20,7 +20,7 @@ use Rattle.desk_arrays.specs.declared.moves.Ending.the-variants.{SentBack}
 use Rattle.desk_arrays.specs.declared.moves.Move.{Move}
 use Rattle.desk_arrays.specs.declared.moves.Move.the-variants.{Keep, Take, Stay, End}
 use Rattle.desk_arrays.specs.Codes.{freeCode, waitingCode, sentBackCode}
-use Rattle.desk_arrays.specs.Places.{modeAt, agreesAt, aloneAt, olderAt, nobodyWaits, oldestOf}
+use Rattle.desk_arrays.specs.Places.{modeAt, agreesAt, olderAt, nobodyWaits, oldestOf}
 use Rattle.desk_arrays.specs.Moves.{statusOf, foundAt, standingOf, ifRuns, beginMove, commitMove, giveUpMove, retryMove, promotes, enters, decided, askMove, moveFor}
 use Rattle.desk_plan.specs.Fits.{Fits}
 use Rattle.desk_plan.proofs.Open.{open-inside}
@@ -53,7 +53,9 @@ module _ (number status cell held : List ℕ) (p c job : ℕ) (a : Ask) (place :
   -- what rule 2 decides fits
   fits-promotes : Fits c (promotes number held p c job a)
   unfolding promotes
-  fits-promotes = fits-either p c a (asked (modeAt held c p) (needed a)) (aloneAt held c p) (olderAt held number c p job) place below
+  fits-promotes =
+      let m : Mode = asked (modeAt held c p) (needed a) in
+      fits-either p c a m (agreesAt held c p m) (olderAt held number c p job) place below
 
   -- what rules 1 to 3 decide for a place and a cell that there are fits
   fits-decided : Fits c (decided number status cell held p c job a)

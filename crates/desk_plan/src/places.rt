@@ -15,7 +15,7 @@ ghost use lib.ListN.{length, getD};
 ghost use Rattle.laws.specs.Lists.{pos};
 ghost use Rattle.conflict.specs.Modes.{grants, isFree};
 ghost use Rattle.desk_plan.specs.Grants.{noneHolds};
-ghost use Rattle.desk_arrays.specs.Places.{modeAt, agreesAt, aloneAt, olderAt, waitsAt, nobodyWaits, oldestOf, youngest};
+ghost use Rattle.desk_arrays.specs.Places.{modeAt, agreesAt, olderAt, waitsAt, nobodyWaits, oldestOf, youngest};
 ghost use Rattle.terms.specs.Limits.{cells, places};
 
 // Numbers and statuses of as many places as there are: what a lent array does not say of itself.
@@ -101,32 +101,6 @@ pub fn goes_beside(held: &[u8; SPOTS], c: usize, p: usize, m: Mode) -> bool
     agrees(held, c, p, m)
 }
 
-// Whether a place is the job's own, or holds nothing on the cell.
-fn no_other_at(held: &[u8; SPOTS], c: usize, p: usize, q: usize) -> bool
-    requires { ⌜ (c < cells) × (q < places) ⌝ }
-    ensures { λ r. ⌜ r ≡ (eqb q p || isFree (modeAt (now (held .entry)) c q)) ⌝ }
-{
-    if q == p {
-        return true;
-    }
-    mode_is_free(mode_at(held, c, q))
-}
-
-// Whether no other place holds the cell.
-pub fn alone(held: &[u8; SPOTS], c: usize, p: usize) -> bool
-    requires { ⌜ c < cells ⌝ }
-    ensures { λ r. ⌜ r ≡ aloneAt (now (held .entry)) c p ⌝ }
-{
-    let mut q: usize = 0;
-    while q < PLACES {
-        if !no_other_at(held, c, p, q) {
-            return false;
-        }
-        q += 1;
-    }
-    true
-}
-
 // Whether a place is the job's own, holds nothing on the cell, or is that of a younger job.
 fn older_at<'a>(
     held: &'a [u8; SPOTS],
@@ -139,7 +113,10 @@ fn older_at<'a>(
     requires { ⌜ (c < cells) × (q < places) ⌝ }
     ensures { λ r. ⌜ r ≡ (eqb q p || (isFree (modeAt (now (held .entry)) c q) || ltb job (getD (now (number .entry)) q 0))) ⌝ }
 {
-    if no_other_at(held, c, p, q) {
+    if q == p {
+        return true;
+    }
+    if mode_is_free(mode_at(held, c, q)) {
         return true;
     }
     job < number[q]

@@ -1,5 +1,5 @@
 // What a step is to do, decided over lent arrays before anything changes (01, rules 1 to 3; 01, Refusals by number).
-use crate::places::alone;
+use crate::places::agrees;
 use crate::places::goes_beside;
 use crate::places::mode_at;
 use crate::places::nobody_waits;
@@ -130,7 +130,7 @@ fn enter<'a>(
     Move::End(p, Ending::SentBack)
 }
 
-// Rule 2: a job that holds another mode.
+// Rule 2: a job that holds another mode goes where the mode that it asks for agrees with every other holder.
 fn promote<'a>(
     held: &'a [u8; SPOTS],
     number: &'a [u32; PLACES],
@@ -143,8 +143,9 @@ fn promote<'a>(
     requires { ⌜ (c < cells) × (mine ≡ modeAt (now held) c p) ⌝ }
     ensures { λ r. ⌜ r ≡ promotes (now (number .entry)) (now (held .entry)) p c job a ⌝ }
 {
-    if alone(held, c, p) {
-        return Move::Take(p, asked_mode(mine, needed_mode(a)));
+    let wanted = asked_mode(mine, needed_mode(a));
+    if agrees(held, c, p, wanted) {
+        return Move::Take(p, wanted);
     }
     if older_than_holders(held, number, c, p, job) {
         return Move::Stay(p, a);
@@ -227,7 +228,7 @@ fn retry_move(f: Found) -> Move
     Move::Refuse(Refusal::Running)
 }
 
-// Read, write and increment: 3, 4, 5, 2, else what the rules decide.
+// Read, write, increment and u: 3, 4, 5, 2, else what the rules decide.
 fn ask_move<'a>(
     held: &'a [u8; SPOTS],
     number: &'a [u32; PLACES],

@@ -11,7 +11,7 @@ use Rattle.desk_rules.specs.Invariant.{Falling}
 use Rattle.desk_rules.proofs.Queue.{in-none, in-split, is-first, in-right, in-either}
 
 -- nobody stands ahead in an empty queue
-ahead-none : {P : Type 0} {v w : Waiter} → Ahead v w [] → P
+pub ahead-none : {P : Type 0} {v w : Waiter} → Ahead v w [] → P
 ahead-none = elim [ ]
 
 -- who stands ahead is the first or stands ahead in the rest

@@ -91,7 +91,7 @@ pub data AskWent (d : Desk) (r : Request) (a : Ask) : Type 0 where
   got : (m : Mode) → covers m (needed a) ≡ true → covers m (d .row (r .cell) .held (r .job)) ≡ true → step d r ≡ grant d (r .job) (r .cell) m → AskWent d r a
 
 -- a letter without a cell is no read, write or increment
-no-ask : {P : Type 0} {x : Lettered} {l : Letter} {a : Ask} → x ≡ Known l → hasCell l ≡ false → x ≡ Known (Asks a) → P
+pub no-ask : {P : Type 0} {x : Lettered} {l : Letter} {a : Ask} → x ≡ Known l → hasCell l ≡ false → x ≡ Known (Asks a) → P
 no-ask p n q = not-both (ap (letterIs hasCell) q) (ap (letterIs hasCell) p ∙ n)
 
 -- a letter asks for one thing

@@ -5,25 +5,28 @@ use mathlib.Core.Path.{_≡_, refl, ap, _∙_}
 use mathlib.Core.Bool.{Bool, true, false, _&&_}
 use mathlib.Core.List.{List, [], _∷_, _++_}
 use native.Mathlib.Omega.{arith}
-use Rattle.laws.specs.Choice.{pick, by-test, not-both}
+use Rattle.laws.specs.Choice.{pick, by-test}
 use Rattle.terms.specs.declared.letters.Ask.{Ask}
-use Rattle.conflict.specs.Modes.{needed, covers, grants, isFree}
+use Rattle.conflict.specs.declared.modes.Mode.{Mode}
+use Rattle.conflict.specs.Modes.{needed, covers, grants, asked, isFree}
 use Rattle.conflict.proofs.ModeLaws.{covers-free, is-free, grants-free}
 use Rattle.laws.proofs.Parts.{and-both}
 use Rattle.conflict.specs.History.{History}
 use Rattle.desk_rules.specs.declared.Answer.the-variants.{Go, Wait, Back}
 use Rattle.desk_rules.specs.Desk.{Waiter, Desk, Request, In, first, later}
-use Rattle.desk_rules.specs.Locks.{agrees, alone, olderThanHolders, olderThanWaiters, isEmpty}
+use Rattle.desk_rules.specs.Locks.{agrees, olderThanHolders, olderThanWaiters, isEmpty}
 use Rattle.desk_rules.specs.Rules.{withRow, withStatus, rule2, rule3, rule4, grant, queued, sendBack, rule1, ask}
 use Rattle.desk_rules.specs.Step.{step, Started}
-use Rattle.desk_rules.specs.Asked.{heldThere, queueThere, OtherHolder, Promotes, Enters, Hindered, waits-already, disagrees}
+use Rattle.desk_rules.specs.Asked.{heldThere, askedThere, queueThere, OtherHolder, Opposed, Promotes, Enters, Hindered, waits-already, disagrees}
 use Rattle.desk_rules.specs.Releasing.{Seated}
 use Rattle.desk_rules.specs.Course.{from}
 use Rattle.desk_rules.specs.Decides.{Decides}
 use Rattle.desk_rules.proofs.Kept.{started-inv}
-use Rattle.desk_rules.proofs.Tests.{at-same, each-agrees, not-agrees, each-alone, alone-each, each-older, older-holders, each-older-waiters, older-waiters}
+use Rattle.desk_rules.proofs.Tests.{at-same, agrees-each, each-agrees, not-agrees, each-older, older-holders, each-older-waiters, older-waiters}
 use Rattle.desk_rules.proofs.RunEnd.{row-ready}
 use Rattle.desk_rules.proofs.Granting.{asking-step}
+use Rattle.desk_rules.proofs.Moved.{step-moved}
+use Rattle.desk_rules.proofs.WentAgreeing.{went-agrees}
 
 -- rule 2 decides a promotion
 by-rule2 : {d : Desk} {r : Request} {a : Ask} → Promotes d r a → step d r ≡ rule2 d (r .job) (r .cell) a
@@ -37,9 +40,11 @@ by-rule3 {d} {r} {a} p =
     asking-step d r a (p .asking) ∙ rw (ap (λ m. covers m (needed a)) (is-free _ (p .holds-nothing)) ∙ covers-free a, p .holds-nothing)
 
 -- the tests of rule 2 and its answers
-rule2-said : (d : Desk) (j c : ℕ) (a : Ask) → rule2 d j c a .said ≡ pick (alone (d .jobs) (d .row c .held) j) (Go j) (pick (olderThanHolders (d .jobs) (d .row c .held) j) (Wait j) (Back j))
+rule2-said : (d : Desk) (j c : ℕ) (a : Ask) → rule2 d j c a .said ≡ pick (agrees (d .jobs) (d .row c .held) j (asked (d .row c .held j) (needed a))) (Go j) (pick (olderThanHolders (d .jobs) (d .row c .held) j) (Wait j) (Back j))
 unfolding rule2 grant queued sendBack rule4
-rule2-said d j c a = by-test (alone (d .jobs) (d .row c .held) j) (λ t. rw t) (λ f. by-test (olderThanHolders (d .jobs) (d .row c .held) j) (λ t. rw (f, t)) (λ g. rw (f, g)))
+rule2-said d j c a =
+    by-test (agrees (d .jobs) (d .row c .held) j (asked (d .row c .held j) (needed a))) (λ t. rw t)
+    (λ f. by-test (olderThanHolders (d .jobs) (d .row c .held) j) (λ t. rw (f, t)) (λ g. rw (f, g)))
 
 -- the tests of rule 3 and its answers
 rule3-said : (d : Desk) (j c : ℕ) (a : Ask) → rule3 d j c a .said ≡ pick (isEmpty (d .row c .queue) && agrees (d .jobs) (d .row c .held) j (needed a)) (Go j) (pick (olderThanHolders (d .jobs) (d .row c .held) j && olderThanWaiters (d .row c .queue) j) (Wait j) (Back j))
@@ -49,7 +54,7 @@ rule3-said d j c a =
     (λ f. by-test (olderThanHolders (d .jobs) (d .row c .held) j && olderThanWaiters (d .row c .queue) j) (λ t. rw (f, t)) (λ g. rw (f, g)))
 
 -- a promotion that waits: the cell has it at the front of its queue, and everybody holds what they held
-rule2-front : (d : Desk) (j c : ℕ) (a : Ask) → alone (d .jobs) (d .row c .held) j ≡ false → olderThanHolders (d .jobs) (d .row c .held) j ≡ true → rule2 d j c a .desk .row c ≡ record { held = d .row c .held; queue = record { job = j; ask = a } ∷ d .row c .queue }
+rule2-front : (d : Desk) (j c : ℕ) (a : Ask) → agrees (d .jobs) (d .row c .held) j (asked (d .row c .held j) (needed a)) ≡ false → olderThanHolders (d .jobs) (d .row c .held) j ≡ true → rule2 d j c a .desk .row c ≡ record { held = d .row c .held; queue = record { job = j; ask = a } ∷ d .row c .queue }
 unfolding rule2 queued withStatus withRow
 rule2-front d j c a f t = rw (f, t) (at-same (d .row) c _)
 
@@ -78,9 +83,9 @@ module _ {d : Desk} {h : History} (started : Started d h) (r : Request) (a : Ask
   seats : Seated (d .jobs) (heldThere d r)
   seats = row-ready (started-inv started) (r .cell) .seats
 
-  -- where another job holds the cell, the job is not alone
-  not-alone : (i : ℕ) → OtherHolder d r i → alone (d .jobs) (heldThere d r) (r .job) ≡ false
-  not-alone i o = by-test (alone (d .jobs) (heldThere d r) (r .job)) (λ t. not-both (alone-each (d .jobs) (heldThere d r) (r .job) seats t i (o .other)) (o .holds)) (λ f. f)
+  -- where another holder's mode does not grant what is asked for, that does not agree with all of them
+  disagreeing : (m : Mode) (i : ℕ) → Opposed d r m i → agrees (d .jobs) (heldThere d r) (r .job) m ≡ false
+  disagreeing m i o = not-agrees (d .jobs) (heldThere d r) (r .job) m seats i (o .holder .other) (o .disagrees)
 
   -- where another holder is older, the job is not older than every holder
   not-older : (i : ℕ) → OtherHolder d r i → i < r .job → olderThanHolders (d .jobs) (heldThere d r) (r .job) ≡ false
@@ -99,19 +104,13 @@ module _ {d : Desk} {h : History} (started : Started d h) (r : Request) (a : Ask
   -- a hindered job cannot have the cell at once
   not-at-once : Hindered d r a → (isEmpty (queueThere d r) && agrees (d .jobs) (heldThere d r) (r .job) (needed a)) ≡ false
   not-at-once (waits-already w s) = not-first (isEmpty (queueThere d r)) (agrees (d .jobs) (heldThere d r) (r .job) (needed a)) (not-empty s)
-  not-at-once (disagrees i o f) =
-      not-second (isEmpty (queueThere d r)) (agrees (d .jobs) (heldThere d r) (r .job) (needed a))
-      (not-agrees (d .jobs) (heldThere d r) (r .job) (needed a) seats i (o .other) f)
+  not-at-once (disagrees i o) = not-second (isEmpty (queueThere d r)) (agrees (d .jobs) (heldThere d r) (r .job) (needed a)) (disagreeing (needed a) i o)
 
-  -- where every other holder's mode grants what is needed, that agrees with all of them
-  agreeing : ((i : ℕ) → OtherHolder d r i → grants (heldThere d r i) (needed a) ≡ true) → agrees (d .jobs) (heldThere d r) (r .job) (needed a) ≡ true
-  agreeing h =
-      each-agrees (d .jobs) (heldThere d r) (r .job) (needed a)
-      (λ i n. by-test (isFree (heldThere d r i)) (λ t. rw (is-free (heldThere d r i) t) (grants-free (needed a))) (λ f. h i (record { other = n; holds = f })))
-
-  -- where nobody else holds the cell, the job is alone
-  is-alone : ((i : ℕ) → OtherHolder d r i → ⊥) → alone (d .jobs) (heldThere d r) (r .job) ≡ true
-  is-alone h = each-alone (d .jobs) (heldThere d r) (r .job) (λ i n. by-test (isFree (heldThere d r i)) (λ t. t) (λ f. absurd (h i (record { other = n; holds = f }))))
+  -- where every other holder's mode grants what is asked for, that agrees with all of them
+  agreeing : (m : Mode) → ((i : ℕ) → OtherHolder d r i → grants (heldThere d r i) m ≡ true) → agrees (d .jobs) (heldThere d r) (r .job) m ≡ true
+  agreeing m h =
+      each-agrees (d .jobs) (heldThere d r) (r .job) m
+      (λ i n. by-test (isFree (heldThere d r i)) (λ t. rw (is-free (heldThere d r i) t) (grants-free m)) (λ f. h i (record { other = n; holds = f })))
 
   -- where a waiter is older, the job is not older than every waiter
   behind : (w : Waiter) → In w (queueThere d r) → w .job < r .job → olderThanWaiters (queueThere d r) (r .job) ≡ false
@@ -128,14 +127,15 @@ module _ {d : Desk} {h : History} (started : Started d h) (r : Request) (a : Ask
       let said2 : Promotes d r a → step d r .said ≡ rule2 d (r .job) (r .cell) a .said = λ p. ap (λ o. o .said) (by-rule2 p) in
       let said3 : Enters d r a → step d r .said ≡ rule3 d (r .job) (r .cell) a .said = λ p. ap (λ o. o .said) (by-rule3 p) in
       record {
+        goes-agreeing = λ k n g i o. agrees-each (d .jobs) held (r .job) (askedThere d r a) seats (went-agrees d r a (k .letter) n (step-moved d r) g) i (o .other);
         has-it = λ k h.
             let e : step d r ≡ rule1 d (r .job) = asking-step d r a k ∙ rw h in
             (ap (λ o. o .said) e, ap (λ o. o .desk) e, ap (λ o. o .wakes) e);
-        promotion-goes = λ p h. said2 p ∙ rule2-said d (r .job) (r .cell) a ∙ rw (is-alone h);
-        promotion-waits = λ p i o h. said2 p ∙ rule2-said d (r .job) (r .cell) a ∙ rw (not-alone i o, is-older h);
-        promotion-in-front = λ p i o h. ap (λ o. o .desk .row (r .cell)) (by-rule2 p) ∙ rule2-front d (r .job) (r .cell) a (not-alone i o) (is-older h);
-        promotion-back = λ p i o l. said2 p ∙ rule2-said d (r .job) (r .cell) a ∙ rw (not-alone i o, not-older i o l);
-        entry-goes = λ p e h. said3 p ∙ rule3-said d (r .job) (r .cell) a ∙ rw (and-both (isEmpty queue) (agrees (d .jobs) held (r .job) (needed a)) (rw e) (agreeing h));
+        promotion-goes = λ p h. said2 p ∙ rule2-said d (r .job) (r .cell) a ∙ rw (agreeing (askedThere d r a) h);
+        promotion-waits = λ p i o h. said2 p ∙ rule2-said d (r .job) (r .cell) a ∙ rw (disagreeing (askedThere d r a) i o, is-older h);
+        promotion-in-front = λ p i o h. ap (λ o. o .desk .row (r .cell)) (by-rule2 p) ∙ rule2-front d (r .job) (r .cell) a (disagreeing (askedThere d r a) i o) (is-older h);
+        promotion-back = λ p i o e x l. said2 p ∙ rule2-said d (r .job) (r .cell) a ∙ rw (disagreeing (askedThere d r a) i o, not-older e x l);
+        entry-goes = λ p e h. said3 p ∙ rule3-said d (r .job) (r .cell) a ∙ rw (and-both (isEmpty queue) (agrees (d .jobs) held (r .job) (needed a)) (rw e) (agreeing (needed a) h));
         entry-waits = λ p x h w. said3 p ∙ rule3-said d (r .job) (r .cell) a ∙ rw (not-at-once x, oldest-there h w);
         entry-at-end = λ p x h w. ap (λ o. o .desk .row (r .cell)) (by-rule3 p) ∙ rule3-end d (r .job) (r .cell) a (not-at-once x) (oldest-there h w);
         entry-back = λ p x i o l. said3 p ∙ rule3-said d (r .job) (r .cell) a ∙ rw (not-at-once x, not-first (olderThanHolders (d .jobs) held (r .job)) (olderThanWaiters queue (r .job)) (not-older i o l));

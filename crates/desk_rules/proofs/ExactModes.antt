@@ -1,4 +1,4 @@
--- The very mode that a go leaves a job with: by rule 1 the one it held, by rule 2 X, by rule 3 the one it needs (01, rules 1 to 3).
+-- The very mode that a go leaves a job with: by rule 1 the one it held, by rule 2 what that becomes, by rule 3 the one it needs (01, rules 1 to 3; 02, No. 1).
 -- Assumes nothing.
 use Prim.Native.Nat.{ℕ}
 use mathlib.Core.Path.{_≡_, refl, sym, ap, _∙_}
@@ -8,13 +8,12 @@ use Rattle.laws.specs.Choice.{by-test, not-both}
 use Rattle.terms.specs.declared.letters.Ask.{Ask}
 use Rattle.terms.specs.Limits.{cells}
 use Rattle.conflict.specs.declared.modes.Mode.{Mode}
-use Rattle.conflict.specs.declared.modes.Mode.the-variants.{X}
-use Rattle.conflict.specs.Modes.{needed, covers, isFree}
+use Rattle.conflict.specs.Modes.{needed, covers, asked, isFree, Becomes}
 use Rattle.conflict.proofs.ModeLaws.{covers-not-free}
 use Rattle.conflict.proofs.ExactNeeds.{promotion-asks}
 use Rattle.desk_rules.specs.declared.Answer.the-variants.{Go}
 use Rattle.desk_rules.specs.Desk.{Status, closed, running, waiting, sentback, Desk, Request, at}
-use Rattle.desk_rules.specs.Locks.{agrees, alone, olderThanHolders, olderThanWaiters, isEmpty}
+use Rattle.desk_rules.specs.Locks.{agrees, olderThanHolders, olderThanWaiters, isEmpty}
 use Rattle.desk_rules.specs.Rules.{refused, withRow, grant, queued, sendBack, rule1, rule2, rule3, rule4, ask}
 use Rattle.desk_rules.specs.Step.{stepAsk, step}
 use Rattle.desk_rules.specs.Effects.{Exactly}
@@ -27,12 +26,12 @@ module _ (d : Desk) (j c : ℕ) where
   unfolding grant withRow
   granted-mode m = rw (at-same (d .row) c _) (at-same (d .row c .held) j m)
 
-  -- rule 2: X
-  rule2-exactly : (a : Ask) (k : ℕ) → isFree (d .row c .held j) ≡ false → rule2 d j c a .said ≡ Go k → rule2 d j c a .desk .row c .held j ≡ X
+  -- rule 2: what the held mode becomes
+  rule2-exactly : (a : Ask) (k : ℕ) → covers (d .row c .held j) (needed a) ≡ false → isFree (d .row c .held j) ≡ false → rule2 d j c a .said ≡ Go k → Becomes (d .row c .held j) a (rule2 d j c a .desk .row c .held j)
   unfolding rule2 queued sendBack rule4
-  rule2-exactly a k n g =
-      by-test (alone (d .jobs) (d .row c .held) j)
-      (λ t. rw t (granted-mode _ ∙ promotion-asks (d .row c .held j) (needed a) n))
+  rule2-exactly a k x n g =
+      by-test (agrees (d .jobs) (d .row c .held) j (asked (d .row c .held j) (needed a)))
+      (λ t. rw t (promotion-asks (d .row c .held j) _ a .1 (n, x, granted-mode _)))
       (λ f. by-test (olderThanHolders (d .jobs) (d .row c .held) j) (λ t. other-answer (rw (f, t) at g) refl) (λ o. other-answer (rw (f, o) at g) refl))
 
   -- rule 3: what is needed
@@ -51,7 +50,7 @@ module _ (d : Desk) (j c : ℕ) where
       (λ t. rw t (record { kept = λ _. refl; promoted = λ f _. not-both t f; entered = λ f. not-both f (covers-not-free (d .row c .held j) a t) }))
       (λ n. by-test (isFree (d .row c .held j))
       (λ t. rw (n, t) (record { kept = λ y. not-both y n; promoted = λ _ f. not-both t f; entered = λ _. rule3-exactly a k (rw (n, t) at g) }))
-      (λ f. rw (n, f) (record { kept = λ y. not-both y n; promoted = λ _ _. rule2-exactly a k f (rw (n, f) at g); entered = λ t. not-both t f })))
+      (λ f. rw (n, f) (record { kept = λ y. not-both y n; promoted = λ _ _. rule2-exactly a k n f (rw (n, f) at g); entered = λ t. not-both t f })))
 
 -- a read, a write or an increment that goes, by what the job is doing
 pub exactly-by : (d : Desk) (r : Request) (a : Ask) (j : ℕ) (s : Status) → step d r ≡ stepAsk d (r .job) (r .cell) a s → step d r .said ≡ Go j →

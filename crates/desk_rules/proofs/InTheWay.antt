@@ -10,7 +10,7 @@ use Rattle.conflict.specs.declared.modes.Mode.{Mode}
 use Rattle.conflict.specs.Modes.{grants, isFree}
 use Rattle.conflict.proofs.ModeLaws.{is-free, grants-free}
 use Rattle.desk_rules.specs.Desk.{Waiter, Desk, isLive, In}
-use Rattle.desk_rules.specs.Waiting.{InWay, holds-it, ahead, in-front, IsWaiting, Chain, link, links}
+use Rattle.desk_rules.specs.Waiting.{Ahead, InWay, holds-it, ahead, in-front, IsWaiting, Chain, link, links}
 use Rattle.desk_rules.specs.Invariant.{FirstBlocked, Inv}
 use Rattle.desk_rules.proofs.Queue.{in-none, in-split}
 use Rattle.desk_rules.proofs.Statuses.{waiting-live}
@@ -30,6 +30,13 @@ module _ {d : Desk} (v : Inv d) (c : ℕ) (w : Waiter) (k : IsWaiting d c w) whe
   -- a waiter stands in the queue of its cell
   pub waiter-in : In w (d .row c .queue)
   waiter-in = v .queues (w .job) c (w .ask) k
+
+  -- if it holds the cell nobody stands ahead of it: who did would be younger, being ahead, and older, since it waits for a cell that this one holds
+  pub front-only : isFree (d .row c .held (w .job)) ≡ false → (u : Waiter) → Ahead u w (d .row c .queue) → ⊥
+  front-only f u b =
+      let l = ahead-younger (v .rows c .down) b in
+      let g = v .rows c .elder u (w .job) (ahead-in b) (λ e. omega (arith, l, e)) f in
+      omega (arith, l, g)
 
   -- somebody is in its way
   pub way-some : (i : ℕ) × InWay (d .row c) w i

@@ -23,7 +23,7 @@ moved-inv {r = r} v (gives-up e o) = close-inv v (r .job) o
 moved-inv {r = r} v (retries e s) = retry-inv v (r .job) s
 moved-inv v (has-it a k h) = v
 moved-inv {r = r} v (promotes a k n f o) = promotes-inv v (r .job) (r .cell) a (k .runs) f o
-moved-inv {r = r} v (waits-in-front a k n f o h) = waits-in-front-inv v (r .job) (r .cell) a (k .runs) (k .within) f o h
+moved-inv {r = r} v (waits-in-front a k n f o h) = waits-in-front-inv v (r .job) (r .cell) a (k .runs) (k .within) n f o h
 moved-inv {r = r} v (enters a k f e g) = enters-inv v (r .job) (r .cell) a (k .runs) f e g
 moved-inv {r = r} v (waits-last a k f n h o) = waits-last-inv v (r .job) (r .cell) a (k .runs) (k .within) f n h o
 moved-inv {r = r} v (goes-back a k e) = sendBack-inv v (r .job) (running-open (k .runs))

@@ -9,15 +9,15 @@ use Rattle.terms.specs.declared.letters.Ask.{Ask}
 use Rattle.terms.specs.Limits.{cells}
 use Rattle.conflict.specs.declared.modes.Mode.{Mode}
 use Rattle.conflict.specs.Modes.{needed, covers, grants, asked, isFree}
-use Rattle.conflict.proofs.ModeLaws.{grants-free, is-free, asked-free, asked-grows, promotion-alone}
+use Rattle.conflict.proofs.ModeLaws.{covers-free, is-free, asked-free, asked-grows}
 use Rattle.desk_rules.specs.Desk.{running, Waiter, Desk, In}
-use Rattle.desk_rules.specs.Locks.{isEmpty, agrees, alone, olderThanHolders, olderThanWaiters, wants}
+use Rattle.desk_rules.specs.Locks.{isEmpty, agrees, olderThanHolders, olderThanWaiters, wants}
 use Rattle.desk_rules.specs.Rules.{grant, queued}
 use Rattle.desk_rules.specs.Releasing.{Seated}
 use Rattle.desk_rules.specs.Invariant.{FirstBlocked, Inv}
 use Rattle.desk_rules.proofs.Statuses.{running-not-waiting}
 use Rattle.desk_rules.proofs.Queue.{in-none, in-split, falling-join}
-use Rattle.desk_rules.proofs.Tests.{agrees-each, agrees-not, alone-each, alone-not, older-holders, older-waiters, empty-queue}
+use Rattle.desk_rules.proofs.Tests.{agrees-each, agrees-not, older-holders, older-waiters, empty-queue}
 use Rattle.desk_rules.proofs.RunEnd.{row-ready}
 use Rattle.desk_rules.proofs.KeptStatus.{no-place}
 use Rattle.desk_rules.proofs.KeptGrant.{grant-inv}
@@ -50,21 +50,18 @@ module _ {d : Desk} (v : Inv d) (j c : ℕ) (a : Ask) (runs : d .stat j ≡ runn
   asks-need : isFree (d .row c .held j) ≡ true → asked (d .row c .held j) (needed a) ≡ needed a
   asks-need f = ap (λ m. asked m (needed a)) (is-free (d .row c .held j) f) ∙ asked-free (needed a)
 
-  -- rule 2, no other holder: go
-  pub promotes-inv : isFree (d .row c .held j) ≡ false → alone (d .jobs) (d .row c .held) j ≡ true → Inv (grant d j c (asked (d .row c .held j) (needed a)) .desk)
+  -- rule 2, the new mode agrees with the other holders: go
+  pub promotes-inv : isFree (d .row c .held j) ≡ false → agrees (d .jobs) (d .row c .held) j (asked (d .row c .held j) (needed a)) ≡ true → Inv (grant d j c (asked (d .row c .held j) (needed a)) .desk)
   promotes-inv f o =
       grant-inv v j c (asked (d .row c .held j) (needed a)) runs (asked-grows (d .row c .held j) (needed a))
-      (λ i n. rw (is-free (d .row c .held i) (alone-each (d .jobs) (d .row c .held) j holders-seated o i n)) (grants-free (asked (d .row c .held j) (needed a))))
+      (agrees-each (d .jobs) (d .row c .held) j (asked (d .row c .held j) (needed a)) holders-seated o)
       (waiters-older f)
 
   -- rule 2, older than every other holder: it waits in front
-  pub waits-in-front-inv : c < cells → isFree (d .row c .held j) ≡ false → alone (d .jobs) (d .row c .held) j ≡ false → olderThanHolders (d .jobs) (d .row c .held) j ≡ true → Inv (queued d j c a (record { job = j; ask = a } ∷ d .row c .queue) .desk)
-  waits-in-front-inv l f o h =
+  pub waits-in-front-inv : c < cells → covers (d .row c .held j) (needed a) ≡ false → isFree (d .row c .held j) ≡ false → agrees (d .jobs) (d .row c .held) j (asked (d .row c .held j) (needed a)) ≡ false → olderThanHolders (d .jobs) (d .row c .held) j ≡ true → Inv (queued d j c a (record { job = j; ask = a } ∷ d .row c .queue) .desk)
+  waits-in-front-inv l x f o h =
       queued-inv v j c a (record { job = j; ask = a } ∷ d .row c .queue) (joins-front (d .row c .queue) (record { job = j; ask = a })) runs l
-      (older-holders (d .jobs) (d .row c .held) j holders-seated h) (waiters-older f, v .rows c .down) (in-way (alone-not (d .jobs) (d .row c .held) j o))
-    where
-      in-way : (i : ℕ) × (i ≢ j) × (isFree (d .row c .held i) ≡ false) → FirstBlocked (d .row c .held) (record { job = j; ask = a } ∷ d .row c .queue)
-      in-way (i, e, g) = (i, e, unfold wants in promotion-alone (d .row c .held j) (d .row c .held i) a f ∙ g)
+      (older-holders (d .jobs) (d .row c .held) j holders-seated h) (waiters-older f, v .rows c .down) (unfold wants in agrees-not (d .jobs) (d .row c .held) j (asked (d .row c .held j) (needed a)) o) x
 
   -- rule 3, the queue is empty and the mode agrees: go
   pub enters-inv : isFree (d .row c .held j) ≡ true → isEmpty (d .row c .queue) ≡ true → agrees (d .jobs) (d .row c .held) j (needed a) ≡ true → Inv (grant d j c (needed a) .desk)
@@ -80,6 +77,7 @@ module _ {d : Desk} (v : Inv d) (j c : ℕ) (a : Ask) (runs : d .stat j ≡ runn
       (falling-join (d .row c .queue) (record { job = j; ask = a } ∷ []) (v .rows c .down) (λ _ g. in-none g, tt)
       (λ u w g k. in-split k (λ e. subst (λ x. x .job < u .job) (sym e) (older-waiters (d .row c .queue) j o u g)) in-none))
       (last-blocked (d .row c .held) (record { job = j; ask = a }) (d .row c .queue) (v .rows c .blocked) in-way)
+      (rw (is-free (d .row c .held j) f) (covers-free a))
     where
       in-way : d .row c .queue ≡ [] → FirstBlocked (d .row c .held) (record { job = j; ask = a } ∷ [])
       in-way e = told (agrees-not (d .jobs) (d .row c .held) j (needed a) (empty-not (d .row c .queue) (agrees (d .jobs) (d .row c .held) j (needed a)) e n))

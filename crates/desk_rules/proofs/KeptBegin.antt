@@ -27,6 +27,7 @@ idle-row c = record {
   elder = λ w i h. in-none h;
   down = tt;
   blocked = tt;
+  lacks = λ w h. in-none h;
   stands = λ w h. in-none h;
   holds = λ j f. not-both free-is-free f;
   within = λ w h. in-none h;

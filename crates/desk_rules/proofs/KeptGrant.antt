@@ -35,6 +35,7 @@ granted-row {stat} {c} {r} v j m runs g a l = record {
   elder = λ w i h n. at-all (λ i x. i ≢ w .job → isFree x ≡ false → w .job < i) (r .held) j m (λ _ _. l w h) (λ i _ n. v .elder w i h n) i n;
   down = v .down;
   blocked = still-blocked (r .held) (r .queue) j m g (no-place v j (λ a. running-not-waiting runs)) (v .blocked);
+  lacks = λ w h. rw (at-other (r .held) j m (w .job) (no-place v j (λ a. running-not-waiting runs) w h)) (v .lacks w h);
   stands = v .stands;
   holds = at-all (λ i x. isFree x ≡ false → isLive (stat i) ≡ true) (r .held) j m (λ _. running-live runs) (λ i _. v .holds i);
   within = v .within;

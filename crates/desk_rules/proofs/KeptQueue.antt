@@ -7,7 +7,7 @@ use mathlib.Core.Bool.{true, false}
 use mathlib.Core.List.{List, [], _∷_, _++_}
 use Rattle.terms.specs.declared.letters.Ask.{Ask}
 use Rattle.terms.specs.Limits.{cells}
-use Rattle.conflict.specs.Modes.{isFree}
+use Rattle.conflict.specs.Modes.{needed, covers, isFree}
 use Rattle.desk_rules.specs.Desk.{Status, running, waiting, Waiter, Row, Desk, isLive, at, In, first, later}
 use Rattle.desk_rules.specs.Rules.{queued, withRow, withStatus}
 use Rattle.desk_rules.specs.Invariant.{Falling, FirstBlocked, Inv, RowInv}
@@ -43,12 +43,13 @@ joins-each {old} {w} k P new stay v h = by-side (k .either v h)
     by-side (inr l) = stay v l
 
 -- the row of the queue that a job joins: it is older than every other holder, the queue falls with it, and its first is blocked
-joined-row : {stat : ℕ → Status} {c : ℕ} {r : Row} → RowInv stat c r → (w : Waiter) (q : List Waiter) → Joins (r .queue) w q → stat (w .job) ≡ running → c < cells → ((i : ℕ) → i ≢ w .job → isFree (r .held i) ≡ false → w .job < i) → Falling q → FirstBlocked (r .held) q → RowInv (at stat (w .job) (waiting c (w .ask))) c (record { held = r .held; queue = q })
-joined-row {stat} {c} {r} v w q k runs l o f b = record {
+joined-row : {stat : ℕ → Status} {c : ℕ} {r : Row} → RowInv stat c r → (w : Waiter) (q : List Waiter) → Joins (r .queue) w q → stat (w .job) ≡ running → c < cells → ((i : ℕ) → i ≢ w .job → isFree (r .held i) ≡ false → w .job < i) → Falling q → FirstBlocked (r .held) q → covers (r .held (w .job)) (needed (w .ask)) ≡ false → RowInv (at stat (w .job) (waiting c (w .ask))) c (record { held = r .held; queue = q })
+joined-row {stat} {c} {r} v w q k runs l o f b x = record {
   pairs = v .pairs;
   elder = λ u i h. joins-each k (λ u. i ≢ u .job → isFree (r .held i) ≡ false → u .job < i) (o i) (λ u g. v .elder u i g) u h;
   down = f;
   blocked = b;
+  lacks = joins-each k (λ u. covers (r .held (u .job)) (needed (u .ask)) ≡ false) x (v .lacks);
   stands = joins-each k (λ u. at stat (w .job) (waiting c (w .ask)) (u .job) ≡ waiting c (u .ask)) (at-same stat (w .job) (waiting c (w .ask)))
       (λ u h. at-other stat (w .job) (waiting c (w .ask)) (u .job) (no-place v (w .job) (λ a. running-not-waiting runs) u h) ∙ v .stands u h);
   holds = λ i g. at-each (λ x. isLive x ≡ true) stat (w .job) (waiting c (w .ask)) i (λ _. waiting-live refl) (λ _. v .holds i g);
@@ -56,12 +57,12 @@ joined-row {stat} {c} {r} v w q k runs l o f b = record {
 }
 
 -- joining a queue keeps what holds of the desk
-pub queued-inv : {d : Desk} → Inv d → (j c : ℕ) (a : Ask) (q : List Waiter) → Joins (d .row c .queue) (record { job = j; ask = a }) q → d .stat j ≡ running → c < cells → ((i : ℕ) → i ≢ j → isFree (d .row c .held i) ≡ false → j < i) → Falling q → FirstBlocked (d .row c .held) q → Inv (queued d j c a q .desk)
+pub queued-inv : {d : Desk} → Inv d → (j c : ℕ) (a : Ask) (q : List Waiter) → Joins (d .row c .queue) (record { job = j; ask = a }) q → d .stat j ≡ running → c < cells → ((i : ℕ) → i ≢ j → isFree (d .row c .held i) ≡ false → j < i) → Falling q → FirstBlocked (d .row c .held) q → covers (d .row c .held j) (needed a) ≡ false → Inv (queued d j c a q .desk)
 unfolding queued withStatus withRow
-queued-inv {d} v j c a q k runs l o f b =
+queued-inv {d} v j c a q k runs l o f b x =
     status-inv v j (waiting c a) (at (d .row) c (record { held = d .row c .held; queue = q })) (running-open runs) (waiting-open refl)
     (at-all (RowInv (at (d .stat) j (waiting c a))) (d .row) c (record { held = d .row c .held; queue = q })
-    (joined-row (v .rows c) (record { job = j; ask = a }) q k runs l o f b)
+    (joined-row (v .rows c) (record { job = j; ask = a }) q k runs l o f b x)
     (λ b _. status-row (v .rows b) j (waiting c a) (λ a. running-not-waiting runs) (waiting-live refl)))
     (λ i b e. at-all (λ b x. at (d .stat) j (waiting c a) i ≡ waiting b e → In (record { job = i; ask = e }) (x .queue)) (d .row) c (record { held = d .row c .held; queue = q }) (there i e) (λ b n. elsewhere i b e n) b)
   where

@@ -14,7 +14,7 @@ use Rattle.desk_rules.specs.Desk.{Status, closed, waiting, sentback, Des
 use Rattle.desk_rules.specs.Rules.{rowsAfter, rule4, close, sendBack}
 use Rattle.desk_rules.specs.Invariant.{Inv, RowInv, Once}
 use Rattle.desk_rules.proofs.Statuses.{running-live, running-open, waiting-live, waiting-open, running-not-waiting}
-use Rattle.desk_rules.proofs.Release.{woken-or-left, holder-was}
+use Rattle.desk_rules.proofs.Release.{woken-or-left, holder-was, left-kept}
 use Rattle.desk_rules.proofs.RunEnd.{statusAfter, row-releases, granted-woken, left-not-woken, woken-after, others-after, after-each}
 use Rattle.desk_rules.proofs.KeptStatus.{open-number}
 use Rattle.desk_rules.proofs.Places.{vacated-others, vacated-gone, vacated-once, vacated-size}
@@ -36,6 +36,7 @@ module _ {d : Desk} (v : Inv d) (j : ℕ) (s : Status) (js : List ℕ) (k : Ends
     elder = row-releases v j c .elder;
     down = row-releases v j c .down;
     blocked = row-releases v j c .blocked;
+    lacks = λ w h. rw (left-kept (row-releases v j c) w h) (v .rows c .lacks w (row-releases v j c .left-was w h));
     stands = λ w h. others-after v j s (w .job) (row-releases v j c .left-other w h) (left-not-woken v j c w h) ∙ v .rows c .stands w (row-releases v j c .left-was w h);
     holds = λ i f. holder-was (row-releases v j c) i f
         (λ n g. after-each v j s (λ x. isLive x ≡ true) i (λ _ _ _ _. running-live refl) (λ e. absurd (n e)) (λ _ _. v .rows c .holds i g))

@@ -28,6 +28,7 @@ status-row {stat} v j s n l = record {
   elder = v .elder;
   down = v .down;
   blocked = v .blocked;
+  lacks = v .lacks;
   stands = λ w h. at-other stat j s (w .job) (no-place v j n w h) ∙ v .stands w h;
   holds = λ i f. at-each (λ x. isLive x ≡ true) stat j s i (λ _. l) (λ _. v .holds i f);
   within = v .within;

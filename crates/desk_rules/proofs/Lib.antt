@@ -66,5 +66,9 @@ pub mod OthersLocks
 pub mod OneMove
 pub mod OneCourse
 pub mod StepEffects
+pub mod WentAgreeing
+pub mod ShutOut
+pub mod StillShut
+pub mod UpdateLocks
 pub mod Promised
 pub mod Examples

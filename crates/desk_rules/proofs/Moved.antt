@@ -19,11 +19,11 @@ use Rattle.conflict.specs.Modes.{needed, covers, isFree}
 use Rattle.laws.specs.Lists.{member, firstOf}
 use Rattle.laws.proofs.Parts.{and-first, and-second}
 use Rattle.desk_rules.specs.Desk.{Status, closed, running, waiting, sentback, Desk, Request, isOpen}
-use Rattle.desk_rules.specs.Locks.{agrees, alone, olderThanHolders, olderThanWaiters, isEmpty}
+use Rattle.desk_rules.specs.Locks.{agrees, olderThanHolders, olderThanWaiters, isEmpty}
 use Rattle.desk_rules.specs.Rules.{Outcome, refused, close, sendBack, grant, queued, rule1, rule2, rule3, ask, retry, begin}
 use Rattle.desk_rules.specs.Step.{stepCommit, stepGiveUp, stepRetry, stepAsk, stepBegin, stepBy, step}
 use Rattle.desk_rules.specs.Table.{holds, order, dueBy, dueOf}
-use Rattle.desk_rules.specs.Asked.{Asking, Elder, holder, waiter}
+use Rattle.desk_rules.specs.Asked.{Asking, Elder, holder, waiter, askedThere}
 use Rattle.desk_rules.specs.Moves.{Otherwise, no-promotion, no-entry, Moved, refuses, begins, commits, gives-up, retries, has-it, promotes, waits-in-front, enters, waits-last, goes-back}
 
 -- one of two moves, by a test that picks it
@@ -56,7 +56,7 @@ ask-moved d r a k =
     (λ e. either (olderThanHolders (d .jobs) (d .row (r .cell) .held) (r .job) && olderThanWaiters (d .row (r .cell) .queue) (r .job))
     (λ o. let p = both _ _ o in waits-last a k f e (p .0) (p .1))
     (λ o. goes-back a k (no-entry f e o))))
-    (λ f. either (alone (d .jobs) (d .row (r .cell) .held) (r .job)) (promotes a k n f)
+    (λ f. either (agrees (d .jobs) (d .row (r .cell) .held) (r .job) (askedThere d r a)) (promotes a k n f)
     (λ e. either (olderThanHolders (d .jobs) (d .row (r .cell) .held) (r .job)) (waits-in-front a k n f e) (λ h. goes-back a k (no-promotion n f e h)))))
 
 -- a cell that is none of the 64 is above 63

@@ -1,10 +1,10 @@
 -- Numbers and ages: begins give rising numbers; a job older than every other live job is never sent back, and no job begun later is older (demand 3, third sentence). So a job that retries under its own number is at last the oldest, and from then on never sent back.
 -- Assumes nothing.
 use Prim.Native.Nat.{ℕ, suc, _<_}
-use mathlib.Core.Path.{_≡_, refl, sym, ap, _∙_}
+use mathlib.Core.Path.{_≡_, sym, ap, _∙_}
 use mathlib.Core.Logic.{_≢_}
 use mathlib.Core.Bool.{true}
-use mathlib.Core.List.{List, [], _∷_, _++_}
+use mathlib.Core.List.{List, []}
 use lib.Dec.{ltb}
 use native.Mathlib.Omega.{arith}
 use borrow.Author.Tests.{ltb-true, ltb-false}
@@ -26,7 +26,7 @@ use Rattle.desk_rules.proofs.Opening.{not-open-closed}
 use Rattle.desk_rules.proofs.SentBack.{back-older, moved-told}
 use Rattle.desk_rules.proofs.ClosedForGood.{closed-through}
 use Rattle.desk_rules.proofs.Numbers.{rising-distinct, next-rises-on, given-within, given-rises}
-use Rattle.desk_rules.proofs.StartedThrough.{run-started}
+use Rattle.desk_rules.proofs.StartedThrough.{run-started, after-both}
 
 -- where a job is older than every other live job, no older one is live
 no-older : (d : Desk) (j : ℕ) → OldestLive d j → (i : ℕ) × (i < j) × (isLive (d .stat i) ≡ true) → ⊥
@@ -40,11 +40,6 @@ was-open {d} v rs i l p =
 -- one of two different jobs is older
 by-age : {P : Type 0} (i j : ℕ) → i ≢ j → (i < j → P) → (j < i → P) → P
 by-age i j n f g = by-test (ltb i j) (λ t. f (ltb-true i j t)) (λ e. g (omega (arith, ltb-false i j e)))
-
--- after some requests and then more is after all of them
-after-both : (d : Desk) (rs more : List Request) → deskAfter d (rs ++ more) ≡ deskAfter (deskAfter d rs) more
-after-both d [] more = refl
-after-both d (r ∷ rs) more = after-both (step d r .desk) rs more
 
 -- once all jobs older than an open job have closed, whoever is open is younger, then and after any further requests
 oldest-on : {d : Desk} {h : History} → Started d h → (j : ℕ) → isOpen (d .stat j) ≡ true → (rs : List Request) → OlderClosed d (deskAfter d rs) j → (more : List Request) (i : ℕ) → i ≢ j → isOpen (deskAfter (deskAfter d rs) more .stat i) ≡ true → j < i
@@ -75,5 +70,5 @@ ages {d} s =
       at-last-oldest = λ j o rs c. oldest-on s j o rs c [];
       retried-at-last-oldest = λ j o rs c more r e.
           no-older (deskAfter (deskAfter d rs) more) j (λ i n p. oldest-on s j o rs c more i n (live-open (deskAfter (deskAfter d rs) more .stat i) p))
-          (back-older (started-inv (run-started (run-started s rs) more)) r j (sym (ap (λ x. step x r .said) (after-both d rs more)) ∙ e));
+          (back-older (started-inv (run-started (run-started s rs) more)) r j (sym (ap (λ x. step x r .said) (after-both step d rs more)) ∙ e));
     }

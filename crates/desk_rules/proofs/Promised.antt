@@ -20,6 +20,7 @@ use Rattle.desk_rules.proofs.UnderLock.{locking}
 use Rattle.desk_rules.proofs.Serial.{serial-history}
 use Rattle.desk_rules.proofs.ServedInTime.{service}
 use Rattle.desk_rules.proofs.Oldest.{ages}
+use Rattle.desk_rules.proofs.UpdateLocks.{update}
 
 -- every started desk of the paper keeps the promises
 pub promised : {d : Desk} {h : History} → Started d h → Promises h (from d)
@@ -34,6 +35,7 @@ promised {d} s = record {
   serial = serial-history s;
   service = service s;
   ages = ages s;
+  update = update s;
 }
 
 -- so does a fresh one after any requests

@@ -9,14 +9,15 @@ use native.Mathlib.Omega.{arith}
 use Rattle.laws.specs.Choice.{not-both}
 use Rattle.conflict.specs.declared.modes.Mode.{Mode}
 use Rattle.conflict.specs.declared.modes.Mode.the-variants.{Free}
-use Rattle.conflict.specs.Modes.{needed, covers, beside, isFree}
+use Rattle.conflict.specs.Modes.{needed, covers, beside, grants, isFree}
 use Rattle.laws.specs.Lists.{member}
 use Rattle.conflict.proofs.ModeLaws.{free-beside, beside-free, free-is-free}
 use Rattle.desk_rules.specs.Desk.{Waiter, Row, at, In}
-use Rattle.desk_rules.specs.Locks.{without, Settled, settle, released}
+use Rattle.desk_rules.specs.Locks.{without, wants, Settled, settle, released}
 use Rattle.desk_rules.specs.Releasing.{Releases}
 use Rattle.desk_rules.specs.Invariant.{Falling}
 use Rattle.desk_rules.proofs.Queue.{in-left, in-right, in-either, falling-across, without-in, without-other, in-without, without-falling, by-place}
+use Rattle.desk_rules.proofs.AheadLaws.{ahead-in, ahead-of}
 use Rattle.desk_rules.proofs.Tests.{at-same, at-other, at-each}
 use Rattle.desk_rules.proofs.Settle.{Ready, Settles, settle-settles, wants-same, wants-covers}
 
@@ -38,7 +39,9 @@ module _ (js : List ℕ) (j : ℕ) (held : ℕ → Mode) (q : List Waiter) where
     dropped = t .kept j (λ w h. woken-other w h) ∙ at-same held j Free;
     parted = t .parted;
     kept = λ i n k. t .kept i k ∙ at-other held j Free i n;
-    takes = λ w h. t .takes w h ∙ wants-same (at held j Free) held w (at-other held j Free (w .job) (woken-other w h));
+    takes = λ w h. t .takes w h ∙ wanted w h;
+    fits = λ w h i n m k. subst (λ x. grants x (wants held w) ≡ true) (at-other held j Free i m) (rw (wanted w h) at (t .fits w h i n k));
+    in-turn = λ u w b. rw (← wanted u (ahead-in b), ← wanted w (ahead-of b)) (t .in-turn u w b);
     grown = λ i n. subst (λ m. covers (s .row .held i) m ≡ true) (at-other held j Free i n) (t .grown i);
     woken-was = λ w h. without-in j q (woken w h);
     woken-other = woken-other;
@@ -57,6 +60,9 @@ module _ (js : List ℕ) (j : ℕ) (held : ℕ → Mode) (q : List Waiter) where
 
       left : (w : Waiter) → In w (s .row .queue) → In w (without j q)
       left w h = subst (In w) (sym (t .parted)) (in-right (s .woken) h)
+
+      wanted : (w : Waiter) → In w (s .woken) → wants (at held j Free) w ≡ wants held w
+      wanted w h = wants-same (at held j Free) held w (at-other held j Free (w .job) (without-other j q (woken w h)))
 
       woken-other : (w : Waiter) → In w (s .woken) → w .job ≢ j
       woken-other w h = without-other j q (woken w h)

@@ -22,7 +22,7 @@ use Rattle.desk_rules.specs.Invariant.{Inv}
 use Rattle.desk_rules.proofs.Kept.{step-inv, started-inv}
 use Rattle.desk_rules.proofs.Settle.{wants-same}
 use Rattle.desk_rules.proofs.StartedThrough.{run-started}
-use Rattle.desk_rules.proofs.InTheWay.{waiter-in, way-some, way-younger, way-live, chain-rises}
+use Rattle.desk_rules.proofs.InTheWay.{waiter-in, front-only, way-some, way-younger, way-live, chain-rises}
 use Rattle.desk_rules.proofs.WaiterStep.{step-on, step-undisturbed, step-not-ended}
 use Rattle.desk_rules.proofs.NotForgotten.{ended-none, ended-neither, waits-end, ways-through, waits-or-granted}
 use Rattle.desk_rules.proofs.Pigeonhole.{no-longer}
@@ -104,6 +104,8 @@ module _ {d : Desk} {h : History} (s : Started d h) where
       not-both (all i p) q in
       record {
         somebody-in-way = way-some v c w k;
+        lacks-it = v .rows c .lacks w (waiter-in v c w k);
+        holder-in-front = front-only v c w k;
         is-older = way-younger v c w k;
         in-way-live = way-live v c w k;
         at-most-31 = λ is o ways.

@@ -14,8 +14,10 @@ use Rattle.conflict.proofs.ModeLaws.{beside-sym, grants-beside, covers-refl, co
 use Rattle.desk_rules.specs.Desk.{Waiter, at, In, first, later}
 use Rattle.desk_rules.specs.Locks.{agrees, wants, wokenFirst, Settled, settle}
 use Rattle.desk_rules.specs.Releasing.{Seated}
+use Rattle.desk_rules.specs.Waiting.{Ahead}
 use Rattle.desk_rules.specs.Invariant.{Falling, FirstBlocked}
 use Rattle.desk_rules.proofs.Queue.{in-none, in-split, in-left}
+use Rattle.desk_rules.proofs.AheadLaws.{ahead-none, ahead-split, ahead-in, ahead-of}
 use Rattle.desk_rules.proofs.Tests.{at-same, at-other, at-each, agrees-each, agrees-not}
 
 -- a row that can be settled: who holds and who waits is listed, and it is as every row is but for the blocker
@@ -34,6 +36,9 @@ pub record Settles (js : List ℕ) (held : ℕ → Mode) (q : List Waiter) (s : 
   pub kept : (i : ℕ) → ((w : Waiter) → In w (s .woken) → w .job ≢ i) → s .row .held i ≡ held i
   -- a woken job holds what it wanted
   pub takes : (w : Waiter) → In w (s .woken) → s .row .held (w .job) ≡ wants held w
+  -- a woken job's mode was granted beside every other job that was not woken, and beside those woken ahead of it
+  pub fits : (w : Waiter) → In w (s .woken) → (i : ℕ) → i ≢ w .job → ((v : Waiter) → In v (s .woken) → v .job ≢ i) → grants (held i) (wants held w) ≡ true
+  pub in-turn : (v w : Waiter) → Ahead v w (s .woken) → grants (wants held v) (wants held w) ≡ true
   -- locks only grow
   pub grown : (i : ℕ) → covers (s .row .held i) (held i) ≡ true
   -- holders are listed, beside each other and younger than the waiters left, the queue falls, and whoever is first in it is blocked
@@ -84,14 +89,29 @@ module _ (js : List ℕ) (held : ℕ → Mode) (w : Waiter) (q : List Waiter) (r
       let l : v .job < w .job = r .down .0 v (subst (In v) (sym (t .parted)) (in-left (s .row .queue) h)) in
       omega arith
 
+  -- who is woken further wants what it wanted
+  wanted : (s : Settled) → Settles js (at held (w .job) (wants held w)) q s → (v : Waiter) → In v (s .woken) → wants (at held (w .job) (wants held w)) v ≡ wants held v
+  wanted s t v l = wants-same (at held (w .job) (wants held w)) held v (at-other held (w .job) (wants held w) (v .job) (woken-other s t v l))
+
+  -- what was granted to it beside another job than the first was so beside what that job held
+  after-first : (s : Settled) (t : Settles js (at held (w .job) (wants held w)) q s) (v : Waiter) → In v (s .woken) → (i : ℕ) → i ≢ w .job →
+      grants (at held (w .job) (wants held w) i) (wants (at held (w .job) (wants held w)) v) ≡ true → grants (held i) (wants held v) ≡ true
+  after-first s t v l i n g = rw (wanted s t v l, at-other held (w .job) (wants held w) i n) at g
+
   -- and what was so settled, with the first waiter woken, is the row settled
-  granted-settles : (s : Settled) → Settles js (at held (w .job) (wants held w)) q s → Settles js held (w ∷ q) (wokenFirst w s)
+  granted-settles : agrees js held (w .job) (wants held w) ≡ true → (s : Settled) → Settles js (at held (w .job) (wants held w)) q s → Settles js held (w ∷ q) (wokenFirst w s)
   unfolding wokenFirst
-  granted-settles s t = record {
+  granted-settles a s t = record {
     parted = ap (λ l. w ∷ l) (t .parted);
     kept = λ i n. t .kept i (λ v h. n v (later h)) ∙ at-other held (w .job) (wants held w) i (λ e. n w first (sym e));
     takes = λ v h. in-split h (λ e. subst (λ x. s .row .held (x .job) ≡ wants held x) (sym e) (t .kept (w .job) (woken-other s t) ∙ at-same held (w .job) (wants held w)))
         (λ l. t .takes v l ∙ wants-same (at held (w .job) (wants held w)) held v (at-other held (w .job) (wants held w) (v .job) (woken-other s t v l)));
+    fits = λ v h i n k. in-split h (λ e. rw e (agrees-each js held (w .job) (wants held w) (r .seats) a i (λ p. n (p ∙ ap (λ x. x .job) (sym e)))))
+        (λ l. after-first s t v l i (λ p. k w first (sym p)) (t .fits v l i n (λ u g. k u (later g))));
+    in-turn = λ u v b. ahead-split b
+        (λ e l. rw e (subst (λ m. grants m (wants held v) ≡ true) (at-same held (w .job) (wants held w))
+        (rw (wanted s t v l) at (t .fits v l (w .job) (λ p. woken-other s t v l (sym p)) (woken-other s t)))))
+        (λ c. rw (← wanted s t u (ahead-in c), ← wanted s t v (ahead-of c)) (t .in-turn u v c));
     grown = λ i. covers-trans (s .row .held i) (at held (w .job) (wants held w) i) (held i) (t .grown i)
         (at-each (λ x. covers x (held i) ≡ true) held (w .job) (wants held w) i (λ e. subst (λ k. covers (wants held w) (held k) ≡ true) (sym e) (wants-grows held w)) (λ _. covers-refl (held i)));
     seats = t .seats;
@@ -107,6 +127,8 @@ stopped-settles js held q r b = record {
   parted = refl;
   kept = λ i n. refl;
   takes = λ v h. in-none h;
+  fits = λ v h. in-none h;
+  in-turn = λ u v b. ahead-none b;
   grown = λ i. covers-refl (held i);
   seats = r .seats;
   pairs = r .pairs;
@@ -121,5 +143,5 @@ unfolding settle
 settle-settles js held [] r = stopped-settles js held [] r tt
 settle-settles js held (w ∷ q) r =
     by-test (agrees js held (w .job) (wants held w))
-    (λ t. rw t (granted-settles js held w q r (settle js (at held (w .job) (wants held w)) q) (settle-settles js (at held (w .job) (wants held w)) q (granted-ready js held w q r t))))
+    (λ t. rw t (granted-settles js held w q r t (settle js (at held (w .job) (wants held w)) q) (settle-settles js (at held (w .job) (wants held w)) q (granted-ready js held w q r t))))
     (λ f. rw f (stopped-settles js held (w ∷ q) r (agrees-not js held (w .job) (wants held w) f)))

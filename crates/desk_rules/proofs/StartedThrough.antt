@@ -10,16 +10,16 @@ use Rattle.desk_rules.specs.Step.{StartedOn, fresh, after as one-more, r
 use Rattle.desk_rules.specs.Requests.{writes, ReachedOn}
 
 module _ {S : Type 0} (step : Stepping S) where
-  -- the desk after one more request at the end
-  after-last : (d : S) (rs : List Request) (r : Request) → through step d (rs ++ r ∷ []) ≡ step (through step d rs) r .desk
-  after-last d [] r = refl
-  after-last d (x ∷ rs) r = after-last (step d x .desk) rs r
+  -- the desk after some requests and then more is that after all of them
+  pub after-both : (d : S) (rs more : List Request) → through step d (rs ++ more) ≡ through step (through step d rs) more
+  after-both d [] more = refl
+  after-both d (x ∷ rs) more = after-both (step d x .desk) rs more
 
-  -- and the history
-  written-last : (d : S) (rs : List Request) (r : Request) → writes step d (rs ++ r ∷ []) ≡ writes step d rs ++ recordsBy step (through step d rs) r
+  -- and what they write is what the first and then the second write
+  pub wrote-both : (d : S) (rs more : List Request) → writes step d (rs ++ more) ≡ writes step d rs ++ writes step (through step d rs) more
   unfolding writes
-  written-last d [] r = append-nil (recordsBy step d r)
-  written-last d (x ∷ rs) r = ap (λ h. recordsBy step d x ++ h) (written-last (step d x .desk) rs r) ∙ sym (append-assoc (recordsBy step d x) (writes step (step d x .desk) rs) (recordsBy step (through step (step d x .desk) rs) r))
+  wrote-both d [] more = refl
+  wrote-both d (x ∷ rs) more = ap (λ h. recordsBy step d x ++ h) (wrote-both (step d x .desk) rs more) ∙ sym (append-assoc (recordsBy step d x) (writes step (step d x .desk) rs) (writes step (through step (step d x .desk) rs) more))
 
 module _ {S : Type 0} {step : Stepping S} {new : ℕ → S} where
   -- after any requests a started desk is a started one, and has written what they write
@@ -33,14 +33,17 @@ module _ {S : Type 0} {step : Stepping S} {new : ℕ → S} where
   started-reached (fresh n l u) = record { first = n; least = l; most = u; requests = []; desk = refl; history = unfold writes in refl }
   started-reached (one-more {d = d} {h = h} s r) = more (started-reached s)
     where
+      one-written : (e : S) → writes step e (r ∷ []) ≡ recordsBy step e r
+      one-written e = unfold writes in append-nil (recordsBy step e r)
+
       more : ReachedOn step new d h → ReachedOn step new (step d r .desk) (h ++ recordsBy step d r)
       more q = record {
         first = q .first;
         least = q .least;
         most = q .most;
         requests = q .requests ++ r ∷ [];
-        desk = ap (λ x. step x r .desk) (q .desk) ∙ sym (after-last step (new (q .first)) (q .requests) r);
-        history = ap₂ (λ x y. x ++ recordsBy step y r) (q .history) (q .desk) ∙ sym (written-last step (new (q .first)) (q .requests) r);
+        desk = ap (λ x. step x r .desk) (q .desk) ∙ sym (after-both step (new (q .first)) (q .requests) (r ∷ []));
+        history = ap₂ (λ x y. x ++ recordsBy step y r) (q .history) (q .desk) ∙ sym (wrote-both step (new (q .first)) (q .requests) (r ∷ []) ∙ ap (λ g. writes step (new (q .first)) (q .requests) ++ g) (one-written (through step (new (q .first)) (q .requests))));
       }
 
   -- and every desk so reached is started

@@ -14,10 +14,10 @@ use Rattle.terms.specs.declared.letters.Lettered.the-variants.{Known, Unknown}
 use Rattle.terms.specs.declared.refusals.Refusal.{Refusal}
 use Rattle.terms.specs.Letters.{letterOf}
 use Rattle.terms.specs.Limits.{cells, lastNumber}
-use Rattle.conflict.specs.Modes.{needed, covers, isFree}
+use Rattle.conflict.specs.Modes.{needed, covers, asked, isFree}
 use Rattle.laws.specs.Lists.{member, firstOf}
 use Rattle.desk_rules.specs.Desk.{Status, closed, running, waiting, sentback, isOpen, Desk, Request}
-use Rattle.desk_rules.specs.Locks.{agrees, alone, olderThanHolders, olderThanWaiters, isEmpty}
+use Rattle.desk_rules.specs.Locks.{agrees, olderThanHolders, olderThanWaiters, isEmpty}
 use Rattle.desk_rules.specs.Rules.{Outcome, refused, rule4, close, sendBack, grant, queued, rule1, rule2, rule3, ask, retry, begin}
 use Rattle.desk_rules.specs.Step.{stepCommit, stepGiveUp, stepRetry, stepAsk, stepBegin, stepBy, step}
 use Rattle.desk_rules.specs.Table.{holds, order, dueBy, dueOf, Answers, namedBy, named, goes, waits, goes-back}
@@ -40,7 +40,7 @@ ask-answered d j c a =
     (answered (isFree (d .row c .held j)) _ _ j
     (answered (isEmpty (d .row c .queue) && agrees (d .jobs) (d .row c .held) j (needed a)) _ _ j (goes j)
     (answered (olderThanHolders (d .jobs) (d .row c .held) j && olderThanWaiters (d .row c .queue) j) _ _ j (waits j) (goes-back j)))
-    (answered (alone (d .jobs) (d .row c .held) j) _ _ j (goes j)
+    (answered (agrees (d .jobs) (d .row c .held) j (asked (d .row c .held j) (needed a))) _ _ j (goes j)
     (answered (olderThanHolders (d .jobs) (d .row c .held) j) _ _ j (waits j) (goes-back j))))
 
 -- a begin does what the table says

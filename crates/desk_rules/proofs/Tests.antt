@@ -16,7 +16,7 @@ use Rattle.laws.proofs.Lists.{member-first, member-more}
 use Rattle.conflict.proofs.ModeLaws.{is-free, grants-free}
 use Rattle.laws.proofs.Parts.{and-first, and-second, or-either, nor-first, nor-second}
 use Rattle.desk_rules.specs.Desk.{Waiter, at, In, first, later}
-use Rattle.desk_rules.specs.Locks.{every, everyWaiter, isEmpty, agrees, alone, olderThanHolders, olderThanWaiters}
+use Rattle.desk_rules.specs.Locks.{every, everyWaiter, isEmpty, agrees, olderThanHolders, olderThanWaiters}
 use Rattle.desk_rules.specs.Releasing.{Seated}
 use Rattle.desk_rules.proofs.Queue.{in-none, in-split}
 
@@ -140,20 +140,6 @@ module _ (js : List ℕ) (held : ℕ → Mode) (j : ℕ) where
   pub each-agrees : (m : Mode) → ((i : ℕ) → i ≢ j → grants (held i) m ≡ true) → agrees js held j m ≡ true
   each-agrees m h =
       by-test (agrees js held j m) (λ t. t) (λ n. let (i, d, f) = agrees-not m n in not-both (h i d) f)
-
-  -- where no other job holds the cell, every other job holds nothing
-  pub alone-each : Seated js held → alone js held j ≡ true → (i : ℕ) → i ≢ j → isFree (held i) ≡ true
-  unfolding alone
-  alone-each seats h i n = others-each (λ x i. isFree x) js held j (λ i e. e) seats h i n
-
-  -- else some other job holds it
-  pub alone-not : alone js held j ≡ false → (i : ℕ) × (i ≢ j) × (isFree (held i) ≡ false)
-  unfolding alone
-  alone-not h = others-not (λ x i. isFree x) js held j h
-
-  -- where every other job holds nothing, no other job holds the cell
-  pub each-alone : ((i : ℕ) → i ≢ j → isFree (held i) ≡ true) → alone js held j ≡ true
-  each-alone h = by-test (alone js held j) (λ t. t) (λ n. let (i, d, f) = alone-not n in not-both (h i d) f)
 
   -- older than every other holder is older than each
   pub older-holders : Seated js held → olderThanHolders js held j ≡ true → (i : ℕ) → i ≢ j → isFree (held i) ≡ false → j < i

@@ -9,7 +9,7 @@ use Rattle.conflict.specs.declared.action.Action.{Action}
 use Rattle.conflict.specs.declared.action.Event.the-variants.{Does}
 use Rattle.conflict.specs.History.{lineOf}
 use Rattle.conflict.proofs.OneEvent.{line-none, line-does}
-use Rattle.desk_rules.specs.Desk.{In, later}
+use Rattle.desk_rules.specs.Desk.{In, first, later}
 use Rattle.desk_rules.specs.Rules.{isWoken}
 use Rattle.desk_rules.specs.Step.{wakeRecords}
 use Rattle.desk_rules.proofs.Queue.{in-none, in-split, is-first}
@@ -23,6 +23,12 @@ pub recorded-wake : {a : Action} (xs : List Action) → In (Does a) (wakeRecords
 unfolding wakeRecords
 recorded-wake [] h = in-none h
 recorded-wake {a} (x ∷ xs) h = in-split h (λ e. is-first (same-action e)) (λ k. later (recorded-wake xs k))
+
+-- and each wake has its record among them
+pub wake-recorded : {a : Action} {xs : List Action} → In a xs → In (Does a) (wakeRecords xs)
+unfolding wakeRecords
+wake-recorded first = first
+wake-recorded (later h) = later (wake-recorded h)
 
 -- a line of a job stands among the records exactly if the job is among the wakes
 pub line-woken : (j : ℕ) (xs : List Action) → lineOf j (wakeRecords xs) ≡ isWoken j xs

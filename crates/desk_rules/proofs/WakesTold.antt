@@ -1,14 +1,15 @@
 -- The wakes of a step exactly: who is woken, cell by cell and from the front of each queue, each left with the very mode that it waited for; and nobody else's status, place or lock changes (01, rule 4).
 -- Assumes nothing.
 use Prim.Native.Nat.{ℕ, _<_}
-use mathlib.Core.Path.{_≡_, sym, ap, _∙_, subst}
+use mathlib.Core.Path.{_≡_, refl, sym, ap, _∙_, subst}
 use mathlib.Core.Logic.{_≢_}
+use mathlib.Core.Bool.{false}
 use native.Mathlib.Omega.{arith}
 use Rattle.terms.specs.declared.letters.Ask.{Ask}
 use Rattle.terms.specs.Limits.{cells}
 use Rattle.conflict.specs.declared.modes.Mode.{Mode}
 use Rattle.conflict.specs.declared.action.Action.{Action}
-use Rattle.conflict.specs.Modes.{needed}
+use Rattle.conflict.specs.Modes.{needed, covers, asked}
 use Rattle.conflict.specs.History.{History}
 use Rattle.conflict.proofs.ModeLaws.{is-free, asked-free}
 use Rattle.conflict.proofs.ExactNeeds.{promotion-asks}
@@ -52,11 +53,11 @@ searched-sooner : {d : Desk} → Inv d → (j : ℕ) {x y : Action} → Searched
 searched-sooner v j (searching.smaller-cell l) = smaller-cell l
 searched-sooner v j (granted-ahead c u w e k a) = stood-ahead c u w e k (granted-stood v j c u w a)
 
--- the mode that a waiter wants is X if it holds the cell, and what it needs if it does not
-wants-exactly : (held : ℕ → Mode) (w : Waiter) → WokenWith (held (w .job)) (wants held w) (w .ask)
+-- the mode that a waiter wants is what its mode becomes if it holds the cell, and what it needs if it does not
+wants-exactly : (held : ℕ → Mode) (w : Waiter) → covers (held (w .job)) (needed (w .ask)) ≡ false → WokenWith (held (w .job)) (wants held w) (w .ask)
 unfolding wants
-wants-exactly held w = record {
-  promoted = promotion-asks (held (w .job)) (needed (w .ask));
+wants-exactly held w n = record {
+  promoted = λ f. promotion-asks (held (w .job)) (asked (held (w .job)) (needed (w .ask))) (w .ask) .1 (f, n, refl);
   entered = λ t. rw (is-free (held (w .job)) t) (asked-free (needed (w .ask)));
 }
 
@@ -65,7 +66,7 @@ granted-exactly : {d : Desk} → Inv d → (j c : ℕ) (w : Waiter) → In w (ro
 granted-exactly {d} v j c w i a k =
     let t = row-releases v j c in
     subst (WokenWith (d .row c .held (w .job)) (rowsAfter d j c .row .held (w .job))) (one-ask (v .rows c .stands w (t .woken-was w i)) k)
-    (subst (λ m. WokenWith (d .row c .held (w .job)) m (w .ask)) (sym (t .takes w i)) (wants-exactly (d .row c .held) w))
+    (subst (λ m. WokenWith (d .row c .held (w .job)) m (w .ask)) (sym (t .takes w i)) (wants-exactly (d .row c .held) w (v .rows c .lacks w (t .woken-was w i))))
 
 module _ {d : Desk} (v : Inv d) where
   -- who comes first in the search is another job than who comes later

@@ -17,7 +17,7 @@ use Rattle.conflict.specs.declared.action.Event.the-variants.{Does, Ends}
 use Rattle.conflict.specs.Modes.{needed, recorded, covers, beside, grants, asked, isFree}
 use Rattle.conflict.specs.History.{History}
 use Rattle.conflict.proofs.OneEvent.{back-not-last, isLast}
-use Rattle.conflict.proofs.ModeLaws.{covers-refl, asked-covers, asked-grows, asked-free, is-free, grants-free}
+use Rattle.conflict.proofs.ModeLaws.{covers-refl, asked-covers, asked-grows, asked-free, is-free}
 use Rattle.desk_rules.specs.declared.Answer.{Answer}
 use Rattle.desk_rules.specs.declared.Answer.the-variants.{Go, Back as sent-back}
 use Rattle.desk_rules.specs.Desk.{Status, closed, sentback, isOpen, Desk, Request, Waiter, Row, at, vacated, isLive}
@@ -29,7 +29,7 @@ use Rattle.desk_rules.specs.Moves.Moved.{refuses, begins, commits, gives
 use Rattle.desk_rules.proofs.Moved.{step-moved}
 use Rattle.desk_rules.specs.Invariant.{Inv}
 use Rattle.desk_rules.proofs.Statuses.{running-open}
-use Rattle.desk_rules.proofs.Tests.{at-same, at-each, agrees-each, alone-each}
+use Rattle.desk_rules.proofs.Tests.{at-same, at-each, agrees-each}
 use Rattle.desk_rules.proofs.Settle.{taking-pairs}
 use Rattle.desk_rules.proofs.RunEnd.{row-ready}
 
@@ -100,7 +100,7 @@ module _ (d : Desk) (r : Request) (v : Inv d) where
       let held = d .row (r .cell) .held in
       let m = asked (held (r .job)) (needed a) in
       rw (k .letter) (granted-wrote a m k (asked-grows (held (r .job)) (needed a)) (asked-covers (held (r .job)) (needed a))
-      (λ i n. rw (is-free (held i) (alone-each (d .jobs) held (r .job) (row-ready v (r .cell) .seats) l i n)) (grants-free m)))
+      (agrees-each (d .jobs) held (r .job) m (row-ready v (r .cell) .seats) l))
   moved-wrote (waits-in-front a k c f l o) = nothing (same-locks d v (r .cell) (record { job = r .job; ask = a } ∷ d .row (r .cell) .queue))
   moved-wrote (enters a k f e g) =
       let held = d .row (r .cell) .held in

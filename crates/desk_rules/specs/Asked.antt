@@ -11,7 +11,7 @@ use Rattle.terms.specs.declared.letters.Lettered.the-variants.{Known}
 use Rattle.terms.specs.Letters.{letterOf, hasJob, hasCell}
 use Rattle.terms.specs.Limits.{cells}
 use Rattle.conflict.specs.declared.modes.Mode.{Mode}
-use Rattle.conflict.specs.Modes.{needed, covers, grants, isFree}
+use Rattle.conflict.specs.Modes.{needed, covers, grants, asked, isFree}
 use Rattle.desk_rules.specs.Desk.{running, In, Waiter, Desk, Request}
 use Rattle.desk_rules.specs.Locks.{olderThanHolders, olderThanWaiters}
 use Rattle.desk_rules.specs.Table.{letterIs}
@@ -35,6 +35,10 @@ heldThere d r = d .row (r .cell) .held
 abbrev pub ownMode : Desk → Request → Mode
 ownMode d r = heldThere d r (r .job)
 
+-- the mode that the request's job asks for there (01, rules 2 and 3; 02, No. 1)
+abbrev pub askedThere : Desk → Request → Ask → Mode
+askedThere d r a = asked (ownMode d r) (needed a)
+
 -- the request's job with what it asks, as it stands in a queue
 abbrev pub asker : Request → Ask → Waiter
 asker r a = record { job = r .job; ask = a }
@@ -47,6 +51,11 @@ queueThere d r = d .row (r .cell) .queue
 pub record OtherHolder (d : Desk) (r : Request) (i : ℕ) : Type 0 where
   pub other : i ≢ r .job
   pub holds : isFree (heldThere d r i) ≡ false
+
+-- another holder of the cell whose mode does not let that mode be granted
+pub record Opposed (d : Desk) (r : Request) (m : Mode) (i : ℕ) : Type 0 where
+  pub holder : OtherHolder d r i
+  pub disagrees : grants (heldThere d r i) m ≡ false
 
 -- the job asks for a promotion: it holds the cell, and not in a mode that covers its need
 pub record Promotes (d : Desk) (r : Request) (a : Ask) : Type 0 where
@@ -62,7 +71,7 @@ pub record Enters (d : Desk) (r : Request) (a : Ask) : Type 0 where
 -- a job new to the cell cannot have it at once: somebody waits for it, or somebody holds it in a mode that does not agree
 pub data Hindered (d : Desk) (r : Request) (a : Ask) : Type 0 where
   waits-already : (w : Waiter) → In w (queueThere d r) → Hindered d r a
-  disagrees : (i : ℕ) → OtherHolder d r i → grants (heldThere d r i) (needed a) ≡ false → Hindered d r a
+  disagrees : (i : ℕ) → Opposed d r (needed a) i → Hindered d r a
 
 -- two requests are alike to their letter: the same job where it has a job, and the same cell where it has a cell
 pub record Alike (l : Lettered) (r s : Request) : Type 0 where

@@ -11,9 +11,9 @@ use Rattle.terms.specs.declared.letters.Lettered.the-variants.{Known}
 use Rattle.terms.specs.Letters.{letterOf}
 use Rattle.terms.specs.Limits.{cells}
 use Rattle.conflict.specs.declared.modes.Mode.{Mode}
-use Rattle.conflict.specs.declared.modes.Mode.the-variants.{Free, X}
+use Rattle.conflict.specs.declared.modes.Mode.the-variants.{Free}
 use Rattle.conflict.specs.declared.action.Action.{Action}
-use Rattle.conflict.specs.Modes.{needed, recorded, covers, isFree}
+use Rattle.conflict.specs.Modes.{needed, recorded, covers, isFree, Becomes}
 use Rattle.desk_rules.specs.declared.Answer.{Answer}
 use Rattle.desk_rules.specs.declared.Answer.the-variants.{Go, Back}
 use Rattle.desk_rules.specs.Desk.{closed, running, waiting, sentback, In, Waiter, Desk, Request}
@@ -74,10 +74,10 @@ pub record Grants (d e : Desk) (r : Request) (a : Ask) (j : ℕ) : Type 0 where
   pub places : e .jobs ≡ d .jobs
   pub next : e .next ≡ d .next
 
--- what a go leaves a job with that held one mode before and holds another after, asking with a: by rule 1 what it held, by rule 2 X, by rule 3 what it needs, read S, write X, increment I (01, rules 1 to 3)
+-- what a go leaves a job with that held one mode before and holds another after, asking with a: by rule 1 what it held, by rule 2 what that becomes, by rule 3 what it needs, read S, write X, increment I, u U (01, rules 1 to 3; 02, No. 1)
 pub record Exactly (before after : Mode) (a : Ask) : Type 0 where
   pub kept : covers before (needed a) ≡ true → after ≡ before
-  pub promoted : covers before (needed a) ≡ false → isFree before ≡ false → after ≡ X
+  pub promoted : covers before (needed a) ≡ false → isFree before ≡ false → Becomes before a after
   pub entered : isFree before ≡ true → after ≡ needed a
 
 -- what job i holds at cell c in desk e covers what it held there in desk d
@@ -118,7 +118,7 @@ pub record WakeTells (d e : Desk) (a : Action) : Type 0 where
   pub holds : covers (e .row (a .cell) .held (a .job)) (needed ask) ≡ true
   pub gone : (c : ℕ) (w : Waiter) → In w (e .row c .queue) → w .job ≢ a .job
 
--- what a wake leaves a job with that waited with a: X if it held the cell, and what it needs if it did not (01, rules 2 to 4)
+-- what a wake leaves a job with that waited with a: what its mode becomes if it held the cell, and what it needs if it did not (01, rules 2 to 4; 02, No. 1)
 pub record WokenWith (before after : Mode) (a : Ask) : Type 0 where
-  pub promoted : isFree before ≡ false → after ≡ X
+  pub promoted : isFree before ≡ false → Becomes before a after
   pub entered : isFree before ≡ true → after ≡ needed a

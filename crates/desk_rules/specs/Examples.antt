@@ -1,4 +1,4 @@
--- Requests by numbers, and what a desk answers them: the paper's samples S11 and S12, which cells there are, and which of two refusals comes first (01, Samples to hold it against; 01, Refusals by number).
+-- Requests by numbers, and what a desk answers them: the paper's samples S11 and S12, which cells there are, which of two refusals comes first, and the update lock's own cases (01, Samples to hold it against; 01, Refusals by number; 02, No. 1).
 use Prim.Native.Nat.{ℕ, zero, suc}
 use mathlib.Core.List.{List, [], _∷_, _++_}
 use Rattle.terms.specs.declared.words.Word.{Word}
@@ -28,7 +28,7 @@ pub record Example : Type 0 where
   pub requests : List Request
   pub answers : List Said
 
--- a request by its three numbers; the kinds are 98 begin, 99 commit, 97 give up, 116 retry, 114 read, 119 write, 105 increment
+-- a request by its three numbers; the kinds are 98 begin, 99 commit, 97 give up, 116 retry, 114 read, 119 write, 105 increment, 117 u
 abbrev pub request : ℕ → ℕ → ℕ → Request
 request kind job cell = record { kind = kind; job = job; cell = cell }
 
@@ -104,6 +104,52 @@ examples =
       start = 1;
       requests = begins 2 ++ request 114 1 5 ∷ request 119 2 5 ∷ request 97 2 0 ∷ request 116 2 0 ∷ [];
       answers = goFrom 1 2 ++ go 1 ∷ back 2 ∷ go 2 ∷ no 3 ∷ [];
+    }
+    -- two that read with intent to write: the younger first, and the older waits until it commits; nobody is sent back
+    ∷ record {
+      start = 1;
+      requests = begins 2 ++ request 117 2 5 ∷ request 117 1 5 ∷ request 119 2 5 ∷ request 99 2 0 ∷ request 119 1 5 ∷ request 99 1 0 ∷ [];
+      answers = goFrom 1 2 ++ go 2 ∷ wait 1 ∷ go 2 ∷ go 2 ∷ go 1 ∷ go 1 ∷ [];
+    }
+    -- with a plain read in its place the write costs a sending back
+    ∷ record {
+      start = 1;
+      requests = begins 2 ++ request 114 2 5 ∷ request 114 1 5 ∷ request 119 2 5 ∷ request 119 1 5 ∷ request 99 1 0 ∷ [];
+      answers = goFrom 1 2 ++ go 2 ∷ go 1 ∷ back 2 ∷ go 1 ∷ go 1 ∷ [];
+    }
+    -- with the older first the younger is sent back at once
+    ∷ record { start = 1; requests = begins 2 ++ request 117 1 5 ∷ request 117 2 5 ∷ []; answers = goFrom 1 2 ++ go 1 ∷ back 2 ∷ [] }
+    -- a promotion that may not go holds its age against every other holder: 3 has the U that is in the way of 2, and 1, who only reads, is older
+    ∷ record {
+      start = 1;
+      requests = begins 3 ++ request 114 1 5 ∷ request 114 2 5 ∷ request 117 3 5 ∷ request 117 2 5 ∷ [];
+      answers = goFrom 1 3 ++ go 1 ∷ go 2 ∷ go 3 ∷ back 2 ∷ [];
+    }
+    -- S to U goes past a waiting write, beside another S; beside a U it does not; a job new to the cell takes U only where nobody waits
+    ∷ record {
+      start = 1;
+      requests = begins 4 ++ request 114 4 5 ∷ request 114 3 5 ∷ request 119 2 5 ∷ request 117 3 5 ∷ request 117 4 5 ∷ request 117 1 5 ∷ [];
+      answers = goFrom 1 4 ++ go 4 ∷ go 3 ∷ wait 2 ∷ go 3 ∷ back 4 ∷ wait 1 ∷ [];
+    }
+    -- beside S a U goes, beside U neither a read nor an increment
+    ∷ record {
+      start = 1;
+      requests = begins 4 ++ request 114 4 5 ∷ request 117 3 5 ∷ request 114 2 5 ∷ request 105 1 5 ∷ [];
+      answers = goFrom 1 4 ++ go 4 ∷ go 3 ∷ wait 2 ∷ wait 1 ∷ [];
+    }
+    -- beside I a U does not go
+    ∷ record { start = 1; requests = begins 2 ++ request 105 2 5 ∷ request 117 1 5 ∷ []; answers = goFrom 1 2 ++ go 2 ∷ wait 1 ∷ [] }
+    -- U covers reads and u: on cell 5; S with u becomes U, beside which a read waits: on cell 6; I with u becomes X, beside which an increment waits: on cell 7
+    ∷ record {
+      start = 1;
+      requests = begins 4 ++ request 117 4 5 ∷ request 114 4 5 ∷ request 117 4 5 ∷ request 114 4 6 ∷ request 117 4 6 ∷ request 105 4 7 ∷ request 117 4 7 ∷ request 114 3 6 ∷ request 105 2 7 ∷ [];
+      answers = goFrom 1 4 ++ go 4 ∷ go 4 ∷ go 4 ∷ go 4 ∷ go 4 ∷ go 4 ∷ go 4 ∷ wait 3 ∷ wait 2 ∷ [];
+    }
+    -- u is refused as a read is: 3 of a job that is not open, 4 of one that waits, 5 of one that was sent back, then 2 for a cell above 63
+    ∷ record {
+      start = 1;
+      requests = begins 3 ++ request 117 4 64 ∷ request 117 0 5 ∷ request 117 2 64 ∷ request 117 2 5 ∷ request 117 1 5 ∷ request 117 1 64 ∷ request 117 3 5 ∷ request 117 3 64 ∷ [];
+      answers = goFrom 1 3 ++ no 3 ∷ no 3 ∷ no 2 ∷ go 2 ∷ wait 1 ∷ no 4 ∷ back 3 ∷ no 5 ∷ [];
     }
     -- 1 first, whatever the job and the cell: k is no request, nor is 0 or 255
     ∷ record { start = 1; requests = request 107 1 64 ∷ request 0 0 0 ∷ request 255 1 5 ∷ []; answers = no 1 ∷ no 1 ∷ no 1 ∷ [] }

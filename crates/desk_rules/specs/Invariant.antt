@@ -8,7 +8,7 @@ use lib.ListN.{length}
 use Rattle.terms.specs.declared.letters.Ask.{Ask}
 use Rattle.terms.specs.Limits.{cells, places}
 use Rattle.conflict.specs.declared.modes.Mode.{Mode}
-use Rattle.conflict.specs.Modes.{beside, grants, isFree}
+use Rattle.conflict.specs.Modes.{needed, covers, beside, grants, isFree}
 use Rattle.laws.specs.Lists.{member}
 use Rattle.desk_rules.specs.Desk.{Status, closed, waiting, Waiter, Row, Desk, isOpen, isLive, In}
 use Rattle.desk_rules.specs.Locks.{wants}
@@ -31,6 +31,8 @@ pub record RowInv (stat : ℕ → Status) (c : ℕ) (r : Row) : Type 0 where
   pub elder : (w : Waiter) (i : ℕ) → In w (r .queue) → i ≢ w .job → isFree (r .held i) ≡ false → w .job < i
   pub down : Falling (r .queue)
   pub blocked : FirstBlocked (r .held) (r .queue)
+  -- a waiter does not hold what it waits for
+  pub lacks : (w : Waiter) → In w (r .queue) → covers (r .held (w .job)) (needed (w .ask)) ≡ false
   -- a waiter's status says so: it waits for this cell with this ask
   pub stands : (w : Waiter) → In w (r .queue) → stat (w .job) ≡ waiting c (w .ask)
   -- a holder is live

@@ -19,6 +19,7 @@ pub mod Histories
 pub mod Invariant
 pub mod Releasing
 pub mod Ages
+pub mod UpdateLock
 pub mod Service
 pub mod StepEffects
 pub mod Promises

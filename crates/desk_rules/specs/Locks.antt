@@ -24,13 +24,9 @@ unfoldable pub isEmpty : List Waiter → Bool
 isEmpty [] = true
 isEmpty (w ∷ q) = false
 
--- the mode agrees with every other holder (01, rules 3 and 4)
+-- the mode agrees with every other holder (01, rules 2 to 4; 02, No. 1)
 unfoldable pub agrees : List ℕ → (ℕ → Mode) → ℕ → Mode → Bool
 agrees js held j m = every (λ i. eqb i j || grants (held i) m) js
-
--- no other job holds the cell (01, rule 2)
-unfoldable pub alone : List ℕ → (ℕ → Mode) → ℕ → Bool
-alone js held j = every (λ i. eqb i j || isFree (held i)) js
 
 -- older than every other holder: smaller is older (01, rules 2 and 3)
 unfoldable pub olderThanHolders : List ℕ → (ℕ → Mode) → ℕ → Bool

@@ -11,13 +11,13 @@ use Rattle.terms.specs.declared.refusals.Refusal.{Refusal}
 use Rattle.terms.specs.Letters.{letterOf}
 use Rattle.terms.specs.Limits.{lastNumber}
 use Rattle.conflict.specs.declared.modes.Mode.{Mode}
-use Rattle.conflict.specs.Modes.{needed, covers, asked, isFree}
+use Rattle.conflict.specs.Modes.{needed, covers, isFree}
 use Rattle.desk_rules.specs.declared.Answer.the-variants.{Go, Wait, Back}
 use Rattle.desk_rules.specs.Desk.{closed, running, waiting, sentback, isOpen, Waiter, Desk, Request, at, seated, vacated}
-use Rattle.desk_rules.specs.Locks.{agrees, alone, olderThanHolders, olderThanWaiters, isEmpty}
+use Rattle.desk_rules.specs.Locks.{agrees, olderThanHolders, olderThanWaiters, isEmpty}
 use Rattle.desk_rules.specs.Rules.{Outcome, refused, withRow, withStatus, rule4}
 use Rattle.desk_rules.specs.Table.{Due}
-use Rattle.desk_rules.specs.Asked.{Asking, asker, heldThere, ownMode, queueThere}
+use Rattle.desk_rules.specs.Asked.{Asking, asker, heldThere, ownMode, askedThere, queueThere}
 
 -- go: this desk, and nobody is woken
 abbrev pub goes : Desk → ℕ → Outcome
@@ -36,24 +36,20 @@ standing d j c a q =
       wakes = [];
     }
 
--- nobody else holds that cell
-abbrev pub noOther : Desk → Request → Bool
-noOther d r = alone (d .jobs) (heldThere d r) (r .job)
-
 -- the job is older than every other holder of that cell
 abbrev pub eldest : Desk → Request → Bool
 eldest d r = olderThanHolders (d .jobs) (heldThere d r) (r .job)
 
--- the mode that is needed agrees with every other holder of that cell
-abbrev pub fitsIn : Desk → Request → Ask → Bool
-fitsIn d r a = agrees (d .jobs) (heldThere d r) (r .job) (needed a)
+-- the mode agrees with every other holder of that cell
+abbrev pub fitsIn : Desk → Request → Mode → Bool
+fitsIn d r m = agrees (d .jobs) (heldThere d r) (r .job) m
 
 -- neither to go nor to wait: what is left of rules 2 and 3 where they say "otherwise"
 pub data Otherwise (d : Desk) (r : Request) (a : Ask) : Type 0 where
-  -- rule 2: a promotion, another job holds the cell, and the job is not older than every other holder
-  no-promotion : covers (ownMode d r) (needed a) ≡ false → isFree (ownMode d r) ≡ false → noOther d r ≡ false → eldest d r ≡ false → Otherwise d r a
+  -- rule 2: a promotion, its new mode disagrees with another holder, and the job is not older than every other holder
+  no-promotion : covers (ownMode d r) (needed a) ≡ false → isFree (ownMode d r) ≡ false → fitsIn d r (askedThere d r a) ≡ false → eldest d r ≡ false → Otherwise d r a
   -- rule 3: a newcomer, the queue is not empty or the mode disagrees with a holder, and the job is not older than every holder and every waiter
-  no-entry : isFree (ownMode d r) ≡ true → (isEmpty (queueThere d r) && fitsIn d r a) ≡ false →
+  no-entry : isFree (ownMode d r) ≡ true → (isEmpty (queueThere d r) && fitsIn d r (needed a)) ≡ false →
       (eldest d r && olderThanWaiters (queueThere d r) (r .job)) ≡ false → Otherwise d r a
 
 -- the moves, with what each leaves and tells written out; what rule 4 does is said by its own definition, and what that is by the promises of wakes
@@ -72,17 +68,17 @@ pub data Moved (d : Desk) (r : Request) : Outcome → Type 0 where
   retries : letterOf (r .kind) ≡ Known Retry → d .stat (r .job) ≡ sentback → Moved d r (goes (withStatus d (r .job) running) (r .job))
   -- rule 1: the job holds a covering mode, and nothing changes
   has-it : (a : Ask) → Asking d r a → covers (ownMode d r) (needed a) ≡ true → Moved d r (goes d (r .job))
-  -- rule 2: a promotion without another holder goes
-  promotes : (a : Ask) → Asking d r a → covers (ownMode d r) (needed a) ≡ false → isFree (ownMode d r) ≡ false → noOther d r ≡ true →
-      Moved d r (taking d (r .job) (r .cell) (asked (ownMode d r) (needed a)))
+  -- rule 2: a promotion goes where its new mode agrees with the other holders
+  promotes : (a : Ask) → Asking d r a → covers (ownMode d r) (needed a) ≡ false → isFree (ownMode d r) ≡ false → fitsIn d r (askedThere d r a) ≡ true →
+      Moved d r (taking d (r .job) (r .cell) (askedThere d r a))
   -- rule 2: older than every other holder it waits at the front
-  waits-in-front : (a : Ask) → Asking d r a → covers (ownMode d r) (needed a) ≡ false → isFree (ownMode d r) ≡ false → noOther d r ≡ false → eldest d r ≡ true →
+  waits-in-front : (a : Ask) → Asking d r a → covers (ownMode d r) (needed a) ≡ false → isFree (ownMode d r) ≡ false → fitsIn d r (askedThere d r a) ≡ false → eldest d r ≡ true →
       Moved d r (standing d (r .job) (r .cell) a (asker r a ∷ queueThere d r))
   -- rule 3: a newcomer goes where the queue is empty and its mode agrees with every holder
-  enters : (a : Ask) → Asking d r a → isFree (ownMode d r) ≡ true → isEmpty (queueThere d r) ≡ true → fitsIn d r a ≡ true →
+  enters : (a : Ask) → Asking d r a → isFree (ownMode d r) ≡ true → isEmpty (queueThere d r) ≡ true → fitsIn d r (needed a) ≡ true →
       Moved d r (taking d (r .job) (r .cell) (needed a))
   -- rule 3: older than every holder and every waiter it waits at the end
-  waits-last : (a : Ask) → Asking d r a → isFree (ownMode d r) ≡ true → (isEmpty (queueThere d r) && fitsIn d r a) ≡ false →
+  waits-last : (a : Ask) → Asking d r a → isFree (ownMode d r) ≡ true → (isEmpty (queueThere d r) && fitsIn d r (needed a)) ≡ false →
       eldest d r ≡ true → olderThanWaiters (queueThere d r) (r .job) ≡ true →
       Moved d r (standing d (r .job) (r .cell) a (queueThere d r ++ asker r a ∷ []))
   -- rules 2 and 3, otherwise: sent back by rule 4

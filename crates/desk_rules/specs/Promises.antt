@@ -13,6 +13,7 @@ use Rattle.desk_rules.specs.Locking.{Locking}
 use Rattle.desk_rules.specs.SerialHistory.{SerialHistory}
 use Rattle.desk_rules.specs.Service.{Service}
 use Rattle.desk_rules.specs.Ages.{Ages}
+use Rattle.desk_rules.specs.UpdateLock.{UpdateLock}
 
 pub record Promises (h : History) (k : Course) : Type 0 where
   -- demand 1: refusals exactly, and rules 1 to 5
@@ -28,3 +29,5 @@ pub record Promises (h : History) (k : Course) : Type 0 where
   -- demand 3: who waits is served, and who is oldest is never sent back
   pub service : Service k
   pub ages : Ages k
+  -- the update lock (02, No. 1)
+  pub update : UpdateLock k

@@ -22,7 +22,7 @@ pub record Recorded (k : Course) (r : Request) : Type 0 where
   pub commit-records : (j : ℕ) → letterOf (r .kind) ≡ Known commit → to k r .said ≡ Go j → records k r ≡ Ends Commit j ∷ wakeRecords (to k r .wakes)
   pub give-up-records : (j : ℕ) → letterOf (r .kind) ≡ Known give-up → to k r .said ≡ Go j → records k r ≡ Ends GiveUp j ∷ wakeRecords (to k r .wakes)
   pub back-records : (j : ℕ) → to k r .said ≡ sent-back j → records k r ≡ Ends Back j ∷ wakeRecords (to k r .wakes)
-  -- a read, a write or an increment that goes writes its action; begin, retry and a wait write nothing
+  -- a read, a write, an increment or a u that goes writes its action; begin, retry and a wait write nothing
   pub ask-records : (a : Ask) (j : ℕ) → letterOf (r .kind) ≡ Known (Asks a) → to k r .said ≡ Go j → records k r ≡ Does (record { kind = recorded a; job = j; cell = r .cell }) ∷ []
   pub begin-records : (j : ℕ) → letterOf (r .kind) ≡ Known Begin → to k r .said ≡ Go j → records k r ≡ []
   pub retry-records : (j : ℕ) → letterOf (r .kind) ≡ Known Retry → to k r .said ≡ Go j → records k r ≡ []

@@ -7,11 +7,12 @@ use mathlib.Core.List.{List, _++_}
 use Rattle.laws.specs.Lists.{member}
 use Rattle.conflict.specs.declared.modes.Mode.{Mode}
 use Rattle.conflict.specs.declared.modes.Mode.the-variants.{Free}
-use Rattle.conflict.specs.Modes.{covers, beside, isFree}
+use Rattle.conflict.specs.Modes.{covers, beside, grants, isFree}
 use Rattle.desk_rules.specs.Desk.{In, Waiter, Row, Desk, Request}
 use Rattle.desk_rules.specs.Locks.{without, Settled, wants}
 use Rattle.desk_rules.specs.Invariant.{Falling, FirstBlocked}
 use Rattle.desk_rules.specs.Rules.{Outcome, wakesOf}
+use Rattle.desk_rules.specs.Waiting.{Ahead}
 use Rattle.terms.specs.Limits.{cells}
 
 -- every holder is among the jobs listed
@@ -28,6 +29,9 @@ pub record Releases (js : List ℕ) (j : ℕ) (r : Row) (s : Settled) : Type 0 w
   pub kept : (i : ℕ) → i ≢ j → ((w : Waiter) → In w (s .woken) → w .job ≢ i) → s .row .held i ≡ r .held i
   -- a woken job holds what it wanted
   pub takes : (w : Waiter) → In w (s .woken) → s .row .held (w .job) ≡ wants (r .held) w
+  -- a woken job's mode was granted beside every other holder that was not woken, and beside those woken ahead of it
+  pub fits : (w : Waiter) → In w (s .woken) → (i : ℕ) → i ≢ w .job → i ≢ j → ((v : Waiter) → In v (s .woken) → v .job ≢ i) → grants (r .held i) (wants (r .held) w) ≡ true
+  pub in-turn : (v w : Waiter) → Ahead v w (s .woken) → grants (wants (r .held) v) (wants (r .held) w) ≡ true
   -- the others' locks only grow
   pub grown : (i : ℕ) → i ≢ j → covers (s .row .held i) (r .held i) ≡ true
   -- who is woken is another job, and waited

@@ -14,7 +14,7 @@ use Rattle.desk_rules.specs.declared.Answer.{Answer}
 use Rattle.desk_rules.specs.declared.Answer.the-variants.{Go, Wait, Back, No}
 use Rattle.desk_rules.specs.Desk.{Status, running, waiting, sentback, closed, Waiter, Row, Desk, at, seated, vacated}
 use Rattle.desk_rules.specs.Stepping.{Stepped}
-use Rattle.desk_rules.specs.Locks.{agrees, alone, olderThanHolders, olderThanWaiters, isEmpty, Settled, released}
+use Rattle.desk_rules.specs.Locks.{agrees, olderThanHolders, olderThanWaiters, isEmpty, Settled, released}
 
 -- what a step of the paper's desk leaves and tells
 abbrev pub Outcome : Type 0
@@ -99,11 +99,12 @@ queued d j c a q =
 unfoldable pub rule1 : Desk → ℕ → Outcome
 rule1 d j = record { desk = d; said = Go j; wakes = [] }
 
--- a promotion: no other holder, go; older than every other holder, it waits at the front; otherwise back (01, rule 2)
+-- a promotion: go if its new mode agrees with the other holders; older than every other holder, it waits at the front; otherwise back (01, rule 2; 02, No. 1)
 unfoldable pub rule2 : Desk → ℕ → ℕ → Ask → Outcome
 rule2 d j c a =
     let held = d .row c .held in
-    pick (alone (d .jobs) held j) (grant d j c (asked (held j) (needed a)))
+    let wanted = asked (held j) (needed a) in
+    pick (agrees (d .jobs) held j wanted) (grant d j c wanted)
     (pick (olderThanHolders (d .jobs) held j) (queued d j c a (record { job = j; ask = a } ∷ d .row c .queue)) (sendBack d j))
 
 -- a job new to the cell: go if the queue is empty and the mode agrees with every holder; older than every holder and every waiter, it waits at the end; otherwise back (01, rule 3)
@@ -115,7 +116,7 @@ rule3 d j c a =
     (queued d j c a (d .row c .queue ++ record { job = j; ask = a } ∷ []))
     (sendBack d j))
 
--- read, write or increment of a running job: rule 1 where what it holds covers what it needs, rule 3 where it holds nothing, rule 2 else
+-- read, write, increment or u of a running job: rule 1 where what it holds covers what it needs, rule 3 where it holds nothing, rule 2 else
 unfoldable pub ask : Desk → ℕ → ℕ → Ask → Outcome
 ask d j c a =
     let held = d .row c .held j in

@@ -8,18 +8,22 @@ use Rattle.terms.specs.declared.letters.Ask.{Ask}
 use Rattle.terms.specs.declared.letters.Letter.the-variants.{Asks}
 use Rattle.terms.specs.declared.letters.Lettered.the-variants.{Known}
 use Rattle.terms.specs.Letters.{letterOf}
+use Rattle.conflict.specs.Modes.{needed, covers, isFree}
 use Rattle.conflict.specs.Runs.{ended}
 use Rattle.desk_rules.specs.declared.Answer.the-variants.{Wait}
 use Rattle.desk_rules.specs.Desk.{running, waiting, Waiter, In, Request, isLive}
 use Rattle.desk_rules.specs.Locks.{wants}
 use Rattle.desk_rules.specs.Course.{Course, now, to, later}
-use Rattle.desk_rules.specs.Waiting.{InWay, WasInWay, IsWaiting, Chain, Waits, GivesUp, Patient, AllEnd, AtMostInWay, Granted, Served, ServedInTime}
+use Rattle.desk_rules.specs.Waiting.{Ahead, InWay, WasInWay, IsWaiting, Chain, Waits, GivesUp, Patient, AllEnd, AtMostInWay, Granted, Served, ServedInTime}
 use Rattle.desk_rules.specs.Asked.{asker}
 
 -- what is promised of a waiter of a cell
 pub record Waiters (k : Course) (c : ℕ) (w : Waiter) : Type 0 where
   -- somebody is in its way
   pub somebody-in-way : (i : ℕ) × InWay (now k .row c) w i
+  -- it does not hold what it waits for; and if it holds the cell it stands at the front of its queue: at most the front is a promotion (01, rule 2; 02, No. 1)
+  pub lacks-it : covers (now k .row c .held (w .job)) (needed (w .ask)) ≡ false
+  pub holder-in-front : isFree (now k .row c .held (w .job)) ≡ false → (v : Waiter) → Ahead v w (now k .row c .queue) → ⊥
   -- it is older than each, each is in a run, and they are at most 31 (01, rules 2 and 3; 01, Slips to rule out, 1)
   pub is-older : (i : ℕ) → InWay (now k .row c) w i → w .job < i
   pub in-way-live : (i : ℕ) → InWay (now k .row c) w i → isLive (now k .stat i) ≡ true

@@ -43,7 +43,7 @@ stepRetry d j (waiting c a) = refused d Waiting
 stepRetry d j sentback = retry d j
 stepRetry d j running = refused d Running
 
--- read, write and increment: 3, 4, 5 as for commit, then 2 for a cell above 63
+-- read, write, increment and u: 3, 4, 5 as for commit, then 2 for a cell above 63
 unfoldable pub stepAsk : Desk → ℕ → ℕ → Ask → Status → Outcome
 stepAsk d j c a closed = refused d NotOpen
 stepAsk d j c a (waiting c′ a′) = refused d Waiting

@@ -26,7 +26,7 @@ pub record StepEffects (k : Course) : Type 0 where
   pub closed-for-good : (j : ℕ) → j < now k .next → now k .stat j ≡ closed → (rs : List Request) → k .seen rs .stat j ≡ closed
   -- after a go the job holds a mode that covers what it needs, and every other job holds what it held (01, rules 1 to 3)
   pub grants-need : (r : Request) (a : Ask) (j : ℕ) → letterOf (r .kind) ≡ Known (Asks a) → to k r .said ≡ Go j → Grants (now k) (to k r .desk) r a j
-  -- by rule 1 exactly what it held, by rule 2 X, by rule 3 what it needs
+  -- by rule 1 exactly what it held, by rule 2 what that becomes, by rule 3 what it needs
   pub grants-exactly : (r : Request) (a : Ask) (j : ℕ) → letterOf (r .kind) ≡ Known (Asks a) → to k r .said ≡ Go j → Exactly (now k .row (r .cell) .held (r .job)) (to k r .desk .row (r .cell) .held (r .job)) a
   -- a step that answers wait makes the job wait, still holding its old mode, first or last (01, rules 2 and 3)
   pub waits : (r : Request) (j : ℕ) → to k r .said ≡ Wait j → (a : Ask) × StartsToWait (now k) (to k r .desk) r a j

@@ -46,7 +46,7 @@ isRetry Retry = true
 isRetry Back = false
 isRetry (Asks a) = false
 
--- the request is read, write, increment or commit
+-- the request is read, write, increment, u or commit
 abbrev pub asksOrCommits : Letter → Bool
 asksOrCommits Begin = false
 asksOrCommits Commit = true
@@ -90,11 +90,11 @@ abbrev pub letterIs : (Letter → Bool) → Lettered → Bool
 letterIs f Unknown = false
 letterIs f (Known l) = f l
 
--- 1: request kind other than the seven
+-- 1: request kind other than the eight (02, No. 1)
 abbrev pub otherKind : Lettered → Bool
 otherKind l = not (letterIs ofRequests l)
 
--- 2: cell above 63; r, w and i have a cell
+-- 2: cell above 63; r, w, i and u have a cell
 abbrev pub cellAbove : Lettered → ℕ → Bool
 cellAbove l c = letterIs hasCell l && leb cells c
 
@@ -106,7 +106,7 @@ notOpen s = not (isOpen s)
 abbrev pub stillWaiting : Lettered → Status → Bool
 stillWaiting l s = isWaiting s && not (letterIs isGiveUp l)
 
--- 5: job was sent back, request is read, write, increment or commit
+-- 5: job was sent back, request is read, write, increment, u or commit
 abbrev pub wasSentBack : Lettered → Status → Bool
 wasSentBack l s = isSentBack s && letterIs asksOrCommits l
 

@@ -11,7 +11,7 @@ use lib.ListN.{length, getD, set}
 use lib.Seq.{getD-set-same, getD-set-other}
 use Rattle.laws.specs.Choice.{pick, by-test, not-both}
 use Rattle.laws.specs.Lists.{member}
-use Rattle.terms.specs.declared.letters.Ask.the-variants.{Read, Write, Increment}
+use Rattle.terms.specs.declared.letters.Ask.the-variants.{Read, Write, Increment, Update}
 use Rattle.terms.specs.declared.letters.Letter.{Letter}
 use Rattle.terms.specs.declared.letters.Letter.the-variants.{Begin, Commit, GiveUp, Retry, Back, Asks}
 use Rattle.terms.specs.declared.refusals.Refusal.{Refusal}
@@ -74,6 +74,7 @@ letter-event Back job cell h = refl
 letter-event (Asks Read) job cell h = rw records-read
 letter-event (Asks Write) job cell h = rw records-write
 letter-event (Asks Increment) job cell h = rw records-increment
+letter-event (Asks Update) job cell h = not-both h refl
 
 -- who has ended after a letter, by its number
 letter-ends : (l : Letter) (ended : List ℕ) (job cell j : ℕ) → member j (endedAfter ended (Good l job cell)) ≡ pick (endsJob (codeOf l)) (eqb job j || member j ended) (member j ended)
@@ -86,6 +87,7 @@ letter-ends Back ended job cell j = refl
 letter-ends (Asks Read) ended job cell j = refl
 letter-ends (Asks Write) ended job cell j = refl
 letter-ends (Asks Increment) ended job cell j = refl
+letter-ends (Asks Update) ended job cell j = refl
 
 -- a flag that is put where none was says who has ended
 flag-put : (flags : List Bool) (job : ℕ) (b : Bool) (ended : List ℕ) → length flags ≡ 256 → job < 256 → getD flags job false ≡ false → Flagged flags ended →

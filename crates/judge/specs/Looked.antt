@@ -5,7 +5,7 @@ use mathlib.Core.List.{List}
 use lib.Dec.{eqb, ltb, leb}
 use lib.ListN.{getD}
 use Rattle.laws.specs.Choice.{pick}
-use Rattle.terms.specs.declared.letters.Ask.the-variants.{Read, Write, Increment}
+use Rattle.terms.specs.declared.letters.Ask.the-variants.{Read, Write, Increment, Update}
 use Rattle.terms.specs.declared.letters.Letter.{Letter}
 use Rattle.terms.specs.declared.letters.Letter.the-variants.{Begin, Commit, GiveUp, Retry, Back, Asks}
 use Rattle.terms.specs.declared.refusals.Refusal.the-variants.{BadLine, CellAbove, TooManyLines, JobOutside, Ended}
@@ -15,7 +15,7 @@ use Rattle.text_rules.specs.declared.Reading.the-variants.{Good, Bad}
 use Rattle.judge.specs.declared.scan.Looked.{Looked}
 use Rattle.judge.specs.declared.scan.Looked.the-variants.{Kept, Refused}
 
--- the number kept for a letter: 0 read, 1 write, 2 increment, 3 commit, 4 give-up, 5 sent back; the two letters that no history line has come to 5 too
+-- the number kept for a letter: 0 read, 1 write, 2 increment, 3 commit, 4 give-up, 5 sent back; b, t and u, which no history line has, come to 5 too (02, No. 1: u)
 abbrev pub codeOf : Letter → ℕ
 codeOf Begin = 5
 codeOf Commit = 3
@@ -25,6 +25,7 @@ codeOf Back = 5
 codeOf (Asks Read) = 0
 codeOf (Asks Write) = 1
 codeOf (Asks Increment) = 2
+codeOf (Asks Update) = 5
 
 -- whether the line that a number is kept for ends its job for good
 unfoldable pub endsJob : ℕ → Bool

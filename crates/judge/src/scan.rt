@@ -35,7 +35,7 @@ pub enum Scanned {
     },
 }
 
-// The number that is kept for a letter of a history.
+// The number that is kept for a letter of a history; that of sent back for one that no history has.
 fn code_of(l: Letter) -> u8
     ensures { λ r. ⌜ r ≡ codeOf l ⌝ }
 {
@@ -49,6 +49,7 @@ fn code_of(l: Letter) -> u8
             Ask::Read => 0,
             Ask::Write => 1,
             Ask::Increment => 2,
+            Ask::Update => 5,
         },
     }
 }

@@ -2,12 +2,13 @@
 -- Assumes nothing.
 use Prim.Native.Nat.{ℕ, suc, _-_, _<_}
 use mathlib.Core.Path.{_≡_, refl, sym, ap, ap₂, _∙_, subst}
+use mathlib.Core.Bool.{true}
 use mathlib.Core.List.{List, [], _∷_, _++_, append-nil, map}
 use native.Mathlib.Omega.{arith}
 use lib.ListN.{length, getD}
 use Rattle.laws.specs.Choice.{not-both}
 use Rattle.terms.specs.declared.letters.Ask.{Ask}
-use Rattle.terms.specs.declared.letters.Ask.the-variants.{Read, Write, Increment}
+use Rattle.terms.specs.declared.letters.Ask.the-variants.{Read, Write, Increment, Update}
 use Rattle.terms.specs.declared.letters.Letter.{Letter}
 use Rattle.terms.specs.declared.letters.Letter.the-variants.{Begin, Commit, GiveUp, Retry, Back, Asks}
 use Rattle.terms.specs.Letters.{ofHistories}
@@ -25,12 +26,13 @@ use Rattle.judge_rules.specs.AsWorded.{SoundText}
 use Rattle.text_rules.specs.EventRecords.{askBy, markLetter, eventLine, textOf}
 use Rattle.text_rules.proofs.RecordLines.{text-append}
 
--- a letter that asks, of the kind that it asks for
-ask-back : (a : Ask) → askBy (recorded a) ≡ a
+-- a letter that asks, of the kind that it asks for: r, w and i, which histories have; u is recorded as r (02, No. 1)
+ask-back : (a : Ask) → ofHistories (Asks a) ≡ true → askBy (recorded a) ≡ a
 unfolding askBy
-ask-back Read = rw records-read
-ask-back Write = rw records-write
-ask-back Increment = rw records-increment
+ask-back Read h = rw records-read
+ask-back Write h = rw records-write
+ask-back Increment h = rw records-increment
+ask-back Update h = not-both h refl
 
 -- the record of what a good line says is that line
 good-back : (bytes : List ℕ) (l : Letter) (job cell : ℕ) → GoodLine ofHistories bytes l job cell → textOf (eventOf (Good l job cell)) ≡ bytes
@@ -41,7 +43,7 @@ good-back bytes GiveUp job cell g = append-nil (lineRecord GiveUp job 0) ∙ ap 
 good-back bytes Retry job cell g = not-both (g .1) refl
 good-back bytes Back job cell g = append-nil (lineRecord Back job 0) ∙ ap (lineRecord Back job) (sym (g .5 refl)) ∙ sym (g .0)
 good-back bytes (Asks a) job cell g =
-    append-nil (lineRecord (Asks (askBy (recorded a))) job cell) ∙ ap (λ x. lineRecord (Asks x) job cell) (ask-back a) ∙ sym (g .0)
+    append-nil (lineRecord (Asks (askBy (recorded a))) job cell) ∙ ap (λ x. lineRecord (Asks x) job cell) (ask-back a (g .1)) ∙ sym (g .0)
 
 -- what is known of each line: that it is good
 pub record IsGood (bytes : List ℕ) : Type 0 where

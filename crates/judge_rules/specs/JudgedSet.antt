@@ -41,8 +41,9 @@ cases =
     ∷ record { text = ""; places = 254; answer = 2 ∷ 14 ∷ 0 ∷ []; line = ""; jobs = [] }
     ∷ record { text = "c\t1\n"; places = 256; answer = 0 ∷ 1 ∷ 0 ∷ []; line = ""; jobs = 1 ∷ [] }
     ∷ fine "" 0 []
-    -- 9: another letter, an empty line, a field too many, a cell of three digits, a last line without its newline
+    -- 9: another letter, u, which a history records as r (02, No. 1), an empty line, a field too many, a cell of three digits, a last line without its newline
     ∷ faulty "x\n" 9 1 "x"
+    ∷ faulty "r\t1\t5\nu\t1\t5\nc\t1\n" 9 2 "u\t1\t5"
     ∷ faulty "c\t1\n\nc\t2\n" 9 2 ""
     ∷ faulty "c\t1\t5\n" 9 1 "c\t1\t5"
     ∷ faulty "r\t7\t100\n" 9 1 "r\t7\t100"

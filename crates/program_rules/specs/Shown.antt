@@ -17,12 +17,12 @@ use Rattle.desk_rules.specs.Requests.{givenBy}
 use Rattle.program_rules.specs.OverLines.{Told}
 use Rattle.program_rules.specs.Programs.{runOn}
 
--- a job was granted a read, write or increment, or its run ended by a commit, a give-up or a sending back
+-- a job was granted a read, write, increment or u, or its run ended by a commit, a give-up or a sending back
 pub data Shown : Type 0 where
   granted : ℕ → Shown
   ended : Mark → ℕ → Shown
 
--- a go shows a grant where the request is a read, write or increment, and an end where it is a commit or a give-up
+-- a go shows a grant where the request is a read, write, increment or u, and an end where it is a commit or a give-up
 unfoldable pub goShows : ℕ → Lettered → List Shown
 goShows j Unknown = []
 goShows j (Known no-request) = []

@@ -3,7 +3,7 @@
 use mathlib.Core.Path.{_≡_, refl}
 use mathlib.Core.List.{map}
 use Rattle.laws.specs.Lists.{member, put}
-use Rattle.conflict.specs.Modes.{needed, recorded, covers, beside, grants, asked, isFree}
+use Rattle.conflict.specs.Modes.{needed, recorded, covers, grants, asked, isFree}
 use Rattle.conflict.specs.Schedule.{agree, conflicts, keep, touches, edge}
 use Rattle.conflict.specs.History.{isCommit, isBack, marked, partOf, committedPart, commitOrder}
 use Rattle.text_rules.specs.Decimal.{digitsIn, decimal}
@@ -11,7 +11,7 @@ use Rattle.text_rules.specs.Records.{answerRecord, field, lineRecord, tabbed, w
 use Rattle.text_rules.specs.Lines.{isDigit, digitsOf, afterDigits, valueFrom, shortest, numberThen, ending, cellPart, jobPart, letterPart, readLine}
 use Rattle.text_rules.specs.Split.{inFront, linesOf}
 use Rattle.desk_rules.specs.Desk.{at, idle, freshDesk, seated, vacated}
-use Rattle.desk_rules.specs.Locks.{every as locks-every, everyWaiter, isEmpty, agrees, alone, olderThanHolders, olderThanWaiters, without, wants, wokenFirst, settle, released}
+use Rattle.desk_rules.specs.Locks.{every as locks-every, everyWaiter, isEmpty, agrees, olderThanHolders, olderThanWaiters, without, wants, wokenFirst, settle, released}
 use Rattle.desk_rules.specs.Rules.{refused, withRow, withStatus, wake, wakesAt, wakesOf, isWoken, runAgain, rowsAfter, rule4, close, sendBack, grant, queued, rule1, rule2, rule3, ask, retry, begin}
 use Rattle.desk_rules.specs.Step.{stepCommit, stepGiveUp, stepRetry, stepAsk, stepBegin, stepBy, step, wentBy, ownRecords, wakeRecords, recordsOf}
 use Rattle.judge_rules.specs.Order.{preceded, first, ready, without as order-without, ends, leads, taken as order-taken, orderOf, stuck}
@@ -29,5 +29,5 @@ use Rattle.samples.specs.Samples.{Sample, writes, samples}
 
 -- every sample's program writes its output, given its input
 pub as-the-paper-says : map (λ (s : Sample). writes (s .program) (bytes (s .input))) samples ≡ map (λ (s : Sample). bytes (s .output)) samples
-unfolding needed recorded covers beside grants asked isFree member agree conflicts keep touches edge isCommit isBack marked partOf committedPart put commitOrder digitsIn decimal answerRecord field lineRecord isDigit digitsOf afterDigits valueFrom shortest numberThen ending cellPart jobPart letterPart readLine inFront linesOf at idle freshDesk seated vacated locks-every everyWaiter isEmpty agrees alone olderThanHolders olderThanWaiters without wants wokenFirst settle released refused withRow withStatus wake wakesAt wakesOf isWoken runAgain rowsAfter rule4 close sendBack grant queued rule1 rule2 rule3 ask retry begin stepCommit stepGiveUp stepRetry stepAsk stepBegin stepBy step wentBy ownRecords wakeRecords recordsOf preceded first ready order-without ends leads order-taken orderOf stuck predecessor upTo from walk least turnTo turn knotIn findingBy judged insert sorted jobsOf findingOf readingsOf faultOfGood faultOf lineFault endedAfter orLater firstFaulty eventOf eventsIn filled sayFinding sayLines judgementOf answered lineBy runOf wordOf numberBeside wakeLines answerLines askBy markLetter eventLine textOf historyLines written runOn answersOf historyOf tabbed wordLine sayLine judgedLine verdictOf bytes writes
+unfolding needed recorded covers grants asked isFree member agree conflicts keep touches edge isCommit isBack marked partOf committedPart put commitOrder digitsIn decimal answerRecord field lineRecord isDigit digitsOf afterDigits valueFrom shortest numberThen ending cellPart jobPart letterPart readLine inFront linesOf at idle freshDesk seated vacated locks-every everyWaiter isEmpty agrees olderThanHolders olderThanWaiters without wants wokenFirst settle released refused withRow withStatus wake wakesAt wakesOf isWoken runAgain rowsAfter rule4 close sendBack grant queued rule1 rule2 rule3 ask retry begin stepCommit stepGiveUp stepRetry stepAsk stepBegin stepBy step wentBy ownRecords wakeRecords recordsOf preceded first ready order-without ends leads order-taken orderOf stuck predecessor upTo from walk least turnTo turn knotIn findingBy judged insert sorted jobsOf findingOf readingsOf faultOfGood faultOf lineFault endedAfter orLater firstFaulty eventOf eventsIn filled sayFinding sayLines judgementOf answered lineBy runOf wordOf numberBeside wakeLines answerLines askBy markLetter eventLine textOf historyLines written runOn answersOf historyOf tabbed wordLine sayLine judgedLine verdictOf bytes writes
 as-the-paper-says = refl

@@ -1,4 +1,4 @@
--- The paper's starred samples S1 to S9: program, input text, output text (01, Samples to hold it against).
+-- The paper's starred samples S1 to S9, the update lock's own case, and more of ours: program, input text, output text (01, Samples to hold it against; 02, No. 1).
 use Prim.Native.Nat.{ℕ}
 use Prim.Native.String.{String}
 use mathlib.Core.List.{List, [], _∷_}
@@ -39,7 +39,19 @@ wakes = "b\nb\nb\nb\nw\t4\t5\nw\t4\t3\nr\t3\t5\nr\t2\t5\nw\t1\t3\nc\t4\n"
 abbrev pub returns : String
 returns = "b\nb\nr\t1\t5\nw\t2\t5\nt\t2\nr\t2\t5\nw\t1\t5\na\t2\nt\t1\nr\t1\t5\nk\t1\n"
 
--- the starred samples, S1 to S9, and after them ours; jobs are begun first, cell 5 unless said
+-- a run of ours with u: 2 has U beside 3's S; 1 waits for U; 3 may not have U beside U and goes back; 2 reads under U (01, rule 1) and is promoted to X; its commit wakes 1 (02, No. 1)
+abbrev pub updates : String
+updates = "b\nb\nb\nr\t3\t5\nu\t2\t5\nu\t1\t5\nu\t3\t5\nr\t2\t5\nw\t2\t5\nc\t2\n"
+
+-- two jobs read a cell with intent to write it, and write it: 1 waits, the commit of 2 wakes it, and nobody is sent back (02, No. 1)
+abbrev pub scorers : String
+scorers = "b\nb\nu\t2\t5\nu\t1\t5\nw\t2\t5\nc\t2\nw\t1\t5\nc\t1\n"
+
+-- the history of that
+abbrev pub scorers-history : String
+scorers-history = "r\t2\t5\nw\t2\t5\nc\t2\nr\t1\t5\nw\t1\t5\nc\t1\n"
+
+-- the starred samples, S1 to S9, then the update lock's case, and after them ours; jobs are begun first, cell 5 unless said
 abbrev pub samples : List Sample
 samples =
     -- S1, whole
@@ -87,6 +99,20 @@ samples =
     -- S9: increments of two jobs; then with a read put in after the second line
     ∷ record { program = verdict; input = "i\t1\t0\ni\t2\t0\ni\t1\t0\nc\t1\nc\t2\n"; output = "orderly\t1\t2\n" }
     ∷ record { program = verdict; input = "i\t1\t0\ni\t2\t0\nr\t2\t0\ni\t1\t0\nc\t1\nc\t2\n"; output = "knot\t1\t2\n" }
+    -- the update lock: u 2, u 1, w 2, c 2, w 1, c 1; with r in place of u, w 2 goes back; with the older first, u 2 goes back at once (02, No. 1)
+    ∷ record {
+      program = answers;
+      input = scorers;
+      output = "1\tgo\t1\n2\tgo\t2\n3\tgo\t2\n4\twait\t1\n5\tgo\t2\n6\tgo\t2\n6\twake\t1\n7\tgo\t1\n8\tgo\t1\n";
+    }
+    ∷ record { program = history; input = scorers; output = scorers-history }
+    ∷ record { program = verdict; input = scorers-history; output = "orderly\t2\t1\n" }
+    ∷ record {
+      program = answers;
+      input = "b\nb\nr\t2\t5\nr\t1\t5\nw\t2\t5\n";
+      output = "1\tgo\t1\n2\tgo\t2\n3\tgo\t2\n4\tgo\t1\n5\tback\t2\n";
+    }
+    ∷ record { program = answers; input = "b\nb\nu\t1\t5\nu\t2\t5\n"; output = "1\tgo\t1\n2\tgo\t2\n3\tgo\t1\n4\tback\t2\n" }
     -- ours: three wakes of one step, on two cells and two of one queue
     ∷ record {
       program = answers;
@@ -101,8 +127,16 @@ samples =
       output = "1\tgo\t1\n2\tgo\t2\n3\tgo\t1\n4\tback\t2\n5\tgo\t2\n6\tgo\t2\n7\twait\t1\n8\tgo\t2\n8\twake\t1\n9\tno\t8\n10\tgo\t1\n11\tno\t9\n";
     }
     ∷ record { program = history; input = returns; output = "r\t1\t5\nk\t2\nr\t2\t5\na\t2\nw\t1\t5\nr\t1\t5\n" }
-    -- ours: what job 1 read before its k does not count; after an a there is no further line; t is of no history
+    -- ours: u beside a read, against another u, and woken; its history has r for u (02, No. 1)
+    ∷ record {
+      program = answers;
+      input = updates;
+      output = "1\tgo\t1\n2\tgo\t2\n3\tgo\t3\n4\tgo\t3\n5\tgo\t2\n6\twait\t1\n7\tback\t3\n8\tgo\t2\n9\tgo\t2\n10\tgo\t2\n10\twake\t1\n";
+    }
+    ∷ record { program = history; input = updates; output = "r\t3\t5\nr\t2\t5\nk\t3\nr\t2\t5\nw\t2\t5\nc\t2\nr\t1\t5\n" }
+    -- ours: what job 1 read before its k does not count; after an a there is no further line; t and u are of no history
     ∷ record { program = verdict; input = "r\t1\t0\nw\t2\t0\nk\t1\nr\t1\t0\nc\t1\nc\t2\n"; output = "orderly\t2\t1\n" }
     ∷ record { program = verdict; input = "r\t1\t0\na\t1\nc\t1\n"; output = "no\t3\t13\n" }
     ∷ record { program = verdict; input = "r\t1\t0\nt\t1\nc\t1\n"; output = "no\t2\t9\n" }
+    ∷ record { program = verdict; input = "r\t1\t0\nu\t1\t0\nc\t1\n"; output = "no\t2\t9\n" }
     ∷ []

@@ -6,7 +6,7 @@ use native.Mathlib.Omega.{arith}
 use lib.Dec.{eqb}
 use borrow.Author.Tests.{eqb-true}
 use Rattle.laws.specs.Choice.{by-test}
-use Rattle.terms.specs.declared.letters.Ask.the-variants.{Read, Write, Increment}
+use Rattle.terms.specs.declared.letters.Ask.the-variants.{Read, Write, Increment, Update}
 use Rattle.terms.specs.declared.letters.Letter.{Letter}
 use Rattle.terms.specs.declared.letters.Letter.the-variants.{Begin, Commit, GiveUp, Retry, Back, Asks}
 use Rattle.terms.specs.declared.letters.Lettered.{Lettered}
@@ -23,6 +23,7 @@ letter-of-byte Back = refl
 letter-of-byte (Asks Read) = refl
 letter-of-byte (Asks Write) = refl
 letter-of-byte (Asks Increment) = refl
+letter-of-byte (Asks Update) = refl
 
 -- what is read as a letter in one line of the lookup has that letter's byte, if the lines below it do
 or-else : (m l : Letter) (b : ℕ) (rest : Lettered) → (rest ≡ Known l → byteOf l ≡ b) → orElse m b rest ≡ Known l → byteOf l ≡ b
@@ -39,4 +40,5 @@ byte-of-letter b l =
     (or-else Retry l b _
     (or-else Back l b _
     (or-else (Asks Read) l b _
-    (or-else (Asks Write) l b _ (or-else (Asks Increment) l b Unknown (λ e. let z : _≡_ {A = ℕ} 0 1 = cc in absurd (omega arith)))))))))
+    (or-else (Asks Write) l b _
+    (or-else (Asks Increment) l b _ (or-else (Asks Update) l b Unknown (λ e. let z : _≡_ {A = ℕ} 0 1 = cc in absurd (omega arith))))))))))

@@ -4,7 +4,7 @@ use Prim.Native.Nat.{ℕ}
 use mathlib.Core.Path.{_≡_, refl}
 use mathlib.Core.Bool.{Bool, true, false}
 use mathlib.Core.List.{List, [], _∷_, map}
-use Rattle.terms.specs.declared.letters.Ask.the-variants.{Read, Write, Increment}
+use Rattle.terms.specs.declared.letters.Ask.the-variants.{Read, Write, Increment, Update}
 use Rattle.terms.specs.declared.letters.Letter.{Letter}
 use Rattle.terms.specs.declared.letters.Letter.the-variants.{Begin, Commit, GiveUp, Retry, Back, Asks}
 use Rattle.terms.specs.Letters.{byteOf, ofRequests, ofHistories, hasJob, hasCell}
@@ -20,7 +20,7 @@ pub record Row : Type 0 where
   pub job : Bool
   pub cell : Bool
 
--- b alone; c, a, t with a job; r, w, i with job and cell; and k, of histories alone, as b and t are of requests (01, Lines)
+-- b alone; c, a, t with a job; r, w, i, u with job and cell; and k, of histories alone, as b, t and u are of requests (01, Lines; 02, No. 1)
 abbrev pub letters : List Row
 letters =
     record { letter = Begin; byte = 98; asked = true; told = false; job = false; cell = false }
@@ -30,6 +30,7 @@ letters =
     ∷ record { letter = Asks Read; byte = 114; asked = true; told = true; job = true; cell = true }
     ∷ record { letter = Asks Write; byte = 119; asked = true; told = true; job = true; cell = true }
     ∷ record { letter = Asks Increment; byte = 105; asked = true; told = true; job = true; cell = true }
+    ∷ record { letter = Asks Update; byte = 117; asked = true; told = false; job = true; cell = true }
     ∷ record { letter = Back; byte = 107; asked = false; told = true; job = true; cell = false }
     ∷ []
 

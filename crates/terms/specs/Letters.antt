@@ -4,17 +4,18 @@ use mathlib.Core.Bool.{Bool, true, false}
 use lib.Dec.{eqb}
 use Rattle.laws.specs.Choice.{pick}
 use Rattle.terms.specs.declared.letters.Ask.{Ask}
-use Rattle.terms.specs.declared.letters.Ask.the-variants.{Read, Write, Increment}
+use Rattle.terms.specs.declared.letters.Ask.the-variants.{Read, Write, Increment, Update}
 use Rattle.terms.specs.declared.letters.Letter.{Letter}
 use Rattle.terms.specs.declared.letters.Letter.the-variants.{Begin, Commit, GiveUp, Retry, Back, Asks}
 use Rattle.terms.specs.declared.letters.Lettered.{Lettered}
 use Rattle.terms.specs.declared.letters.Lettered.the-variants.{Known, Unknown}
 
--- the bytes of r, w and i
+-- the bytes of r, w, i and u (01, Lines; 02, No. 1)
 abbrev pub askByte : Ask → ℕ
 askByte Read = 114
 askByte Write = 119
 askByte Increment = 105
+askByte Update = 117
 
 -- the bytes of b, c, a, t and k, and of what is asked
 abbrev pub byteOf : Letter → ℕ
@@ -39,9 +40,10 @@ letterOf b =
     (orElse Back b
     (orElse (Asks Read) b
     (orElse (Asks Write) b
-    (orElse (Asks Increment) b Unknown)))))))
+    (orElse (Asks Increment) b
+    (orElse (Asks Update) b Unknown))))))))
 
--- the letters of requests: all but k (01, Lines)
+-- the letters of requests: all but k (01, Lines; 02, No. 1)
 abbrev pub ofRequests : Letter → Bool
 ofRequests Begin = true
 ofRequests Commit = true
@@ -50,14 +52,17 @@ ofRequests Retry = true
 ofRequests Back = false
 ofRequests (Asks a) = true
 
--- the letters of histories: r, w, i, c, a and k (01, Lines)
+-- the letters of histories: r, w, i, c, a and k; a history has r for u (01, Lines; 02, No. 1)
 abbrev pub ofHistories : Letter → Bool
 ofHistories Begin = false
 ofHistories Commit = true
 ofHistories GiveUp = true
 ofHistories Retry = false
 ofHistories Back = true
-ofHistories (Asks a) = true
+ofHistories (Asks Read) = true
+ofHistories (Asks Write) = true
+ofHistories (Asks Increment) = true
+ofHistories (Asks Update) = false
 
 -- b stands alone, and every other letter has a job (01, Lines)
 abbrev pub hasJob : Letter → Bool
@@ -68,7 +73,7 @@ hasJob Retry = true
 hasJob Back = true
 hasJob (Asks a) = true
 
--- r, w and i have a cell too (01, Lines)
+-- r, w, i and u have a cell too (01, Lines; 02, No. 1)
 abbrev pub hasCell : Letter → Bool
 hasCell Begin = false
 hasCell Commit = false

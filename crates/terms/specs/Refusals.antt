@@ -5,7 +5,7 @@ use Rattle.terms.specs.declared.refusals.Refusal.the-variants.{UnknownKi
 
 -- the paper's number of each refusal, with the paper's words beside it
 abbrev pub numberOf : Refusal → ℕ
--- request kind other than the seven
+-- request kind other than the eight (02, No. 1)
 numberOf UnknownKind = 1
 -- cell above 63
 numberOf CellAbove = 2
@@ -13,7 +13,7 @@ numberOf CellAbove = 2
 numberOf NotOpen = 3
 -- job is waiting, request is not give-up
 numberOf Waiting = 4
--- job was sent back, request is read, write, increment or commit
+-- job was sent back, request is read, write, increment, u or commit
 numberOf SentBack = 5
 -- begin with 32 open jobs
 numberOf AllOpen = 6

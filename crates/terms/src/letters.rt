@@ -10,6 +10,8 @@ pub enum Ask {
     Write,
     // i
     Increment,
+    // u: read with intent to write
+    Update,
 }
 
 // Every letter of the paper.
@@ -24,7 +26,7 @@ pub enum Letter {
     Retry,
     // k: sent back, in histories alone
     Back,
-    // r, w and i: read, write or increment a cell
+    // r, w, i and u: read, write or increment a cell, or read it with intent to write
     Asks(Ask),
 }
 
@@ -52,6 +54,8 @@ pub const WRITE: u8 = b'w';
 
 pub const INCREMENT: u8 = b'i';
 
+pub const UPDATE: u8 = b'u';
+
 // The byte of a letter.
 pub fn byte_of(l: Letter) -> u8
     ensures { λ r. ⌜ r ≡ byteOf l ⌝ }
@@ -66,6 +70,7 @@ pub fn byte_of(l: Letter) -> u8
             Ask::Read => READ,
             Ask::Write => WRITE,
             Ask::Increment => INCREMENT,
+            Ask::Update => UPDATE,
         },
     }
 }
@@ -83,6 +88,7 @@ pub fn letter_of(byte: u8) -> Lettered
         READ => Lettered::Known(Letter::Asks(Ask::Read)),
         WRITE => Lettered::Known(Letter::Asks(Ask::Write)),
         INCREMENT => Lettered::Known(Letter::Asks(Ask::Increment)),
+        UPDATE => Lettered::Known(Letter::Asks(Ask::Update)),
         _ => Lettered::Unknown,
     }
 }
@@ -111,7 +117,12 @@ pub fn of_histories(l: Letter) -> bool
         Letter::GiveUp => true,
         Letter::Retry => false,
         Letter::Back => true,
-        Letter::Asks(_) => true,
+        Letter::Asks(a) => match a {
+            Ask::Read => true,
+            Ask::Write => true,
+            Ask::Increment => true,
+            Ask::Update => false,
+        },
     }
 }
 

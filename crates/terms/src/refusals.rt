@@ -4,7 +4,7 @@ ghost use Rattle.terms.specs.Refusals.{numberOf};
 
 // Why a request, a line, a history or a buffer is refused, in the order of the paper's table.
 pub enum Refusal {
-    // 1: request kind other than the seven
+    // 1: request kind other than the eight
     UnknownKind,
     // 2: cell above 63
     CellAbove,
@@ -12,7 +12,7 @@ pub enum Refusal {
     NotOpen,
     // 4: job is waiting, request is not give-up
     Waiting,
-    // 5: job was sent back, request is read, write, increment or commit
+    // 5: job was sent back, request is read, write, increment, u or commit
     SentBack,
     // 6: begin with 32 open jobs
     AllOpen,

@@ -14,6 +14,8 @@ use Rattle.terms.specs.declared.letters.Letter.the-variants.{Commit, GiveUp, Ba
 use Rattle.terms.specs.Letters.{ofHistories}
 use Rattle.terms.specs.Limits.{cells, lastNumber}
 use Rattle.conflict.specs.declared.action.Action.{Action}
+use Rattle.conflict.specs.declared.action.Kind.{Kind}
+use Rattle.conflict.specs.declared.action.Kind.the-variants.{Read, Write, Increment}
 use Rattle.conflict.specs.declared.action.Mark.{Mark}
 use Rattle.conflict.specs.declared.action.Mark.the-variants.{Commit as commits, GiveUp as gives-up, Back as goes-back}
 use Rattle.conflict.specs.declared.action.Event.{Event}
@@ -61,12 +63,19 @@ within-more few many le (Ends m j ∷ h) w =
     let b = mark-within few m j (and-first (within few (Ends m j)) (allWithin few h) w) in
     and-both (within many (Ends m j)) (allWithin many h) (within-mark many m j (b .0) (omega (arith, b .1))) (within-more few many le h (and-second (within few (Ends m j)) (allWithin few h) w))
 
+-- the letter of an action is one of histories: r, w or i, and never u (02, No. 1)
+of-history : (k : Kind) → ofHistories (Asks (askBy k)) ≡ true
+unfolding askBy
+of-history Read = refl
+of-history Write = refl
+of-history Increment = refl
+
 -- an action's record reads as that action
 pub reads-action : (a : Action) → within lastNumber (Does a) ≡ true → readLine ofHistories (eventLine (Does a)) ≡ Good (Asks (askBy (a .kind))) (a .job) (a .cell)
 unfolding eventLine
 reads-action a w =
     let b = action-within lastNumber a w in
-    reads-record ofHistories (Asks (askBy (a .kind))) (a .job) (a .cell) refl (omega arith) (omega arith) (λ e. not-both refl e) (λ e. not-both refl e)
+    reads-record ofHistories (Asks (askBy (a .kind))) (a .job) (a .cell) (of-history (a .kind)) (omega arith) (omega arith) (λ e. not-both refl e) (λ e. not-both refl e)
 
 -- a mark's record reads as that mark
 pub reads-mark : (m : Mark) (j : ℕ) → within lastNumber (Ends m j) ≡ true → readLine ofHistories (eventLine (Ends m j)) ≡ Good (markLetter m) j 0

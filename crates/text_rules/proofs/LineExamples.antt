@@ -1,9 +1,9 @@
--- The paper's sentences on lines, each at a line of bytes: one list for each reader, with what each line says (01, Lines).
+-- The paper's sentences on lines, each at a line of bytes: one list for each reader, with what each line says (01, Lines; 02, No. 1).
 -- Assumes nothing.
 use Prim.Native.Nat.{ℕ}
 use mathlib.Core.Path.{_≡_, refl}
 use mathlib.Core.List.{List, [], _∷_, map}
-use Rattle.terms.specs.declared.letters.Ask.the-variants.{Read, Write, Increment}
+use Rattle.terms.specs.declared.letters.Ask.the-variants.{Read, Write, Increment, Update}
 use Rattle.terms.specs.declared.letters.Letter.the-variants.{Begin, Commit, GiveUp, Retry, Back, Asks}
 use Rattle.terms.specs.Letters.{ofRequests, ofHistories}
 use Rattle.text_rules.specs.declared.Reading.{Reading}
@@ -31,6 +31,8 @@ requests =
     -- w, 1, 99 and i, 1, 0: a cell has one or two digits
     ∷ record { line = 119 ∷ 9 ∷ 49 ∷ 9 ∷ 57 ∷ 57 ∷ 10 ∷ []; says = Good (Asks Write) 1 99 }
     ∷ record { line = 105 ∷ 9 ∷ 49 ∷ 9 ∷ 48 ∷ 10 ∷ []; says = Good (Asks Increment) 1 0 }
+    -- u, 7, 5: a read with intent to write
+    ∷ record { line = 117 ∷ 9 ∷ 55 ∷ 9 ∷ 53 ∷ 10 ∷ []; says = Good (Asks Update) 7 5 }
     -- k is no request: k, 1
     ∷ record { line = 107 ∷ 9 ∷ 49 ∷ 10 ∷ []; says = Bad }
     -- an empty line
@@ -60,12 +62,13 @@ histories =
     -- w, 1, 99 and i, 1, 0
     ∷ record { line = 119 ∷ 9 ∷ 49 ∷ 9 ∷ 57 ∷ 57 ∷ 10 ∷ []; says = Good (Asks Write) 1 99 }
     ∷ record { line = 105 ∷ 9 ∷ 49 ∷ 9 ∷ 48 ∷ 10 ∷ []; says = Good (Asks Increment) 1 0 }
-    -- c, a and k are of a history, and t and b are not
+    -- c, a and k are of a history, and t, b and u are not
     ∷ record { line = 99 ∷ 9 ∷ 49 ∷ 10 ∷ []; says = Good Commit 1 0 }
     ∷ record { line = 97 ∷ 9 ∷ 49 ∷ 10 ∷ []; says = Good GiveUp 1 0 }
     ∷ record { line = 107 ∷ 9 ∷ 49 ∷ 10 ∷ []; says = Good Back 1 0 }
     ∷ record { line = 116 ∷ 9 ∷ 49 ∷ 10 ∷ []; says = Bad }
     ∷ record { line = 98 ∷ 10 ∷ []; says = Bad }
+    ∷ record { line = 117 ∷ 9 ∷ 55 ∷ 9 ∷ 53 ∷ 10 ∷ []; says = Bad }
     ∷ []
 
 -- each of these requests says what stands beside it

@@ -8,7 +8,7 @@ use native.Mathlib.Omega.{arith}
 use lib.Dec.{eqb, leb}
 use borrow.Author.Tests.{leb-true, ne-eqb}
 use Rattle.laws.proofs.Parts.{and-first, and-second, and-both}
-use Rattle.terms.specs.declared.letters.Ask.the-variants.{Read as asks-read, Write as asks-write, Increment as asks-increment}
+use Rattle.terms.specs.declared.letters.Ask.the-variants.{Read as asks-read, Write as asks-write, Increment as asks-increment, Update as asks-update}
 use Rattle.terms.specs.declared.letters.Letter.{Letter}
 use Rattle.terms.specs.declared.letters.Letter.the-variants.{Begin, Commit, GiveUp, Retry, Back, Asks}
 use Rattle.terms.specs.Letters.{byteOf, hasJob, hasCell}
@@ -57,6 +57,7 @@ letter-plain Back = refl
 letter-plain (Asks asks-read) = refl
 letter-plain (Asks asks-write) = refl
 letter-plain (Asks asks-increment) = refl
+letter-plain (Asks asks-update) = refl
 
 -- bytes without a newline, and then one, are one line
 plain-one : (l : List ℕ) → noNewline l ≡ true → oneLine (l ++ newline ∷ []) ≡ true

@@ -23,6 +23,12 @@ enum-told-5 c = search needs
 enum-known-letter : tie.Need-enum-known-letter
 enum-known-letter c = search needs
 
+recorded-kind-requires : tie.Need-recorded-kind-requires
+recorded-kind-requires c κs = search needs
+
+ask-by-requires : tie.Need-ask-by-requires
+ask-by-requires c κs = search needs
+
 returns : tie.Need-returns
 returns c = search went-begin
 
@@ -43,5 +49,5 @@ returns-6 c = search went-asks
 
 pub noted-go-spec : {M : Type 1} → statement M
 noted-go-spec =
-    let first = tie.spec enum-told enum-told-2 enum-told-3 enum-told-4 enum-told-5 enum-known-letter returns returns-2 returns-3 returns-4 returns-5 in
-    tie.close (first returns-6)
+    let first = tie.spec enum-told enum-told-2 enum-told-3 enum-told-4 enum-told-5 enum-known-letter recorded-kind-requires ask-by-requires in
+    tie.close (first returns returns-2 returns-3 returns-4 returns-5 returns-6)

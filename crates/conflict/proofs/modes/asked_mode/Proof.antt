@@ -1,39 +1,28 @@
--- `conflict::modes::asked_mode` meets its contract: in each arm `asked` computes at what was matched.
+-- `conflict::modes::asked_mode` meets its contract: it tests what covers what in the order of `asked`.
 -- Assumes nothing.
 use borrow.Author.Needs.{needs}
+use Rattle.laws.specs.Choice.{cases}
 use Rattle.conflict.specs.Modes.{asked}
 use Rattle.conflict.proofs.modes.asked_mode.Statement.{statement}
 use Rattle.conflict.proofs.modes.asked_mode.Tie as tie
 
-enum-told : tie.Need-enum-told
-enum-told c = search needs
-
-enum-told-2 : tie.Need-enum-told-2
-enum-told-2 c = search needs
-
-enum-told-3 : tie.Need-enum-told-3
-enum-told-3 c = search needs
-
-enum-told-4 : tie.Need-enum-told-4
-enum-told-4 c = search needs
+mode-covers-requires : tie.Need-mode-covers-requires
+mode-covers-requires c κs = search needs
 
 returns : tie.Need-returns
 unfolding asked
-returns c = search needs
+returns c = search cases
+
+mode-covers-requires-2 : tie.Need-mode-covers-requires-2
+mode-covers-requires-2 c κs = search needs
 
 returns-2 : tie.Need-returns-2
 unfolding asked
-returns-2 c = search needs
+returns-2 c = search cases
 
 returns-3 : tie.Need-returns-3
 unfolding asked
-returns-3 c = search needs
-
-returns-4 : tie.Need-returns-4
-unfolding asked
-returns-4 c = search needs
+returns-3 c = search cases
 
 pub asked-mode-spec : {M : Type 1} → statement M
-asked-mode-spec =
-    tie.close
-    (tie.spec enum-told enum-told-2 enum-told-3 enum-told-4 returns returns-2 returns-3 returns-4)
+asked-mode-spec = tie.close (tie.spec mode-covers-requires returns mode-covers-requires-2 returns-2 returns-3)

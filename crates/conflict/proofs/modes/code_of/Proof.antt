@@ -17,6 +17,9 @@ enum-told-3 c = search needs
 enum-told-4 : tie.Need-enum-told-4
 enum-told-4 c = search needs
 
+enum-told-5 : tie.Need-enum-told-5
+enum-told-5 c = search needs
+
 returns : tie.Need-returns
 unfolding codeOf
 returns c = search needs
@@ -33,7 +36,11 @@ returns-4 : tie.Need-returns-4
 unfolding codeOf
 returns-4 c = search needs
 
+returns-5 : tie.Need-returns-5
+unfolding codeOf
+returns-5 c = search needs
+
 pub code-of-spec : {M : Type 1} → statement M
 code-of-spec =
-    tie.close
-    (tie.spec enum-told enum-told-2 enum-told-3 enum-told-4 returns returns-2 returns-3 returns-4)
+    let told = tie.spec enum-told enum-told-2 enum-told-3 enum-told-4 enum-told-5 in
+    tie.close (told returns returns-2 returns-3 returns-4 returns-5)

@@ -25,6 +25,15 @@ returns-3 : tie.Need-returns-3
 unfolding coversByCode codeOf
 returns-3 c = search (cases, told-covers)
 
+returns-4 : tie.Need-returns-4
+unfolding coversByCode codeOf
+returns-4 c = search (cases, told-covers)
+
+returns-5 : tie.Need-returns-5
+unfolding coversByCode codeOf
+returns-5 c = search (cases, told-covers)
+
 pub mode-covers-spec : {M : Type 1} → statement M
 mode-covers-spec =
-    tie.close (tie.spec code-of-requires code-of-requires-2 returns returns-2 returns-3)
+    let asked = tie.spec code-of-requires code-of-requires-2 in
+    tie.close (asked returns returns-2 returns-3 returns-4 returns-5)

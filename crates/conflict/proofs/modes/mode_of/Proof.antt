@@ -19,7 +19,13 @@ returns-3 c = rw (c .match .keys3)
 
 returns-4 : tie.Need-returns-4
 unfolding codeOf modeOf
-returns-4 c = let n = c .match .rest in simp (ne-eqb _ _ (n .1), ne-eqb _ _ (n .0 .1), ne-eqb _ _ (n .0 .0 .1))
+returns-4 c = rw (c .match .keys4)
+
+returns-5 : tie.Need-returns-5
+unfolding codeOf modeOf
+returns-5 c =
+    let n = c .match .rest in
+    simp (ne-eqb _ _ (n .1), ne-eqb _ _ (n .0 .1), ne-eqb _ _ (n .0 .0 .1), ne-eqb _ _ (n .0 .0 .0 .1))
 
 pub mode-of-spec : {M : Type 1} → statement M
-mode-of-spec = tie.close (tie.spec returns returns-2 returns-3 returns-4)
+mode-of-spec = tie.close (tie.spec returns returns-2 returns-3 returns-4 returns-5)

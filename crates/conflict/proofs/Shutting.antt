@@ -1,0 +1,71 @@
+-- The modes U and X: beside them nothing is granted, no two of them are held at once, and who holds a cell beside one of them holds S beside a U (02, No. 1).
+-- Assumes nothing.
+use mathlib.Core.Path.{_≡_, refl}
+use mathlib.Core.Logic.{_↔_, _⊎_, inl, inr, ⊎-elim}
+use mathlib.Core.Bool.{true, false, _&&_}
+use Rattle.laws.specs.Choice.{not-both}
+use Rattle.laws.proofs.Parts.{and-both}
+use Rattle.conflict.specs.declared.modes.Mode.{Mode}
+use Rattle.conflict.specs.declared.modes.Mode.the-variants.{Free, S, X, I, U}
+use Rattle.conflict.specs.Modes.{covers, beside, grants, asked, shutsOut, isFree}
+use Rattle.conflict.proofs.EachMode.{implies, alike, of-modes, of-two, of-three, follows, equal}
+
+-- which modes shut others out
+only-shuts : (m : Mode) → shutsOut m ≡ true → (m ≡ U) ⊎ (m ≡ X)
+unfolding shutsOut
+only-shuts Free h = not-both h refl
+only-shuts S h = not-both h refl
+only-shuts X h = inr refl
+only-shuts I h = not-both h refl
+only-shuts U h = inl refl
+
+-- U and X shut others out, and no other mode does
+pub shuts-exactly : (m : Mode) → shutsOut m ≡ true ↔ (m ≡ U) ⊎ (m ≡ X)
+unfolding shutsOut
+shuts-exactly m = (only-shuts m, ⊎-elim (λ e. rw e) (λ e. rw e))
+
+-- beside such a mode nothing is granted
+pub shut-grants : (m a : Mode) → shutsOut m ≡ true → grants m a ≡ isFree a
+unfolding shutsOut grants isFree
+shut-grants m a h = equal (grants m a) (isFree a) (follows (of-two (λ m a. implies (shutsOut m) (alike (grants m a) (isFree a))) refl m a) h)
+
+-- a mode that covers such a mode is one
+pub shut-grows : (m n : Mode) → covers n m ≡ true → shutsOut m ≡ true → shutsOut n ≡ true
+unfolding shutsOut covers
+shut-grows m n h g =
+    follows (of-two (λ m n. implies (covers n m && shutsOut m) (shutsOut n)) refl m n) (and-both (covers n m) (shutsOut m) h g)
+
+-- no two of them are held together
+pub shut-alone : (m n : Mode) → shutsOut m ≡ true → shutsOut n ≡ true → beside m n ≡ false
+unfolding shutsOut beside grants
+shut-alone m n h g =
+    equal (beside m n) false (follows (of-two (λ m n. implies (shutsOut m && shutsOut n) (alike (beside m n) false)) refl m n) (and-both (shutsOut m) (shutsOut n) h g))
+
+-- what becomes of such a mode where it does not cover a need is held alone
+pub shut-promoted : (m need n : Mode) → shutsOut m ≡ true → covers m need ≡ false → beside n (asked m need) ≡ true → isFree n ≡ true
+unfolding shutsOut covers beside grants asked isFree
+shut-promoted m need n h f b =
+    follows (of-three (λ m need n. implies (shutsOut m && (alike (covers m need) false && beside n (asked m need))) (isFree n)) refl m need n)
+    (and-both (shutsOut m) (alike (covers m need) false && beside n (asked m need)) h (and-both (alike (covers m need) false) (beside n (asked m need)) (rw f) b))
+
+-- nothing held shuts nobody out
+pub free-not-shut : (m : Mode) → isFree m ≡ true → shutsOut m ≡ false
+unfolding shutsOut isFree
+free-not-shut m h = equal (shutsOut m) false (follows (of-modes (λ m. implies (isFree m) (alike (shutsOut m) false)) refl m) h)
+
+-- who holds a cell beside one of them holds S, and that one is a U
+pub shut-beside : (m n : Mode) → shutsOut m ≡ true → beside n m ≡ true → isFree n ≡ false → (n ≡ S) × (m ≡ U)
+unfolding shutsOut beside grants isFree
+shut-beside Free n h b f = not-both h refl
+shut-beside S n h b f = not-both h refl
+shut-beside I n h b f = not-both h refl
+shut-beside X Free h b f = not-both refl f
+shut-beside X S h b f = not-both b refl
+shut-beside X X h b f = not-both b refl
+shut-beside X I h b f = not-both b refl
+shut-beside X U h b f = not-both b refl
+shut-beside U Free h b f = not-both refl f
+shut-beside U S h b f = (refl, refl)
+shut-beside U X h b f = not-both b refl
+shut-beside U I h b f = not-both b refl
+shut-beside U U h b f = not-both b refl
