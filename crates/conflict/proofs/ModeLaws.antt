@@ -37,6 +37,20 @@ pub grants-free : (m : Mode) → grants Free m ≡ true
 unfolding grants
 grants-free m = refl
 
+-- a job that holds nothing is free
+pub free-is-free : isFree Free ≡ true
+unfolding isFree
+free-is-free = refl
+
+-- and only such a job is
+pub is-free : (m : Mode) → isFree m ≡ true → m ≡ Free
+unfolding isFree
+is-free Free h = refl
+is-free S h = not-both h refl
+is-free X h = not-both h refl
+is-free I h = not-both h refl
+is-free U h = not-both h refl
+
 -- every mode covers itself
 pub covers-refl : (m : Mode) → covers m m ≡ true
 unfolding covers
@@ -47,10 +61,10 @@ pub covers-all : (m : Mode) → covers X m ≡ true
 unfolding covers
 covers-all = of-modes (covers X) refl
 
--- every mode covers nothing
-pub covers-none : (m : Mode) → covers m Free ≡ true
+-- every mode covers that of a job that holds nothing
+pub covers-none : (m n : Mode) → isFree n ≡ true → covers m n ≡ true
 unfolding covers
-covers-none m = refl
+covers-none m n f = rw (is-free n f)
 
 -- what covers a mode covers all that it covers
 pub covers-trans : (m n o : Mode) → covers m n ≡ true → covers n o ≡ true → covers m o ≡ true
@@ -65,23 +79,21 @@ stays-in-way m n a h f =
     by-test (grants m a) (λ t. not-both (follows (of-three (λ m n a. implies (covers m n && grants m a) (grants n a)) refl m n a) (and-both (covers m n) (grants m a) h t)) f) (λ g. g)
 
 -- nothing held covers no need
-pub covers-free : (a : Ask) → covers Free (needed a) ≡ false
+pub covers-free : (m : Mode) (a : Ask) → isFree m ≡ true → covers m (needed a) ≡ false
 unfolding covers needed
-covers-free a = equal (covers Free (needed a)) false (of-asks (λ a. alike (covers Free (needed a)) false) refl a)
+covers-free m a f = rw (is-free m f) (equal (covers Free (needed a)) false (of-asks (λ a. alike (covers Free (needed a)) false) refl a))
 
 -- where nothing is held, what is needed is asked for
-pub asked-free : (need : Mode) → asked Free need ≡ need
+pub asked-free : (held need : Mode) → isFree held ≡ true → asked held need ≡ need
 unfolding asked covers
-asked-free Free = refl
-asked-free S = refl
-asked-free X = refl
-asked-free I = refl
-asked-free U = refl
-
--- where what is held covers the need, it is what is asked for
-pub asked-kept : (held need : Mode) → covers held need ≡ true → asked held need ≡ held
-unfolding asked
-asked-kept held need h = rw h
+asked-free held need f = rw (is-free held f) (cases need)
+  where
+    cases : (need : Mode) → asked Free need ≡ need
+    cases Free = refl
+    cases S = refl
+    cases X = refl
+    cases I = refl
+    cases U = refl
 
 -- what is asked for covers what is held
 pub asked-grows : (held need : Mode) → covers (asked held need) held ≡ true
@@ -99,23 +111,9 @@ unfolding asked covers
 asked-least held need m h g =
     follows (of-three (λ held need m. implies (covers m held && covers m need) (covers m (asked held need))) refl held need m) (and-both (covers m held) (covers m need) h g)
 
--- a job that holds nothing is free
-pub free-is-free : isFree Free ≡ true
-unfolding isFree
-free-is-free = refl
-
--- and only such a job is
-pub is-free : (m : Mode) → isFree m ≡ true → m ≡ Free
-unfolding isFree
-is-free Free h = refl
-is-free S h = not-both h refl
-is-free X h = not-both h refl
-is-free I h = not-both h refl
-is-free U h = not-both h refl
-
 -- a mode that covers a need is held
 pub covers-not-free : (m : Mode) (a : Ask) → covers m (needed a) ≡ true → isFree m ≡ false
-covers-not-free m a h = by-test (isFree m) (λ t. not-both (rw (is-free m t) at h) (covers-free a)) (λ f. f)
+covers-not-free m a h = by-test (isFree m) (λ t. not-both h (covers-free m a t)) (λ f. f)
 
 -- what may be done under a mode may be done under one that covers it
 pub lets-grows : (m n : Mode) (k : Kind) → covers m n ≡ true → lets n k ≡ true → lets m k ≡ true

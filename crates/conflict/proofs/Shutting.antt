@@ -1,6 +1,6 @@
 -- The modes U and X: beside them nothing is granted, no two of them are held at once, and who holds a cell beside one of them holds S beside a U (02, No. 1).
 -- Assumes nothing.
-use mathlib.Core.Path.{_≡_, refl}
+use mathlib.Core.Path.{_≡_, refl, sym, _∙_}
 use mathlib.Core.Logic.{_↔_, _⊎_, inl, inr, ⊎-elim}
 use mathlib.Core.Bool.{true, false, _&&_}
 use Rattle.laws.specs.Choice.{not-both}
@@ -24,10 +24,18 @@ pub shuts-exactly : (m : Mode) → shutsOut m ≡ true ↔ (m ≡ U) ⊎ (m ≡ 
 unfolding shutsOut
 shuts-exactly m = (only-shuts m, ⊎-elim (λ e. rw e) (λ e. rw e))
 
+-- so U does
+pub u-shuts : (m : Mode) → m ≡ U → shutsOut m ≡ true
+u-shuts m e = shuts-exactly m .1 (inl e)
+
 -- beside such a mode nothing is granted
 pub shut-grants : (m a : Mode) → shutsOut m ≡ true → grants m a ≡ isFree a
 unfolding shutsOut grants isFree
 shut-grants m a h = equal (grants m a) (isFree a) (follows (of-two (λ m a. implies (shutsOut m) (alike (grants m a) (isFree a))) refl m a) h)
+
+-- so what is granted beside it is nothing
+pub shut-free : (m a : Mode) → shutsOut m ≡ true → grants m a ≡ true → isFree a ≡ true
+shut-free m a h g = sym (shut-grants m a h) ∙ g
 
 -- a mode that covers such a mode is one
 pub shut-grows : (m n : Mode) → covers n m ≡ true → shutsOut m ≡ true → shutsOut n ≡ true
@@ -48,10 +56,10 @@ shut-promoted m need n h f b =
     follows (of-three (λ m need n. implies (shutsOut m && (alike (covers m need) false && beside n (asked m need))) (isFree n)) refl m need n)
     (and-both (shutsOut m) (alike (covers m need) false && beside n (asked m need)) h (and-both (alike (covers m need) false) (beside n (asked m need)) (rw f) b))
 
--- nothing held shuts nobody out
-pub free-not-shut : (m : Mode) → isFree m ≡ true → shutsOut m ≡ false
+-- such a mode is held
+pub shut-held : (m : Mode) → shutsOut m ≡ true → isFree m ≡ false
 unfolding shutsOut isFree
-free-not-shut m h = equal (shutsOut m) false (follows (of-modes (λ m. implies (isFree m) (alike (shutsOut m) false)) refl m) h)
+shut-held m h = equal (isFree m) false (follows (of-modes (λ m. implies (shutsOut m) (alike (isFree m) false)) refl m) h)
 
 -- who holds a cell beside one of them holds S, and that one is a U
 pub shut-beside : (m n : Mode) → shutsOut m ≡ true → beside n m ≡ true → isFree n ≡ false → (n ≡ S) × (m ≡ U)

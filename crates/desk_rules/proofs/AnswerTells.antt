@@ -15,10 +15,9 @@ use Rattle.terms.specs.declared.letters.Lettered.the-variants.{Known}
 use Rattle.terms.specs.Letters.{letterOf, hasCell}
 use Rattle.terms.specs.Limits.{lastNumber}
 use Rattle.conflict.specs.declared.modes.Mode.{Mode}
-use Rattle.conflict.specs.declared.modes.Mode.the-variants.{Free}
 use Rattle.conflict.specs.Modes.{needed, covers, asked, isFree}
 use Rattle.laws.specs.Lists.{member}
-use Rattle.conflict.proofs.ModeLaws.{covers-refl, asked-free, asked-covers, asked-grows, is-free}
+use Rattle.conflict.proofs.ModeLaws.{covers-refl, covers-none, asked-covers, asked-grows}
 use Rattle.desk_rules.specs.declared.Answer.{Answer}
 use Rattle.desk_rules.specs.declared.Answer.the-variants.{Go, Wait, Back, No}
 use Rattle.desk_rules.specs.Desk.{Status, closed, running, waiting, sentback, Waiter, Desk, Request, isOpen}
@@ -85,12 +84,12 @@ begin-went d r j e g = by-tests (unfold step stepBy in ap (stepBy d r) e)
         (λ f. by-test (member 0 (d .jobs)) (λ t. let q : step d r ≡ begin d = rw (f, t) at h in record { job = same-go (sym (ap (λ o. o .said) q) ∙ g); outcome = q; was = (ltb-false lastNumber (d .next) f, t) })
         (λ n. other-answer (sym (ap (λ o. o .said) (rw (f, n) at h)) ∙ g) refl))
 
--- a read, a write or an increment that goes: the job has a covering mode, or it gets one that covers what it needs and what it held
+-- a request for a cell that goes: the job has a covering mode, or it gets one that covers what it needs and what it held
 pub data AskWent (d : Desk) (r : Request) (a : Ask) : Type 0 where
   had : covers (d .row (r .cell) .held (r .job)) (needed a) ≡ true → step d r ≡ rule1 d (r .job) → AskWent d r a
   got : (m : Mode) → covers m (needed a) ≡ true → covers m (d .row (r .cell) .held (r .job)) ≡ true → step d r ≡ grant d (r .job) (r .cell) m → AskWent d r a
 
--- a letter without a cell is no read, write or increment
+-- a letter without a cell asks for none
 pub no-ask : {P : Type 0} {x : Lettered} {l : Letter} {a : Ask} → x ≡ Known l → hasCell l ≡ false → x ≡ Known (Asks a) → P
 no-ask p n q = not-both (ap (letterIs hasCell) q) (ap (letterIs hasCell) p ∙ n)
 
@@ -98,11 +97,7 @@ no-ask p n q = not-both (ap (letterIs hasCell) q) (ap (letterIs hasCell) p ∙ n
 pub same-ask : {x : Lettered} {a b : Ask} → x ≡ Known (Asks a) → x ≡ Known (Asks b) → a ≡ b
 same-ask p q = cc
 
--- what is granted to a job that holds nothing covers it
-pub covers-none : (m n : Mode) → isFree n ≡ true → covers m n ≡ true
-covers-none m n f = rw (is-free n f) (subst (λ x. covers x Free ≡ true) (asked-free m) (asked-grows Free m))
-
--- a read, a write or an increment that goes is of the request's job
+-- a request for a cell that goes is of the request's job
 pub ask-went : (d : Desk) (r : Request) (a : Ask) (j : ℕ) → letterOf (r .kind) ≡ Known (Asks a) → step d r .said ≡ Go j → (j ≡ r .job) × AskWent d r a
 ask-went d r a j e g = by-move (step-moved d r) refl g
   where

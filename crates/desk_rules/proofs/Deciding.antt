@@ -8,7 +8,7 @@ use native.Mathlib.Omega.{arith}
 use Rattle.laws.specs.Choice.{pick, by-test}
 use Rattle.terms.specs.declared.letters.Ask.{Ask}
 use Rattle.conflict.specs.declared.modes.Mode.{Mode}
-use Rattle.conflict.specs.Modes.{needed, covers, grants, asked, isFree}
+use Rattle.conflict.specs.Modes.{needed, grants, asked, isFree}
 use Rattle.conflict.proofs.ModeLaws.{covers-free, is-free, grants-free}
 use Rattle.laws.proofs.Parts.{and-both}
 use Rattle.conflict.specs.History.{History}
@@ -37,7 +37,7 @@ by-rule2 {d} {r} {a} p = asking-step d r a (p .asking) ∙ rw (p .not-covered, p
 by-rule3 : {d : Desk} {r : Request} {a : Ask} → Enters d r a → step d r ≡ rule3 d (r .job) (r .cell) a
 unfolding ask
 by-rule3 {d} {r} {a} p =
-    asking-step d r a (p .asking) ∙ rw (ap (λ m. covers m (needed a)) (is-free _ (p .holds-nothing)) ∙ covers-free a, p .holds-nothing)
+    asking-step d r a (p .asking) ∙ rw (covers-free _ a (p .holds-nothing), p .holds-nothing)
 
 -- the tests of rule 2 and its answers
 rule2-said : (d : Desk) (j c : ℕ) (a : Ask) → rule2 d j c a .said ≡ pick (agrees (d .jobs) (d .row c .held) j (asked (d .row c .held j) (needed a))) (Go j) (pick (olderThanHolders (d .jobs) (d .row c .held) j) (Wait j) (Back j))

@@ -22,7 +22,7 @@ use Rattle.desk_rules.proofs.Answers.{other-answer}
 
 module _ (d : Desk) (j c : ℕ) where
   -- a mode that is granted is the one the job then holds
-  granted-mode : (m : Mode) → grant d j c m .desk .row c .held j ≡ m
+  pub granted-mode : (m : Mode) → grant d j c m .desk .row c .held j ≡ m
   unfolding grant withRow
   granted-mode m = rw (at-same (d .row) c _) (at-same (d .row c .held) j m)
 
@@ -52,7 +52,7 @@ module _ (d : Desk) (j c : ℕ) where
       (λ t. rw (n, t) (record { kept = λ y. not-both y n; promoted = λ _ f. not-both t f; entered = λ _. rule3-exactly a k (rw (n, t) at g) }))
       (λ f. rw (n, f) (record { kept = λ y. not-both y n; promoted = λ _ _. rule2-exactly a k n f (rw (n, f) at g); entered = λ t. not-both t f })))
 
--- a read, a write or an increment that goes, by what the job is doing
+-- a request for a cell that goes, by what the job is doing
 pub exactly-by : (d : Desk) (r : Request) (a : Ask) (j : ℕ) (s : Status) → step d r ≡ stepAsk d (r .job) (r .cell) a s → step d r .said ≡ Go j →
     Exactly (d .row (r .cell) .held (r .job)) (step d r .desk .row (r .cell) .held (r .job)) a
 unfolding stepAsk refused

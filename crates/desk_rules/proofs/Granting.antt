@@ -1,4 +1,4 @@
--- A read, a write or an increment that goes: by rule 1 nothing changes; else the job gets a mode that covers its need, and nothing else changes (01, rules 1 to 3).
+-- A request for a cell that goes: by rule 1 nothing changes; else the job gets a mode that covers its need, and nothing else changes (01, rules 1 to 3).
 -- Assumes nothing.
 use mathlib.Core.Path.{_≡_, refl, sym, ap, _∙_}
 use mathlib.Core.Bool.{true}

@@ -15,7 +15,7 @@ use Rattle.conflict.specs.declared.action.Mark.the-variants.{Commit, GiveUp, Ba
 use Rattle.conflict.specs.declared.action.Event.the-variants.{Ends}
 use Rattle.conflict.specs.Modes.{needed, covers}
 use Rattle.conflict.specs.History.{History}
-use Rattle.conflict.proofs.ModeLaws.{covers-refl, asked-grows}
+use Rattle.conflict.proofs.ModeLaws.{covers-refl, covers-none, asked-grows}
 use Rattle.conflict.proofs.OneEvent.{marked-ends, any-ends, ended-is}
 use Rattle.laws.proofs.Lists.{same-sym}
 use Rattle.desk_rules.specs.declared.Answer.{Answer}
@@ -29,7 +29,6 @@ use Rattle.desk_rules.specs.Effects.{Keeps}
 use Rattle.desk_rules.proofs.Tests.{at-each}
 use Rattle.desk_rules.proofs.RunEnd.{row-releases}
 use Rattle.desk_rules.proofs.Records.{recorded}
-use Rattle.desk_rules.proofs.AnswerTells.{covers-none}
 
 -- a history that begins with a mark of a job ends a run of it
 first-ends : (m : Mark) (j i : ℕ) (h : History) → eqb i j ≡ true → ended i (Ends m j ∷ h) ≡ true

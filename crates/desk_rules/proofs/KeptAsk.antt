@@ -1,7 +1,7 @@
 -- Asking for a cell keeps what holds of every started desk: going and waiting by rule 2 and by rule 3.
 -- Assumes nothing.
 use Prim.Native.Nat.{ℕ, _<_}
-use mathlib.Core.Path.{_≡_, refl, sym, ap, subst, _∙_}
+use mathlib.Core.Path.{_≡_, refl, sym, subst}
 use mathlib.Core.Logic.{_≢_}
 use mathlib.Core.Bool.{Bool, true, false, _&&_}
 use mathlib.Core.List.{List, [], _∷_, _++_}
@@ -9,7 +9,7 @@ use Rattle.terms.specs.declared.letters.Ask.{Ask}
 use Rattle.terms.specs.Limits.{cells}
 use Rattle.conflict.specs.declared.modes.Mode.{Mode}
 use Rattle.conflict.specs.Modes.{needed, covers, grants, asked, isFree}
-use Rattle.conflict.proofs.ModeLaws.{covers-free, is-free, asked-free, asked-grows}
+use Rattle.conflict.proofs.ModeLaws.{covers-none, covers-free, asked-free, asked-grows}
 use Rattle.desk_rules.specs.Desk.{running, Waiter, Desk, In}
 use Rattle.desk_rules.specs.Locks.{isEmpty, agrees, olderThanHolders, olderThanWaiters, wants}
 use Rattle.desk_rules.specs.Rules.{grant, queued}
@@ -46,10 +46,6 @@ module _ {d : Desk} (v : Inv d) (j c : ℕ) (a : Ask) (runs : d .stat j ≡ runn
   waiters-older : isFree (d .row c .held j) ≡ false → (w : Waiter) → In w (d .row c .queue) → w .job < j
   waiters-older f w h = v .rows c .elder w j h (λ e. asker-no-place w h (sym e)) f
 
-  -- where it does not, it asks for what it needs
-  asks-need : isFree (d .row c .held j) ≡ true → asked (d .row c .held j) (needed a) ≡ needed a
-  asks-need f = ap (λ m. asked m (needed a)) (is-free (d .row c .held j) f) ∙ asked-free (needed a)
-
   -- rule 2, the new mode agrees with the other holders: go
   pub promotes-inv : isFree (d .row c .held j) ≡ false → agrees (d .jobs) (d .row c .held) j (asked (d .row c .held j) (needed a)) ≡ true → Inv (grant d j c (asked (d .row c .held j) (needed a)) .desk)
   promotes-inv f o =
@@ -66,7 +62,7 @@ module _ {d : Desk} (v : Inv d) (j c : ℕ) (a : Ask) (runs : d .stat j ≡ runn
   -- rule 3, the queue is empty and the mode agrees: go
   pub enters-inv : isFree (d .row c .held j) ≡ true → isEmpty (d .row c .queue) ≡ true → agrees (d .jobs) (d .row c .held) j (needed a) ≡ true → Inv (grant d j c (needed a) .desk)
   enters-inv f e g =
-      grant-inv v j c (needed a) runs (subst (λ m. covers m (d .row c .held j) ≡ true) (asks-need f) (asked-grows (d .row c .held j) (needed a)))
+      grant-inv v j c (needed a) runs (covers-none (needed a) (d .row c .held j) f)
       (agrees-each (d .jobs) (d .row c .held) j (needed a) holders-seated g) (λ w h. in-none (subst (In w) (empty-queue (d .row c .queue) e) h))
 
   -- rule 3, older than every holder and every waiter: it waits last
@@ -77,10 +73,10 @@ module _ {d : Desk} (v : Inv d) (j c : ℕ) (a : Ask) (runs : d .stat j ≡ runn
       (falling-join (d .row c .queue) (record { job = j; ask = a } ∷ []) (v .rows c .down) (λ _ g. in-none g, tt)
       (λ u w g k. in-split k (λ e. subst (λ x. x .job < u .job) (sym e) (older-waiters (d .row c .queue) j o u g)) in-none))
       (last-blocked (d .row c .held) (record { job = j; ask = a }) (d .row c .queue) (v .rows c .blocked) in-way)
-      (rw (is-free (d .row c .held j) f) (covers-free a))
+      (covers-free (d .row c .held j) a f)
     where
       in-way : d .row c .queue ≡ [] → FirstBlocked (d .row c .held) (record { job = j; ask = a } ∷ [])
       in-way e = told (agrees-not (d .jobs) (d .row c .held) j (needed a) (empty-not (d .row c .queue) (agrees (d .jobs) (d .row c .held) j (needed a)) e n))
         where
           told : (i : ℕ) × (i ≢ j) × (grants (d .row c .held i) (needed a) ≡ false) → FirstBlocked (d .row c .held) (record { job = j; ask = a } ∷ [])
-          told (i, m, g) = (i, m, unfold wants in subst (λ x. grants (d .row c .held i) x ≡ false) (sym (asks-need f)) g)
+          told (i, m, g) = (i, m, unfold wants in subst (λ x. grants (d .row c .held i) x ≡ false) (sym (asked-free (d .row c .held j) (needed a) f)) g)

@@ -99,7 +99,7 @@ retry-moved d r running e q = due-by Running e q refl
 retry-moved d r (waiting c a) e q = due-by _ e q refl
 retry-moved d r sentback e q = retries e q
 
--- a read, a write or an increment
+-- a read, a write, an increment or a u
 asked-moved : (d : Desk) (r : Request) (a : Ask) (s : Status) → letterOf (r .kind) ≡ Known (Asks a) → d .stat (r .job) ≡ s → Moved d r (stepAsk d (r .job) (r .cell) a s)
 unfolding stepAsk dueBy holds order firstOf isOpen
 asked-moved d r a closed e q = due-by NotOpen e q refl

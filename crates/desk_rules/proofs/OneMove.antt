@@ -2,14 +2,12 @@
 -- Assumes nothing.
 use Prim.Native.Nat.{ℕ}
 use mathlib.Core.Path.{_≡_, refl, _∙_}
-use mathlib.Core.Bool.{true, false}
+use mathlib.Core.Bool.{true}
 use borrow.Author.Tests.{le-ltb}
 use Rattle.laws.specs.Choice.{not-both}
 use Rattle.terms.specs.declared.letters.Ask.{Ask}
 use Rattle.terms.specs.Limits.{lastNumber}
-use Rattle.conflict.specs.declared.modes.Mode.{Mode}
-use Rattle.conflict.specs.Modes.{needed, covers, isFree}
-use Rattle.conflict.proofs.ModeLaws.{is-free, covers-free}
+use Rattle.conflict.proofs.ModeLaws.{covers-free}
 use Rattle.desk_rules.specs.Desk.{Status, closed, running, waiting, sentback, Desk, Request, isOpen}
 use Rattle.desk_rules.specs.Rules.{Outcome, close, sendBack, grant, queued, rule1, rule2, rule3, ask, retry, begin}
 use Rattle.desk_rules.specs.Step.{stepCommit, stepGiveUp, stepRetry, stepBegin, stepBy, step}
@@ -26,10 +24,6 @@ gives-up-closes d j running e = refl
 gives-up-closes d j (waiting c a) e = refl
 gives-up-closes d j sentback e = refl
 
--- what a newcomer holds covers no need
-newcomer-needs : (m : Mode) (a : Ask) → isFree m ≡ true → covers m (needed a) ≡ false
-newcomer-needs m a f = rw (is-free m f) (covers-free a)
-
 module _ {d : Desk} {r : Request} where
   -- a running job that asks: whatever move its tests allow is what rules 1 to 3 decide
   asked-only : {o : Outcome} → (a : Ask) → Asking d r a → ask d (r .job) (r .cell) a ≡ o → step d r ≡ o
@@ -45,7 +39,7 @@ module _ {d : Desk} {r : Request} where
   moved-only (has-it a k x) = asked-only a k (unfold ask rule1 in rw x)
   moved-only (promotes a k x f z) = asked-only a k (unfold ask rule2 grant in rw (x, f, z))
   moved-only (waits-in-front a k x f z w) = asked-only a k (unfold ask rule2 queued in rw (x, f, z, w))
-  moved-only (enters a k f z w) = asked-only a k (unfold ask rule3 grant in rw (newcomer-needs (ownMode d r) a f, f, z, w))
-  moved-only (waits-last a k f z w u) = asked-only a k (unfold ask rule3 queued in rw (newcomer-needs (ownMode d r) a f, f, z, w, u))
+  moved-only (enters a k f z w) = asked-only a k (unfold ask rule3 grant in rw (covers-free (ownMode d r) a f, f, z, w))
+  moved-only (waits-last a k f z w u) = asked-only a k (unfold ask rule3 queued in rw (covers-free (ownMode d r) a f, f, z, w, u))
   moved-only (goes-back a k (no-promotion x f z w)) = asked-only a k (unfold ask rule2 sendBack in rw (x, f, z, w))
-  moved-only (goes-back a k (no-entry f z w)) = asked-only a k (unfold ask rule3 sendBack in rw (newcomer-needs (ownMode d r) a f, f, z, w))
+  moved-only (goes-back a k (no-entry f z w)) = asked-only a k (unfold ask rule3 sendBack in rw (covers-free (ownMode d r) a f, f, z, w))

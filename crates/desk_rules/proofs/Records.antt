@@ -33,7 +33,7 @@ records r said wakes h e = ap (λ x. x ++ wakeRecords wakes) e
 went : (d : Desk) (r : Request) (l : Lettered) (j : ℕ) → letterOf (r .kind) ≡ l → step d r .said ≡ Go j → recordsOf r (step d r .said) (step d r .wakes) ≡ wentBy r j l ++ wakeRecords (step d r .wakes)
 went d r l j e g = records r (step d r .said) (step d r .wakes) (wentBy r j l) (ap (ownRecords r) g ∙ (unfold ownRecords in ap (wentBy r j) e))
 
--- a read, a write or an increment that goes wakes nobody
+-- a request for a cell that goes wakes nobody
 none-woken : {d : Desk} {r : Request} {a : Ask} → AskWent d r a → step d r .wakes ≡ []
 none-woken (had h o) = unfold rule1 in ap (λ x. x .wakes) o
 none-woken (got m h k o) = unfold grant in ap (λ x. x .wakes) o

@@ -78,7 +78,7 @@ row-number l s c d ShortOrder h = not-both h refl
 row-number l s c d NoRoom h = not-both h refl
 row-number l s c d TooLong h = not-both h refl
 
--- a wait and a back are answers to a read, a write or an increment alone
+-- a wait and a back are answers to requests for a cell alone
 only-go : (d : Desk) (r : Request) → letterIs asksNoCell (letterOf (r .kind)) ≡ true → (x : Answer) {j : ℕ} → step d r .said ≡ x → Answers x j → x ≡ Go j
 only-go d r k x q (goes j) = refl
 only-go d r k x q (waits j) = not-both k (ap (letterIs asksNoCell) (ask-waited d r j q .asking .letter))

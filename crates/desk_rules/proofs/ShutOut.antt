@@ -2,16 +2,16 @@
 -- Assumes nothing.
 use Prim.Native.Nat.{ℕ, _<_}
 use mathlib.Core.Path.{_≡_, refl, sym, ap, subst, _∙_}
-use mathlib.Core.Logic.{_≢_, inl}
+use mathlib.Core.Logic.{_≢_}
 use mathlib.Core.Bool.{true, false}
 use mathlib.Core.List.{List}
 use native.Mathlib.Omega.{arith}
-use Rattle.laws.specs.Choice.{by-test, not-both}
+use Rattle.laws.specs.Choice.{not-both}
 use Rattle.conflict.specs.declared.modes.Mode.{Mode}
 use Rattle.conflict.specs.declared.modes.Mode.the-variants.{U}
-use Rattle.conflict.specs.Modes.{needed, grants, shutsOut, isFree}
+use Rattle.conflict.specs.Modes.{needed, shutsOut, isFree}
 use Rattle.conflict.proofs.ModeLaws.{free-is-free}
-use Rattle.conflict.proofs.Shutting.{shuts-exactly, shut-grants, shut-promoted, free-not-shut}
+use Rattle.conflict.proofs.Shutting.{u-shuts, shut-free, shut-held, shut-promoted}
 use Rattle.desk_rules.specs.Desk.{Waiter, Desk, Request, at, In}
 use Rattle.desk_rules.specs.Locks.{agrees, wants}
 use Rattle.desk_rules.specs.Rules.{Outcome, refused, withRow, withStatus, rowsAfter, rule4}
@@ -22,18 +22,6 @@ use Rattle.desk_rules.proofs.Queue.{by-place, falling-left, without-fal
 use Rattle.desk_rules.proofs.AheadLaws.{younger-ahead}
 use Rattle.desk_rules.proofs.Tests.{at-other, at-each, agrees-each}
 use Rattle.desk_rules.proofs.RunEnd.{row-ready, row-releases}
-
--- the mode m beside a job that shuts others out is granted only where it is nothing
-shut-free : (held m : Mode) → shutsOut held ≡ true → grants held m ≡ true → isFree m ≡ true
-shut-free held m h g = sym (shut-grants held m h) ∙ g
-
--- a U shuts others out
-pub u-shuts : (m : Mode) → m ≡ U → shutsOut m ≡ true
-u-shuts m e = shuts-exactly m .1 (inl e)
-
--- a mode that shuts others out is held
-pub not-free : (m : Mode) → shutsOut m ≡ true → isFree m ≡ false
-not-free m h = by-test (isFree m) (λ t. not-both h (free-not-shut m t)) (λ f. f)
 
 module _ {d : Desk} (v : Inv d) (x c : ℕ) where
   -- what a job holds of the cell once the run of job x has ended
@@ -51,7 +39,7 @@ module _ {d : Desk} (v : Inv d) (x c : ℕ) where
       by-place j (rowsAfter d x c .woken)
       (λ u l e. shut-promoted (d .row c .held (u .job)) (needed (u .ask)) (after (w .job)) (rw e h) (v .rows c .lacks u (t .woken-was u l))
       (unfold wants in rw (← t .takes u l) (t .pairs (w .job) (u .job) (λ p. n (sym (p ∙ e))))))
-      (λ none. rw (t .takes w k) (shut-free (d .row c .held j) (wants (d .row c .held) w) h (t .fits w k j n (λ e. not-both (rw (e, t .dropped) at g) (free-not-shut _ free-is-free)) none)))
+      (λ none. rw (t .takes w k) (shut-free (d .row c .held j) (wants (d .row c .held) w) h (t .fits w k j n (not-ended j (shut-held (after j) g)) none)))
 
   -- so whoever else holds the cell then held it before, in the same mode
   ended-beside : (i j : ℕ) → i ≢ j → shutsOut (d .row c .held j) ≡ true → shutsOut (after j) ≡ true → isFree (after i) ≡ false → after i ≡ d .row c .held i
@@ -76,7 +64,7 @@ module _ {d : Desk} (v : Inv d) (x c : ℕ) where
       (λ u k p. by-place i (rowsAfter d x c .woken)
       (λ w l q. not-both (subst (λ y. isFree (after y) ≡ true) q (older-not-granted u w k l (omega (arith, o, p, q)) (rw p e))) f)
       (λ none. t .kept i (not-ended i f) none))
-      (λ none. not-both (u-shuts _ e) (rw (t .kept j (not-ended j (not-free (after j) (u-shuts _ e))) none) h))
+      (λ none. not-both (u-shuts _ e) (rw (t .kept j (not-ended j (shut-held (after j) (u-shuts _ e))) none) h))
 
 module _ {d : Desk} (v : Inv d) (r : Request) (c i j : ℕ) where
   -- a cell whose holders stay

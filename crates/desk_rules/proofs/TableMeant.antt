@@ -78,7 +78,7 @@ retry-meant d j c sentback = goes j
 above : (c : ℕ) → leb cells c ≡ not (ltb c cells)
 above c = by-test (ltb c cells) (λ t. rw t (lt-leb cells c (ltb-true c cells t))) (λ f. rw f (le-leb cells c (ltb-false c cells f)))
 
--- a read, a write or an increment does what the table says
+-- a request for a cell does what the table says
 ask-meant : (d : Desk) (j c : ℕ) (a : Ask) (s : Status) → Meant d j (dueBy d (Known (Asks a)) s c) (stepAsk d j c a s)
 unfolding stepAsk dueBy holds order firstOf isOpen
 ask-meant d j c a closed = refl

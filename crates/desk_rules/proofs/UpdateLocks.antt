@@ -1,30 +1,35 @@
--- The update lock, of every started desk: what goes beside what, what a mode becomes, that nobody gets in beside a U or an X, who is sent back from a U, and how u is recorded (02, No. 1).
+-- The update lock, of every started desk: what goes beside what, what a mode becomes, that nobody gets in beside a U or an X, who is sent back from a U, how u is recorded and when it is refused (02, No. 1).
 -- Assumes nothing.
 use Prim.Native.Nat.{ℕ, _<_}
-use mathlib.Core.Path.{_≡_, refl, sym, ap, subst, subst₂, _∙_}
+use mathlib.Core.Path.{_≡_, refl, sym, ap, ap₂, subst, subst₂, _∙_}
 use mathlib.Core.Logic.{_≢_, _⊎_, inl, inr, ⊎-elim}
 use mathlib.Core.Bool.{true, false}
 use mathlib.Core.List.{List, []}
 use native.Mathlib.Omega.{arith}
 use Rattle.laws.specs.Choice.{by-test, not-both}
 use Rattle.terms.specs.declared.letters.Ask.{Ask}
-use Rattle.terms.specs.declared.letters.Ask.the-variants.{Update}
+use Rattle.terms.specs.declared.letters.Ask.the-variants.{Read as asks-read, Update}
+use Rattle.terms.specs.declared.letters.Letter.the-variants.{Asks}
+use Rattle.terms.specs.declared.letters.Lettered.the-variants.{Known}
+use Rattle.terms.specs.Letters.{letterOf}
+use Rattle.laws.specs.Lists.{firstOf}
 use Rattle.conflict.specs.declared.action.Kind.the-variants.{Read}
 use Rattle.conflict.specs.declared.action.Event.the-variants.{Does}
 use Rattle.conflict.specs.declared.modes.Mode.{Mode}
 use Rattle.conflict.specs.declared.modes.Mode.the-variants.{S, U}
 use Rattle.conflict.specs.History.{History}
 use Rattle.conflict.specs.Runs.{ended}
-use Rattle.conflict.specs.Modes.{needed, recorded as kindOf, covers, asked, shutsOut, isFree, Becomes}
-use Rattle.conflict.proofs.ModeLaws.{is-free, free-is-free, covers-free, asked-free, asked-covers, covers-not-free}
+use Rattle.conflict.specs.Modes.{needed, recorded as kindOf, covers, shutsOut, isFree, Becomes}
+use Rattle.conflict.proofs.ModeLaws.{free-is-free, covers-free, asked-free, asked-covers, covers-not-free}
 use Rattle.conflict.proofs.Matrix.{beside-held-s, i-and-u-never}
 use Rattle.conflict.proofs.ExactNeeds.{needs-exactly, u-covers, x-covers, promotion-asks, promotion-to-u, becomes-one}
-use Rattle.conflict.proofs.Shutting.{shut-grants, shut-alone, shut-beside}
+use Rattle.conflict.proofs.Shutting.{shut-grants, shut-alone, shut-beside, shut-held, u-shuts}
 use Rattle.conflict.proofs.Clauses.{records-update}
 use Rattle.desk_rules.specs.declared.Answer.the-variants.{Go, Back}
-use Rattle.desk_rules.specs.Desk.{Desk, Request, In, first}
+use Rattle.desk_rules.specs.Desk.{Status, Desk, Request, In, first}
 use Rattle.desk_rules.specs.Step.{step, events, recordsBy, recordsOf, ownRecords, wakeRecords, Started}
 use Rattle.desk_rules.specs.Asked.{Asking, OtherHolder, Enters, Elder, holder, waiter, heldThere, ownMode, askedThere, queueThere}
+use Rattle.desk_rules.specs.Table.{holds, order, dueBy, dueOf}
 use Rattle.desk_rules.specs.Course.{from}
 use Rattle.desk_rules.specs.UpdateLock.{Gets, by-go, by-wake, GoesUnchanged, HasU, HeldSince, UpdateLock}
 use Rattle.desk_rules.specs.Requests.{deskAfter, historyOf}
@@ -37,11 +42,24 @@ use Rattle.desk_rules.proofs.Moved.{step-moved}
 use Rattle.desk_rules.proofs.AnswerTells.{ask-back}
 use Rattle.desk_rules.proofs.WakeRecords.{wake-recorded}
 use Rattle.desk_rules.proofs.StepEffects.{effects}
+use Rattle.desk_rules.proofs.Refusing.{refuses}
 use Rattle.desk_rules.proofs.Deciding.{decides}
 use Rattle.desk_rules.proofs.WakesTold.{wakes}
 use Rattle.desk_rules.proofs.Records.{recorded}
-use Rattle.desk_rules.proofs.ShutOut.{u-shuts, not-free, moved-beside, moved-got}
+use Rattle.desk_rules.proofs.ShutOut.{moved-beside, moved-got}
 use Rattle.desk_rules.proofs.StillShut.{step-shuts, still-shuts, run-inv, fewer-through, same-between}
+
+-- the table has the same due of a u as of a read
+same-row : (d : Desk) (s : Status) (c : ℕ) → dueBy d (Known (Asks Update)) s c ≡ dueBy d (Known (Asks asks-read)) s c
+unfolding dueBy holds order firstOf
+same-row d s c = refl
+
+-- so of two requests with the same job and cell
+same-due : (d : Desk) (r s : Request) → letterOf (r .kind) ≡ Known (Asks Update) → letterOf (s .kind) ≡ Known (Asks asks-read) → r .job ≡ s .job → r .cell ≡ s .cell → dueOf d r ≡ dueOf d s
+unfolding dueOf
+same-due d r s e f p q =
+    ap (λ l. dueBy d l (d .stat (r .job)) (r .cell)) e ∙ same-row d (d .stat (r .job)) (r .cell)
+    ∙ ap₂ (λ j c. dueBy d (Known (Asks asks-read)) (d .stat j) c) p q ∙ sym (ap (λ l. dueBy d l (d .stat (s .job)) (s .cell)) f)
 
 module _ {d : Desk} {h : History} (s : Started d h) where
   v : Inv d
@@ -50,9 +68,9 @@ module _ {d : Desk} {h : History} (s : Started d h) where
   -- u is granted beside S and beside nothing else that is held
   beside-s : (r : Request) → Enters d r Update → step d r .said ≡ Go (r .job) → (i : ℕ) → OtherHolder d r i → heldThere d r i ≡ S
   beside-s r e g i o =
-      let n : covers (ownMode d r) (needed Update) ≡ false = rw (is-free (ownMode d r) (e .holds-nothing)) (covers-free Update) in
+      let n : covers (ownMode d r) (needed Update) ≡ false = covers-free (ownMode d r) Update (e .holds-nothing) in
       let a = decides s r Update .goes-agreeing (e .asking) n g i o in
-      let m : askedThere d r Update ≡ U = ap (λ x. asked x (needed Update)) (is-free (ownMode d r) (e .holds-nothing)) ∙ asked-free (needed Update) ∙ needs-exactly .3 in
+      let m : askedThere d r Update ≡ U = asked-free (ownMode d r) (needed Update) (e .holds-nothing) ∙ needs-exactly .3 in
       ⊎-elim (λ f. not-both (rw f free-is-free) (o .holds)) (λ f. f) (promotion-to-u (heldThere d r i) .0 (rw m at a))
 
   -- where every other holder has S, u goes
@@ -97,7 +115,7 @@ module _ {d : Desk} {h : History} (s : Started d h) where
   -- an older job that holds the cell of a job sent back from its U
   elder-holder : {e : Desk} → Inv e → (j c : ℕ) → shutsOut (e .row c .held j) ≡ true → Elder e j c → (i : ℕ) × (i < j) × (isFree (e .row c .held i) ≡ false)
   elder-holder {e} w j c t (holder o) = let (i, n, f, l) = not-older-holders (e .jobs) (e .row c .held) j o in (i, l, f)
-  elder-holder {e} w j c t (waiter f o) = not-both f (not-free (e .row c .held j) t)
+  elder-holder {e} w j c t (waiter f o) = not-both f (shut-held (e .row c .held j) t)
 
   -- who holds the cell of a job that has its U, and is older, has held S since before that got it
   held-since : (got : Request) (rest : List Request) (j c i : ℕ) → HasU (from d) got rest j c → i < j → isFree (deskAfter (step d got .desk) rest .row c .held i) ≡ false → HeldSince (from d) got rest i c
@@ -142,4 +160,9 @@ update {d} s =
       one-at-a-time = λ c i j n t. by-test (shutsOut (d .row c .held j)) (λ u. not-both (v .rows c .pairs i j n) (shut-alone (d .row c .held i) (d .row c .held j) t u)) (λ f. f);
       back-only-behind-s = behind-s s;
       recorded-as-read = as-read s;
+      refused-as-a-read = λ r t e f p q why.
+          let same = same-due d r t e f p q in (
+            λ g. refuses d .refused-exactly t why .1 (sym same ∙ refuses d .refused-exactly r why .0 g),
+            λ g. refuses d .refused-exactly r why .1 (same ∙ refuses d .refused-exactly t why .0 g),
+          );
     }

@@ -11,7 +11,7 @@ use Rattle.conflict.specs.declared.modes.Mode.{Mode}
 use Rattle.conflict.specs.declared.action.Action.{Action}
 use Rattle.conflict.specs.Modes.{needed, covers, asked}
 use Rattle.conflict.specs.History.{History}
-use Rattle.conflict.proofs.ModeLaws.{is-free, asked-free}
+use Rattle.conflict.proofs.ModeLaws.{asked-free}
 use Rattle.conflict.proofs.ExactNeeds.{promotion-asks}
 use mathlib.Core.List.{[]}
 use Rattle.desk_rules.specs.declared.Answer.the-variants.{Go}
@@ -58,7 +58,7 @@ wants-exactly : (held : ℕ → Mode) (w : Waiter) → covers (held (w .job)) (n
 unfolding wants
 wants-exactly held w n = record {
   promoted = λ f. promotion-asks (held (w .job)) (asked (held (w .job)) (needed (w .ask))) (w .ask) .1 (f, n, refl);
-  entered = λ t. rw (is-free (held (w .job)) t) (asked-free (needed (w .ask)));
+  entered = asked-free (held (w .job)) (needed (w .ask));
 }
 
 -- a waiter granted when job j's run ends holds the mode it wanted

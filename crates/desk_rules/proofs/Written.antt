@@ -1,7 +1,7 @@
 -- What a step does to the locks, and what it writes: nothing, the action that was asked, or the mark of a run's end and then the wakes. The one place that follows the moves for it.
 -- Assumes nothing.
 use Prim.Native.Nat.{ℕ}
-use mathlib.Core.Path.{_≡_, refl, ap, subst, _∙_}
+use mathlib.Core.Path.{_≡_, refl}
 use mathlib.Core.Logic.{_≢_}
 use mathlib.Core.Bool.{true, false}
 use mathlib.Core.List.{List, [], _∷_, _++_}
@@ -9,15 +9,14 @@ use Rattle.laws.specs.Choice.{not-both}
 use Rattle.terms.specs.declared.letters.Ask.{Ask}
 use Rattle.terms.specs.Limits.{cells}
 use Rattle.conflict.specs.declared.modes.Mode.{Mode}
-use Rattle.conflict.specs.declared.modes.Mode.the-variants.{Free}
 use Rattle.conflict.specs.declared.action.Action.{Action}
 use Rattle.conflict.specs.declared.action.Mark.{Mark}
 use Rattle.conflict.specs.declared.action.Mark.the-variants.{Commit, GiveUp, Back}
 use Rattle.conflict.specs.declared.action.Event.the-variants.{Does, Ends}
-use Rattle.conflict.specs.Modes.{needed, recorded, covers, beside, grants, asked, isFree}
+use Rattle.conflict.specs.Modes.{needed, recorded, covers, beside, grants, asked}
 use Rattle.conflict.specs.History.{History}
 use Rattle.conflict.proofs.OneEvent.{back-not-last, isLast}
-use Rattle.conflict.proofs.ModeLaws.{covers-refl, asked-covers, asked-grows, asked-free, is-free}
+use Rattle.conflict.proofs.ModeLaws.{covers-refl, covers-none, asked-covers, asked-grows}
 use Rattle.desk_rules.specs.declared.Answer.{Answer}
 use Rattle.desk_rules.specs.declared.Answer.the-variants.{Go, Back as sent-back}
 use Rattle.desk_rules.specs.Desk.{Status, closed, sentback, isOpen, Desk, Request, Waiter, Row, at, vacated, isLive}
@@ -29,9 +28,10 @@ use Rattle.desk_rules.specs.Moves.Moved.{refuses, begins, commits, gives
 use Rattle.desk_rules.proofs.Moved.{step-moved}
 use Rattle.desk_rules.specs.Invariant.{Inv}
 use Rattle.desk_rules.proofs.Statuses.{running-open}
-use Rattle.desk_rules.proofs.Tests.{at-same, at-each, agrees-each}
+use Rattle.desk_rules.proofs.Tests.{at-each, agrees-each}
 use Rattle.desk_rules.proofs.Settle.{taking-pairs}
 use Rattle.desk_rules.proofs.RunEnd.{row-ready}
+use Rattle.desk_rules.proofs.ExactModes.{granted-mode}
 
 -- the action that a request asks for
 unfoldable pub asking : Request → Ask → Action
@@ -73,19 +73,10 @@ module _ (d : Desk) (v : Inv d) where
         (λ _. taking-pairs (d .row c .held) j m h (v .rows c .pairs) i k n) (λ _. v .rows b .pairs i k n);
   }
 
--- and then holds it
-granted-holds : (d : Desk) (j c : ℕ) (m : Mode) → grant d j c m .desk .row c .held j ≡ m
-unfolding grant withRow
-granted-holds d j c m = ap (λ x. x .held j) (at-same (d .row) c (record { held = at (d .row c .held) j m; queue = d .row c .queue })) ∙ at-same (d .row c .held) j m
-
--- whatever is needed covers nothing held
-covers-nothing : (m need : Mode) → isFree m ≡ true → covers need m ≡ true
-covers-nothing m need f = rw (is-free m f) (subst (λ x. covers x Free ≡ true) (asked-free need) (asked-grows Free need))
-
 module _ (d : Desk) (r : Request) (v : Inv d) where
   -- the mode that was asked for is granted, and the action written
   granted-wrote : (a : Ask) (m : Mode) → Asking d r a → covers m (d .row (r .cell) .held (r .job)) ≡ true → covers m (needed a) ≡ true → ((i : ℕ) → i ≢ r .job → grants (d .row (r .cell) .held i) m ≡ true) → Wrote d r (grant d (r .job) (r .cell) m) (Does (asking r a) ∷ [])
-  granted-wrote a m k g c h = action a k (one-more d v (r .job) (r .cell) m g h) (rw (granted-holds d (r .job) (r .cell) m) c)
+  granted-wrote a m k g c h = action a k (one-more d v (r .job) (r .cell) m g h) (rw (granted-mode d (r .job) (r .cell) m) c)
 
   -- every move, by what it writes
   moved-wrote : {o : Outcome} → Moved d r o → Wrote d r o (recordsOf r (o .said) (o .wakes))
@@ -104,7 +95,7 @@ module _ (d : Desk) (r : Request) (v : Inv d) where
   moved-wrote (waits-in-front a k c f l o) = nothing (same-locks d v (r .cell) (record { job = r .job; ask = a } ∷ d .row (r .cell) .queue))
   moved-wrote (enters a k f e g) =
       let held = d .row (r .cell) .held in
-      rw (k .letter) (granted-wrote a (needed a) k (covers-nothing (held (r .job)) (needed a) f) (covers-refl (needed a))
+      rw (k .letter) (granted-wrote a (needed a) k (covers-none (needed a) (held (r .job)) f) (covers-refl (needed a))
       (agrees-each (d .jobs) held (r .job) (needed a) (row-ready v (r .cell) .seats) g))
   moved-wrote (waits-last a k f e h w) = nothing (same-locks d v (r .cell) (d .row (r .cell) .queue ++ record { job = r .job; ask = a } ∷ []))
   moved-wrote (goes-back a k e) = mark Back sentback (d .jobs) (sent-back (r .job)) (running-open (k .runs)) (λ l. not-both l back-not-last) refl

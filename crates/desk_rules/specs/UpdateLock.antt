@@ -1,4 +1,4 @@
--- What is promised of the update lock: what goes beside a held S, U or X, what U and X cover, what becomes of a mode, that nobody gets in beside a U, who alone is sent back from one, and how u is recorded (02, No. 1).
+-- What is promised of the update lock: what goes beside a held S, U or X, what U and X cover, what becomes of a mode, that nobody gets in beside a U, who alone is sent back from one, how u is recorded, and that it is refused as a read is (02, No. 1).
 use Prim.Native.Nat.{ℕ, _<_}
 use mathlib.Core.Path.{_≡_}
 use mathlib.Core.Logic.{_≢_, _↔_, _⊎_}
@@ -8,6 +8,7 @@ use Rattle.terms.specs.declared.letters.Ask.{Ask}
 use Rattle.terms.specs.declared.letters.Ask.the-variants.{Read as asks-read, Update}
 use Rattle.terms.specs.declared.letters.Letter.the-variants.{Asks}
 use Rattle.terms.specs.declared.letters.Lettered.the-variants.{Known}
+use Rattle.terms.specs.declared.refusals.Refusal.{Refusal}
 use Rattle.terms.specs.Letters.{letterOf}
 use Rattle.conflict.specs.declared.action.Action.{Action}
 use Rattle.conflict.specs.declared.action.Kind.the-variants.{Read}
@@ -16,7 +17,7 @@ use Rattle.conflict.specs.declared.modes.Mode.{Mode}
 use Rattle.conflict.specs.declared.modes.Mode.the-variants.{S, X, I, U}
 use Rattle.conflict.specs.Modes.{needed, covers, shutsOut, isFree, Becomes}
 use Rattle.conflict.specs.Runs.{ended}
-use Rattle.desk_rules.specs.declared.Answer.the-variants.{Go, Back}
+use Rattle.desk_rules.specs.declared.Answer.the-variants.{Go, Back, No}
 use Rattle.desk_rules.specs.Desk.{waiting, Request, In}
 use Rattle.desk_rules.specs.Asked.{Asking, OtherHolder, Enters, heldThere, ownMode, queueThere}
 use Rattle.desk_rules.specs.Course.{Course, now, to, later, records}
@@ -73,3 +74,5 @@ pub record UpdateLock (k : Course) : Type 0 where
   pub back-only-behind-s : (got : Request) (rest : List Request) (r : Request) (j c : ℕ) → HasU k got rest j c → r .job ≡ j → r .cell ≡ c → later k got .does rest r .said ≡ Back j → (i : ℕ) × (i < j) × HeldSince k got rest i c
   -- u is recorded as a read, at once, by rule 1 and as a wake
   pub recorded-as-read : (r : Request) (j c : ℕ) → Gets k r j c Update → In (Does (record { kind = Read; job = j; cell = c })) (records k r)
+  -- refusals apply to u as to r: of a u and an r with the same job and cell the one is refused exactly where the other is, and by the same refusal
+  pub refused-as-a-read : (r s : Request) → letterOf (r .kind) ≡ Known (Asks Update) → letterOf (s .kind) ≡ Known (Asks asks-read) → r .job ≡ s .job → r .cell ≡ s .cell → (why : Refusal) → to k r .said ≡ No why ↔ to k s .said ≡ No why
