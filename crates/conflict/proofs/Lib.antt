@@ -25,3 +25,6 @@ pub mod Ways
 pub mod ModeCodes
 pub mod Conflicting
 pub mod CellSets
+pub mod DirtyReads
+pub mod DirtyFound
+pub mod StrictClean
