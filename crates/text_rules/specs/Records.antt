@@ -48,7 +48,7 @@ unfoldable pub tabbed : List ℕ → List ℕ
 tabbed [] = []
 tabbed (n ∷ ns) = tab ∷ decimal n ++ tabbed ns
 
--- a line of a word and numbers: the verdict (01, The judge's rules)
+-- a line of a word and numbers: the verdict (01, The judge's rules; 02, No. 2)
 unfoldable pub wordLine : Word → List ℕ → List ℕ
 wordLine w ns = spelt w ++ tabbed ns ++ newline ∷ []
 
