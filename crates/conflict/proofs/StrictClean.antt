@@ -6,7 +6,7 @@ use mathlib.Core.Bool.{true, false, not, _&&_, _||_}
 use mathlib.Core.List.{[], _∷_, _++_, append-assoc}
 use borrow.Author.Tests.{eq-eqb, ne-eqb, not-true}
 use Rattle.laws.specs.Choice.{not-both}
-use Rattle.laws.proofs.Parts.{and-first, and-second}
+use Rattle.laws.proofs.Parts.{and-first, and-second, or-either}
 use Rattle.conflict.specs.declared.action.Kind.{Kind}
 use Rattle.conflict.specs.declared.action.Kind.the-variants.{Read, Write, Increment}
 use Rattle.conflict.specs.declared.action.Action.{Action}
@@ -33,19 +33,24 @@ dirty-conflicts d =
     let k = changes-disagrees (d .write .kind) (d .read .kind) (d .writes) (d .reads) in
     rw (c, j, k)
 
+-- in a strict history an action stands only after the run of every earlier one that conflicts with it has ended
+pub strict-ended : (h : History) → strict h ≡ true → (before : History) (a : Action) (between : History) (b : Action) (after : History) → h ≡ before ++ Does a ∷ between ++ Does b ∷ after → conflicts a b ≡ true → ended (a .job) between ≡ true
+unfolding strict undisturbed
+strict-ended h s before a between b after l c =
+    let rest : History = between ++ Does b ∷ after in
+    let whole : strict (before ++ Does a ∷ rest) ≡ true = ap strict (sym (append-assoc before (Does a ∷ between) (Does b ∷ after)) ∙ sym l) ∙ s in
+    let later′ : (undisturbed a rest && strict rest) ≡ true = and-second (strict before && calm before (Does a ∷ rest)) (undisturbed a rest && strict rest) (sym (strict-append before (Does a ∷ rest)) ∙ whole) in
+    let until : (undisturbed a between && (ended (a .job) between || undisturbed a (Does b ∷ after))) ≡ true = sym (undisturbed-append a between (Does b ∷ after)) ∙ and-first (undisturbed a rest) (strict rest) later′ in
+    or-either (ended (a .job) between) (undisturbed a (Does b ∷ after)) (and-second (undisturbed a between) (ended (a .job) between || undisturbed a (Does b ∷ after)) until) (λ t. t)
+    (λ u. not-both c (not-true (conflicts a b) (and-first (not (conflicts a b)) (undisturbed a after) u)))
+
 -- NOT DIRTY: what is strict is not
 pub strict-clean : (h : History) → strict h ≡ true → IsDirty h → ⊥
-unfolding strict undisturbed
 strict-clean h s dirty =
     let d = dirty .dirty-read in
-    let w = d .write in
-    let rest : History = d .between ++ Does (d .read) ∷ d .after in
-    let whole : strict (d .before ++ Does w ∷ rest) ≡ true =
-    ap strict (sym (append-assoc (d .before) (Does w ∷ d .between) (Does (d .read) ∷ d .after)) ∙ sym (d .lines)) ∙ s in
-    let later′ : (undisturbed w rest && strict rest) ≡ true = and-second (strict (d .before) && calm (d .before) (Does w ∷ rest)) (undisturbed w rest && strict rest) (sym (strict-append (d .before) (Does w ∷ rest)) ∙ whole) in
-    let until : (undisturbed w (d .between) && (ended (w .job) (d .between) || undisturbed w (Does (d .read) ∷ d .after))) ≡ true =
-    sym (undisturbed-append w (d .between) (Does (d .read) ∷ d .after)) ∙ and-first (undisturbed w rest) (strict rest) later′ in
-    let open′ : ended (w .job) (d .between) ≡ false = rw (d .writes-by) (d .not-ended) in
-    let alone : (ended (w .job) (d .between) || undisturbed w (Does (d .read) ∷ d .after)) ≡ true = and-second (undisturbed w (d .between)) (ended (w .job) (d .between) || undisturbed w (Does (d .read) ∷ d .after)) until in
-    let free : undisturbed w (Does (d .read) ∷ d .after) ≡ true = sym (ap (λ b. b || undisturbed w (Does (d .read) ∷ d .after)) open′) ∙ alone in
-    not-both (dirty-conflicts d) (not-true (conflicts w (d .read)) (and-first (not (conflicts w (d .read))) (undisturbed w (d .after)) free))
+    let over : ended (d .write .job) (d .between) ≡ true = strict-ended h s (d .before) (d .write) (d .between) (d .read) (d .after) (d .lines) (dirty-conflicts d) in
+    not-both over (rw (d .writes-by) (d .not-ended))
+
+-- nor was it at any moment before: a part from its start on is strict too
+pub strict-part : (x y : History) → strict (x ++ y) ≡ true → strict x ≡ true
+strict-part x y s = and-first (strict x) (calm x y) (and-first (strict x && calm x y) (strict y) (sym (strict-append x y) ∙ s))
