@@ -27,5 +27,10 @@ pub mod Said
 pub mod JobFlags
 pub mod KeptFaults
 pub mod Faultless
+pub mod Ending
+pub mod DirtyLines
+pub mod Opening
+pub mod DirtyFirst
+pub mod DirtySaid
 pub mod KeptLaws
 pub mod KeptUnique
