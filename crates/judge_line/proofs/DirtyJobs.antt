@@ -63,10 +63,9 @@ all-inside rs all k h =
 -- reader and writer of a faultless text's first dirty read are at most 255
 pub dirty-within : (rs : List Reading) → AllFaultless rs → (reader writer : ℕ) → FirstDirty (eventsIn rs) reader writer → (reader ≤ judgedJobs) × (writer ≤ judgedJobs)
 dirty-within rs all reader writer f =
-    let d = f .dirty-read in
-    (
+    let d = f .dirty-read in (
       subst (λ j. j ≤ judgedJobs) (d .reads-by) (acts-within rs (all-inside rs all) (d .before ++ Does (d .write) ∷ d .between) (d .read) (d .after) (d .lines)),
       subst (λ j. j ≤ judgedJobs) (d .writes-by)
-      (acts-within rs (all-inside rs all) (d .before) (d .write) (d .between ++ Does (d .read) ∷ d .after)
-      (d .lines ∙ append-assoc (d .before) (Does (d .write) ∷ d .between) (Does (d .read) ∷ d .after))),
+          (acts-within rs (all-inside rs all) (d .before) (d .write) (d .between ++ Does (d .read) ∷ d .after)
+          (d .lines ∙ append-assoc (d .before) (Does (d .write) ∷ d .between) (Does (d .read) ∷ d .after))),
     )

@@ -95,9 +95,7 @@ fn same_verdict(said: Verdict, numbers: Numbers) -> bool {
         Verdict::Orderly(n) => numbers.case == 0 && numbers.second as usize == n,
         Verdict::Knot(n) => numbers.case == 1 && numbers.second as usize == n,
         Verdict::Dirty { reader, writer } => {
-            numbers.case == 3
-                && numbers.second == reader as u32
-                && numbers.third == writer as u32
+            numbers.case == 3 && numbers.second == reader as u32 && numbers.third == writer as u32
         }
         Verdict::No { line, why } => {
             numbers.case == 2
@@ -152,8 +150,7 @@ fn report(text: &[u8], places: usize)
     }
     if !(same_verdict(said, numbers)
         && pair_stands(said, &order)
-        && rest_stays(&order, &again, told_places(said)))
-    {
+        && rest_stays(&order, &again, told_places(said))) {
         put_mark();
     }
 }
