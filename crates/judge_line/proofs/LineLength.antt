@@ -42,7 +42,7 @@ use Rattle.judge_rules.proofs.Histories.{jobs-committed, order-once, order-name
 use Rattle.judge_rules.proofs.LineFaults.{finds-fault}
 use Rattle.judge.proofs.FewLines.{number-few}
 use Rattle.judge_rules.specs.VerdictLine.{sayLine, judgedLine, verdictOf, lineLimit}
-use Rattle.judge_line.proofs.DirtyJobs.{dirty-within}
+use Rattle.judge_rules.proofs.DirtyJobs.{dirty-within}
 use Rattle.judge_line.proofs.WordLines.{word-line-length, two-numbers-length}
 
 -- jobs of at most three digits have at most four bytes each, the tab among them
@@ -109,8 +109,8 @@ module _ (ls : List Reading) (e : firstFaulty 1 [] ls ≡ none) (buffer : List �
       omega (
         arith,
         two-numbers-length word.the-variants.Dirty (d .reader) (d .writer),
-        digits-at-most 2 (d .reader) (omega arith),
-        digits-at-most 2 (d .writer) (omega arith),
+        digits-at-most 2 (d .reader) (omega (arith, w .0 .1)),
+        digits-at-most 2 (d .writer) (omega (arith, w .1 .1)),
       )
 
   -- the line of a verdict on faultless lines
