@@ -5,7 +5,7 @@ pub mod Codes
 pub mod Marked
 pub mod KeptLines
 pub mod Meetings
-pub mod EdgeTable
+pub mod PartEdges
 pub mod OwnLines
 pub mod Placing
 pub mod Marking
@@ -16,7 +16,8 @@ pub mod Covering
 pub mod Reaching
 pub mod ByParts
 pub mod Seeking
-pub mod Tallying
+pub mod Predecessors
+pub mod SameEdges
 pub mod TakingAway
 pub mod Trail
 pub mod Turning

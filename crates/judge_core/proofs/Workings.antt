@@ -1,8 +1,8 @@
 -- What the edges are worked out from, as the passes over the lines leave it.
 -- Assumes nothing.
 use Prim.Native.Nat.{ℕ, _-_, _≤_, _<_}
-use mathlib.Core.Path.{_≡_, refl, sym, ap, _∙_, subst}
-use mathlib.Core.Bool.{Bool, true, false}
+use mathlib.Core.Path.{_≡_, sym, _∙_, subst}
+use mathlib.Core.Bool.{true, false}
 use mathlib.Core.List.{List}
 use native.Mathlib.Omega.{arith}
 use lib.Dec.{eqb, ltb, leb}
@@ -15,13 +15,11 @@ use Rattle.conflict.specs.Cells.{inSet, actsOn, canConflict}
 use Rattle.conflict.proofs.Conflicting.{conflict-kinds}
 use Rattle.conflict.proofs.CellSets.{can-conflict, acts-read, acts-write, acts-increment}
 use Rattle.judge_core.specs.Lists.{valuesOf}
-use Rattle.judge_core.specs.Counted.{hasCommit, ownerAt, ownersBy, ByteJobs}
+use Rattle.judge_core.specs.Counted.{ownerAt, ownersBy, ByteJobs}
 use Rattle.judge_core.specs.Meeting.{kindBy, actionBy, actionAt, clashing}
 use Rattle.judge_core.specs.Grouped.{ownedLines, partAt, Parted}
 use Rattle.judge_core.specs.Reaching.{Acting, Covered, touchedAt, lastKey, Lasts, Reach, Masked, Worked}
-use Rattle.judge_core.proofs.Tabled.{tab-at}
 use Rattle.judge_core.proofs.Listing.{listed-is, listed-has}
-use Rattle.judge_core.proofs.EdgeTable.{commit-job}
 use Rattle.judge_core.proofs.Assembled.{owned}
 use Rattle.judge_core.proofs.Reaching.{one-cell}
 
@@ -95,12 +93,10 @@ module _ (codes jobs cells owners : List ℕ) (n : ℕ) (act : Acting codes jobs
         (kinds-clash codes jobs cells x y t)
 
     -- all of it
-    pub worked : (done : List Bool) (lines starts lasts : List ℕ) → done ≡ valuesOf (hasCommit codes jobs n) 256 → ByteJobs jobs n → Parted lines starts → ((j : ℕ) → j < 256 → partAt lines starts j ≡ ownedLines owners n j) → Lasts codes cells owners n lasts → Worked codes jobs cells done lines starts lasts reads writes increments
-    worked done lines starts lasts d b p same′ s =
+    pub worked : (lines starts lasts : List ℕ) → Parted lines starts → ((j : ℕ) → j < 256 → partAt lines starts j ≡ ownedLines owners n j) → Lasts codes cells owners n lasts → Worked codes jobs cells lines starts lasts reads writes increments
+    worked lines starts lasts p same′ s =
         record {
           parts = p;
-          idle = ap (λ l. getD l 0 false) d ∙ tab-at (hasCommit codes jobs n) 256 false 0 (omega arith)
-              ∙ by-test (hasCommit codes jobs n 0) (λ t. absurd (commit-job codes jobs n (b .bytes) (b .given) n 0 (omega arith) t .1 refl)) (λ f. f);
           reach = λ j l z. subst (λ ys. Reach codes jobs cells lasts j ys) (sym (same′ j l)) (reaches lasts s j l z);
           masks = λ i j m li lj zi zj h.
               subst (λ xs. Masked codes jobs cells m xs (partAt lines starts j)) (sym (same′ i li))

@@ -67,8 +67,7 @@ abbrev pub Masked : List ℕ → List ℕ → List ℕ → ℕ → List ℕ → 
 Masked codes jobs cells mask xs ys = (x y : ℕ) → member x xs ≡ true → member y ys ≡ true → clashing codes jobs cells x y ≡ true → inSet mask (getD cells x 0) ≡ true
 
 -- all that the edges are worked out from
-pub record Worked (codes jobs cells : List ℕ) (done : List Bool) (lines starts lasts reads writes increments : List ℕ) : Type 0 where
+pub record Worked (codes jobs cells lines starts lasts reads writes increments : List ℕ) : Type 0 where
   pub parts : Parted lines starts
-  pub idle : getD done 0 false ≡ false
   pub reach : (j : ℕ) → j < slots → (j ≡ 0 → ⊥) → Reach codes jobs cells lasts j (partAt lines starts j)
   pub masks : (i j m : ℕ) → i < slots → j < slots → (i ≡ 0 → ⊥) → (j ≡ 0 → ⊥) → ((c : ℕ) → inSet m c ≡ canConflict (touchedAt reads writes increments i) (touchedAt reads writes increments j) c) → Masked codes jobs cells m (partAt lines starts i) (partAt lines starts j)

@@ -9,10 +9,6 @@ slots = 256
 abbrev pub stops : ℕ
 stops = 257
 
--- every two slots
-abbrev pub pairs : ℕ
-pairs = 65_536
-
 -- every cell, slot and kind of last line
 abbrev pub keys : ℕ
 keys = 65_536
