@@ -1,5 +1,6 @@
 //! The makers and dirt (02, No. 2): every way to be dirty, every near miss and clean histories come up.
 
+use super::dirty::told_by_runs;
 use super::made;
 use crate::commands::{places_of, verdict_line, CASE_MARK};
 use crate::judge::{
@@ -153,6 +154,8 @@ fn shows(text: &[u8]) -> BTreeSet<String> {
     let (history, fault) = history_of(text);
     let mut found = BTreeSet::from([word.clone()]);
     let dirty = first_dirty(&history.lines);
+    let job = |at: usize| history.lines[at].job;
+    assert_eq!(dirty.map(|(read, write)| (job(read), job(write))), told_by_runs(&history.lines));
     if word == "no" {
         let before = &history.lines[..fault.unwrap_or(history.lines.len())];
         found.extend(first_dirty(before).map(|_| "no, and dirty before".to_string()));
@@ -202,8 +205,8 @@ fn history(seed: u64, lines: usize) -> Vec<u8> {
     made(&["make", "histories", &seed.to_string(), &lines.to_string()])
 }
 
-/// The histories of the cases of a seed that lend 255 places at least.
-fn cases(seed: u64) -> Vec<Vec<u8>> {
+/// The cases of a seed: the places lent, and the history.
+fn all_cases(seed: u64) -> Vec<(usize, Vec<u8>)> {
     let input = made(&["make", "cases", &seed.to_string(), "64"]);
     let mut all: Vec<(usize, Vec<u8>)> = Vec::new();
     for line in input.split_inclusive(|&byte| byte == b'\n') {
@@ -213,7 +216,12 @@ fn cases(seed: u64) -> Vec<Vec<u8>> {
             text.extend(line);
         }
     }
-    all.into_iter().filter(|case| case.0 >= HISTORY_JOBS).map(|case| case.1).collect()
+    all
+}
+
+/// The histories of those that lend enough.
+fn cases(seed: u64) -> impl Iterator<Item = Vec<u8>> {
+    all_cases(seed).into_iter().filter(|case| case.0 >= HISTORY_JOBS).map(|case| case.1)
 }
 
 #[test]
@@ -224,6 +232,13 @@ fn histories_have_all_dirt_and_all_near_misses() {
 #[test]
 fn cases_have_all_dirt_and_all_near_misses() {
     count((0..40).flat_map(cases).filter(|text| text.len() < 6_000), 5, WANTED);
+}
+
+#[test]
+fn short_buffers_are_lent_for_dirty_histories() {
+    let short = (0..30).flat_map(all_cases).filter(|case| case.0 < HISTORY_JOBS);
+    let dirty = short.filter(|case| word_of(&case.1) == "dirty").count();
+    assert!(dirty > 10, "{dirty} cases");
 }
 
 #[test]

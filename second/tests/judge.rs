@@ -183,6 +183,7 @@ fn cases_reach_every_verdict() {
         let count = counts.get(wanted).copied().unwrap_or(0);
         assert!(count >= 20, "{wanted} in {count} of 1920 cases: {counts:?}");
     }
+    assert!(["orderly", "knot", "dirty"].iter().all(|&word| counts[word] > 200), "{counts:?}");
     assert!(lengths.len() > 100, "knots of {lengths:?}");
     assert!([2, 3, 63, 64, 254, 255].iter().all(|length| lengths.contains(length)), "{lengths:?}");
 }
