@@ -6,8 +6,8 @@ use crate::commands::{places_of, verdict_line, CASE_MARK};
 use crate::judge::{
     decide, dirty_write, edges_of, first_dirty, judge_line, run_ends, Edges, History, Verdict,
 };
-use crate::make::dirt::mend;
-use crate::make::histories::{desk_history, knot_history, loose_history, ranked_history};
+use crate::make::dirt::{mend, with_dirt, Dirt};
+use crate::make::histories::{desk_history, knot_history, knotted_history, loose_history, ranked_history};
 use crate::make::Chance;
 use crate::words::*;
 use std::collections::{BTreeMap, BTreeSet};
@@ -285,6 +285,22 @@ fn mended_ones_are_clean_and_keep_their_edges() {
         assert_eq!(events, before, "seed {seed}: the desk's own");
     }
     assert!(changed.iter().all(|&count| count > 20), "{changed:?}");
+}
+
+#[test]
+fn spots_among_other_lines() {
+    for seed in 0..120 {
+        let mut chance = Chance(seed);
+        let count = chance.between(0, 400);
+        for body in [ranked_history, loose_history, knotted_history] {
+            let near = with_dirt(&mut chance, Dirt::Near, count, body);
+            assert_eq!((near.len(), first_dirty(&near)), (count, None), "seed {seed}");
+            let room = count.max(12);
+            let few = |chance: &mut Chance, lines: usize| body(chance, lines.min(60));
+            let dirty = with_dirt(&mut chance, Dirt::Dirty, room, few);
+            assert!(dirty.len() == room && first_dirty(&dirty).is_some(), "seed {seed}");
+        }
+    }
 }
 
 /// The histories that `./test` compares for S13 are what it takes them for.
