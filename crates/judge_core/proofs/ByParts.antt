@@ -2,7 +2,7 @@
 -- Assumes nothing.
 use Prim.Native.Nat.{ℕ, _<_}
 use mathlib.Core.Path.{_≡_, ap, ap₂, _∙_}
-use mathlib.Core.Bool.{Bool, true, false}
+use mathlib.Core.Bool.{Bool, false}
 use mathlib.Core.List.{List}
 use native.Mathlib.Omega.{arith}
 use lib.ListN.{getD}
@@ -32,12 +32,12 @@ pub masked-apart : (codes jobs cells : List ℕ) (m : ℕ) (xs ys : List ℕ) �
 masked-apart codes jobs cells m xs ys z h =
     meetings-none (clashing codes jobs cells) xs ys (λ x y a b t. not-both (h x y a b t) (ap (λ n. inSet n (getD cells x 0)) z ∙ in-none (getD cells x 0)))
 
-module _ (codes jobs cells lines starts lasts reads writes increments : List ℕ) (w : Worked codes jobs cells lines starts lasts reads writes increments) where
+module _ (codes jobs cells lines starts lasts sets : List ℕ) (w : Worked codes jobs cells lines starts lasts sets) where
   -- a job's last lines stand in the table
   pub its-reach : (j : ℕ) → 0 < j → j < 256 → Reach codes jobs cells lasts j (partAt lines starts j)
   its-reach j z b = w .reach j b (λ q. omega arith)
 
   -- two jobs conflict on the cells where their sets meet
-  pub its-mask : (i j m : ℕ) (a b : Touched) → 0 < i → i < 256 → 0 < j → j < 256 → a ≡ touchedAt reads writes increments i → b ≡ touchedAt reads writes increments j →
+  pub its-mask : (i j m : ℕ) (a b : Touched) → 0 < i → i < 256 → 0 < j → j < 256 → a ≡ touchedAt sets i → b ≡ touchedAt sets j →
       ((c : ℕ) → inSet m c ≡ canConflict a b c) → Masked codes jobs cells m (partAt lines starts i) (partAt lines starts j)
   its-mask i j m a b zi bi zj bj ea eb h = w .masks i j m bi bj (λ q. omega arith) (λ q. omega arith) (λ c. h c ∙ ap₂ (λ x y. canConflict x y c) ea eb)

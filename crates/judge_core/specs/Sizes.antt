@@ -9,6 +9,10 @@ slots = 256
 abbrev pub stops : ℕ
 stops = 257
 
+-- every slot and kind of action
+abbrev pub kindSets : ℕ
+kindSets = 768
+
 -- every cell, slot and kind of last line
 abbrev pub keys : ℕ
 keys = 65_536

@@ -58,9 +58,7 @@ fn take_jobs<'a>(
     let start = starts(&count);
     let lines = grouped(&owner, &start, n);
     let lasts = last_lines(codes, jobs, cells, &owner, n);
-    let reads = cells_of(codes, cells, &owner, n, 0);
-    let writes = cells_of(codes, cells, &owner, n, 1);
-    let increments = cells_of(codes, cells, &owner, n, 2);
+    let sets = cells_of(codes, cells, &owner, n);
     take_away(
         codes,
         jobs,
@@ -68,9 +66,7 @@ fn take_jobs<'a>(
         &lines,
         &start,
         &lasts,
-        &reads,
-        &writes,
-        &increments,
+        &sets,
         left,
         placed,
         predecessors,

@@ -3,7 +3,7 @@ use crate::sets::ANY;
 use crate::sets::last_key;
 use crate::sets::touched;
 use crate::sizes::KEYS;
-use crate::sizes::SLOTS;
+use crate::sizes::KIND_SETS;
 use crate::sizes::STOPS;
 use conflict::action::Action;
 use conflict::action::Kind;
@@ -208,22 +208,17 @@ pub fn edge_between<'a>(
     lines: &'a [u16],
     starts: &'a [usize; STOPS],
     lasts: &'a [u16; KEYS],
-    reads: &'a [u64; SLOTS],
-    writes: &'a [u64; SLOTS],
-    increments: &'a [u64; SLOTS],
+    sets: &'a [u64; KIND_SETS],
     i: usize,
     j: usize,
 ) -> bool
-    requires { ⌜ (0 < i) × (i < slots) × (0 < j) × (j < slots) × Worked (now codes) (now jobs) (now cells) (now lines) (now starts) (now lasts) (now reads) (now writes) (now increments) ⌝ }
+    requires { ⌜ (0 < i) × (i < slots) × (0 < j) × (j < slots) × Worked (now codes) (now jobs) (now cells) (now lines) (now starts) (now lasts) (now sets) ⌝ }
     ensures { λ r. ⌜ r ≡ edgeBy (now (codes .entry)) (now (jobs .entry)) (now (cells .entry)) (now (lines .entry)) (now (starts .entry)) i j ⌝ }
 {
     if i == j {
         return false;
     }
-    let mask = meeting_cells(
-        touched(reads, writes, increments, i),
-        touched(reads, writes, increments, j),
-    );
+    let mask = meeting_cells(touched(sets, i), touched(sets, j));
     if mask == 0 {
         return false;
     }

@@ -1,6 +1,7 @@
 // The order: of the jobs that are left, the smallest without a predecessor among them is taken away, again and again (01, The judge's rules: Orderly).
 use crate::edges::edge_between;
 use crate::sizes::KEYS;
+use crate::sizes::KIND_SETS;
 use crate::sizes::SLOTS;
 use crate::sizes::STOPS;
 use terms::limits::JUDGED_LINES;
@@ -18,7 +19,7 @@ ghost use Rattle.judge_core.specs.Sizes.{slots};
 // No job: one past the largest.
 pub const NOBODY: usize = SLOTS;
 
-// Job j's smallest predecessor that is left, from a number on, at which one stands or none is left: where it has gone the search goes on.
+// The smallest job from a number on that is left and has an edge to job j. If the number is that of a job that is left, it is known to have one, and nothing is searched.
 fn predecessor_from<'a>(
     codes: &'a [u8; JUDGED_LINES],
     jobs: &'a [u8; JUDGED_LINES],
@@ -26,14 +27,12 @@ fn predecessor_from<'a>(
     lines: &'a [u16],
     starts: &'a [usize; STOPS],
     lasts: &'a [u16; KEYS],
-    reads: &'a [u64; SLOTS],
-    writes: &'a [u64; SLOTS],
-    increments: &'a [u64; SLOTS],
+    sets: &'a [u64; KIND_SETS],
     left: &'a [bool; SLOTS],
     from: usize,
     j: usize,
 ) -> usize
-    requires { ⌜ (0 < j) × (j < slots) × Worked (now codes) (now jobs) (now cells) (now lines) (now starts) (now lasts) (now reads) (now writes) (now increments) ⌝ }
+    requires { ⌜ (0 < j) × (j < slots) × Worked (now codes) (now jobs) (now cells) (now lines) (now starts) (now lasts) (now sets) ⌝ }
     requires { ⌜ (getD (now left) 0 false ≡ false) × (from < slots → getD (now left) from false ≡ true → edgeBy (now codes) (now jobs) (now cells) (now lines) (now starts) from j ≡ true) ⌝ }
     ensures { λ r. ⌜ r ≡ predecessorFrom (edgeBy (now (codes .entry)) (now (jobs .entry)) (now (cells .entry)) (now (lines .entry)) (now (starts .entry))) (now (left .entry)) from j ⌝ }
 {
@@ -42,21 +41,7 @@ fn predecessor_from<'a>(
     }
     let mut i = from;
     while i < SLOTS {
-        if left[i]
-            && edge_between(
-                codes,
-                jobs,
-                cells,
-                lines,
-                starts,
-                lasts,
-                reads,
-                writes,
-                increments,
-                i,
-                j,
-            )
-        {
+        if left[i] && edge_between(codes, jobs, cells, lines, starts, lasts, sets, i, j) {
             return i;
         }
         i += 1;
@@ -64,7 +49,7 @@ fn predecessor_from<'a>(
     NOBODY
 }
 
-// The smallest job that is left and has no predecessor left. Of the jobs on the way to it those look on whose smallest predecessor has gone; the smaller ones have gone too or have no edge to them, so that no two jobs are searched twice.
+// The smallest job that is left and has no predecessor left. On the way to it each job whose smallest predecessor has gone looks on behind that one: those before it have gone too or have no edge to it. So no two jobs are searched twice.
 fn ready_job<'a>(
     codes: &'a [u8; JUDGED_LINES],
     jobs: &'a [u8; JUDGED_LINES],
@@ -72,13 +57,11 @@ fn ready_job<'a>(
     lines: &'a [u16],
     starts: &'a [usize; STOPS],
     lasts: &'a [u16; KEYS],
-    reads: &'a [u64; SLOTS],
-    writes: &'a [u64; SLOTS],
-    increments: &'a [u64; SLOTS],
+    sets: &'a [u64; KIND_SETS],
     left: &'a [bool; SLOTS],
     predecessors: &mut [usize; SLOTS],
 ) -> usize
-    requires { ⌜ (getD (now left) 0 false ≡ false) × Preceding (edgeBy (now codes) (now jobs) (now cells) (now lines) (now starts)) (now left) (now predecessors) × Worked (now codes) (now jobs) (now cells) (now lines) (now starts) (now lasts) (now reads) (now writes) (now increments) ⌝ }
+    requires { ⌜ (getD (now left) 0 false ≡ false) × Preceding (edgeBy (now codes) (now jobs) (now cells) (now lines) (now starts)) (now left) (now predecessors) × Worked (now codes) (now jobs) (now cells) (now lines) (now starts) (now lasts) (now sets) ⌝ }
     ensures { λ r. ⌜ r ≡ orNobody (ready (edgeBy (now (codes .entry)) (now (jobs .entry)) (now (cells .entry)) (now (lines .entry)) (now (starts .entry))) (leftOf (now (left .entry)))) ⌝ }
     ensures { λ r. ⌜ Preceding (edgeBy (now (codes .entry)) (now (jobs .entry)) (now (cells .entry)) (now (lines .entry)) (now (starts .entry))) (now (left .entry)) (now (predecessors .exit)) × Known (edgeBy (now (codes .entry)) (now (jobs .entry)) (now (cells .entry)) (now (lines .entry)) (now (starts .entry))) (now (left .entry)) (now (predecessors .exit)) r ⌝ }
 {
@@ -92,9 +75,7 @@ fn ready_job<'a>(
                 lines,
                 starts,
                 lasts,
-                reads,
-                writes,
-                increments,
+                sets,
                 left,
                 predecessors[j],
                 j,
@@ -109,7 +90,7 @@ fn ready_job<'a>(
     NOBODY
 }
 
-// The jobs that are left are taken away, as long as one is ready, and put in their order; how many they are. In the end the smallest predecessor of each that remains is known.
+// The jobs that are left are taken away, as long as one is ready, and put in their order; how many they are. When none is, each job that remains has been looked at, and its smallest predecessor is known.
 pub fn take_away<'a>(
     codes: &'a [u8; JUDGED_LINES],
     jobs: &'a [u8; JUDGED_LINES],
@@ -117,17 +98,14 @@ pub fn take_away<'a>(
     lines: &'a [u16],
     starts: &'a [usize; STOPS],
     lasts: &'a [u16; KEYS],
-    reads: &'a [u64; SLOTS],
-    writes: &'a [u64; SLOTS],
-    increments: &'a [u64; SLOTS],
+    sets: &'a [u64; KIND_SETS],
     left: &mut [bool; SLOTS],
     placed: &mut [u8; SLOTS],
     predecessors: &mut [usize; SLOTS],
 ) -> usize
-    requires { ⌜ (length (now left) ≡ slots) × (length (now placed) ≡ slots) × (getD (now left) 0 false ≡ false) × Worked (now codes) (now jobs) (now cells) (now lines) (now starts) (now lasts) (now reads) (now writes) (now increments) ⌝ }
+    requires { ⌜ (length (now left) ≡ slots) × (length (now placed) ≡ slots) × (getD (now left) 0 false ≡ false) × Worked (now codes) (now jobs) (now cells) (now lines) (now starts) (now lasts) (now sets) ⌝ }
     ensures { λ r. ⌜ leftOf (now (left .exit)) ≡ stuck (edgeBy (now (codes .entry)) (now (jobs .entry)) (now (cells .entry)) (now (lines .entry)) (now (starts .entry))) (leftOf (now (left .entry))) ⌝ }
-    ensures { λ r. ⌜ take r (now (placed .exit)) ≡ orderOf (edgeBy (now (codes .entry)) (now (jobs .entry)) (now (cells .entry)) (now (lines .entry)) (now (starts .entry))) (leftOf (now (left .entry))) ⌝ }
-    ensures { λ r. ⌜ r ≡ length (orderOf (edgeBy (now (codes .entry)) (now (jobs .entry)) (now (cells .entry)) (now (lines .entry)) (now (starts .entry))) (leftOf (now (left .entry)))) ⌝ }
+    ensures { λ r. ⌜ (take r (now (placed .exit)) ≡ orderOf (edgeBy (now (codes .entry)) (now (jobs .entry)) (now (cells .entry)) (now (lines .entry)) (now (starts .entry))) (leftOf (now (left .entry)))) × (r ≡ length (orderOf (edgeBy (now (codes .entry)) (now (jobs .entry)) (now (cells .entry)) (now (lines .entry)) (now (starts .entry))) (leftOf (now (left .entry))))) ⌝ }
     ensures { λ r. ⌜ Known (edgeBy (now (codes .entry)) (now (jobs .entry)) (now (cells .entry)) (now (lines .entry)) (now (starts .entry))) (now (left .exit)) (now (predecessors .exit)) slots ⌝ }
 {
     *predecessors = [0; SLOTS];
@@ -140,9 +118,7 @@ pub fn take_away<'a>(
             lines,
             starts,
             lasts,
-            reads,
-            writes,
-            increments,
+            sets,
             left,
             predecessors,
         );

@@ -1,6 +1,6 @@
 -- `judge_core::decide::take_jobs` meets its contract: the passes lead to the edges by the lines, which say of the jobs with a c what the precedence graph says.
 -- Assumes nothing.
-use mathlib.Core.Path.{_≡_, ap, _∙_}
+use mathlib.Core.Path.{ap, _∙_}
 use borrow.Author.Needs.{needs}
 use lib.ListN.{length}
 use Rattle.judge_core.proofs.Tabled.{tab-length}
@@ -36,30 +36,26 @@ last-lines-requires c κs =
 cells-of-requires : tie.Need-cells-of-requires
 cells-of-requires c κs = c .before .before .before .before .before .before .before .before .before .before .before .before .before .pre .0 .0
 
-cells-of-requires-2 : tie.Need-cells-of-requires-2
-cells-of-requires-2 c κs = c .before .before .before .before .before .before .before .before .before .before .before .before .before .before .before .pre .0 .0
-
-cells-of-requires-3 : tie.Need-cells-of-requires-3
-cells-of-requires-3 c κs = c .before .before .before .before .before .before .before .before .before .before .before .before .before .before .before .before .before .pre .0 .0
-
 slice-aggregate-take-away : tie.Need-slice-aggregate-take-away
 slice-aggregate-take-away c = search needs
 
 take-away-requires : tie.Need-take-away-requires
 take-away-requires c κs =
-    let pre = c .before .before .before .before .before .before .before .before .before .before .before .before .before .before .before .before .before .before .before .before .before .before .before .before .before .before .before .pre in
-    let spaced′ = starts-spaced _ _ _ _ (pre .0 .0) (c .before .before .before .before .before .before .before .before .before .before .before .before .before .before .before .before .before .before .before .before .before .before .tallies .ensures) (c .before .before .before .before .before .before .before .before .before .before .before .before .before .before .before .before .before .before .before .before .starts .ensures) in
-    (ap length (pre .0 .2) ∙ tab-length _ 256, pre .0 .3, none-zero _ _ _ _ (pre .0 .1) (pre .0 .2), worked _ _ _ _ _ (acting _ _ _ _ _ _ (pre .0 .0) (pre .0 .1) (pre .1) (c .before .before .before .before .before .before .before .before .before .before .before .before .before .before .before .before .before .before .before .before .before .before .before .before .owners .ensures)) _ _ _ (c .before .before .before .before .before .before .before .before .before .before .before .before .before .cells-of .ensures) (c .before .before .before .before .before .before .before .before .before .before .before .cells-of2 .ensures) (c .before .before .before .before .before .before .before .before .before .cells-of3 .ensures) _ _ _ (parted _ _ _ _ spaced′ (c .before .before .before .before .before .before .before .before .before .before .before .before .before .before .before .before .before .grouped .ensures)) (part-is _ _ _ _ spaced′ (c .before .before .before .before .before .before .before .before .before .before .before .before .before .before .before .before .before .grouped .ensures)) (c .before .before .before .before .before .before .before .before .before .before .before .before .before .before .before .last-lines .ensures))
+    let pre = c .before .before .before .before .before .before .before .before .before .before .before .before .before .before .before .before .before .before .before .before .before .pre in
+    let spaced′ = starts-spaced _ _ _ _ (pre .0 .0) (c .before .before .before .before .before .before .before .before .before .before .before .before .before .before .before .before .tallies .ensures) (c .before .before .before .before .before .before .before .before .before .before .before .before .before .before .starts .ensures) in
+    let grouped′ = c .before .before .before .before .before .before .before .before .before .before .before .grouped .ensures in
+    (ap length (pre .0 .2) ∙ tab-length _ 256, pre .0 .3, none-zero _ _ _ _ (pre .0 .1) (pre .0 .2), worked _ _ _ _ _ (acting _ _ _ _ _ _ (pre .0 .0) (pre .0 .1) (pre .1) (c .before .before .before .before .before .before .before .before .before .before .before .before .before .before .before .before .before .before .owners .ensures)) _ (c .before .before .before .before .before .before .before .cells-of .ensures) _ _ _ (parted _ _ _ _ spaced′ grouped′) (part-is _ _ _ _ spaced′ grouped′) (c .before .before .before .before .before .before .before .before .before .last-lines .ensures))
 
 returns : tie.Need-returns
 returns c =
-    let pre = c .before .before .before .before .before .before .before .before .before .before .before .before .before .before .before .before .before .before .before .before .before .before .before .before .before .before .before .before .pre in
-    let same′ = edges-agree _ _ _ _ _ _ _ _ _ (pre .0 .0) (pre .0 .1) (pre .0 .2) (c .before .before .before .before .before .before .before .before .before .before .before .before .before .before .before .before .before .before .before .before .before .before .before .before .before .before .before .counted-from .ensures) (c .before .before .before .before .before .before .before .before .before .before .before .before .before .before .before .before .before .before .before .before .before .before .before .before .before .owners .ensures) (starts-spaced _ _ _ _ (pre .0 .0) (c .before .before .before .before .before .before .before .before .before .before .before .before .before .before .before .before .before .before .before .before .before .before .before .tallies .ensures) (c .before .before .before .before .before .before .before .before .before .before .before .before .before .before .before .before .before .before .before .before .before .starts .ensures)) (c .before .before .before .before .before .before .before .before .before .before .before .before .before .before .before .before .before .before .grouped .ensures) in
+    let pre = c .before .before .before .before .before .before .before .before .before .before .before .before .before .before .before .before .before .before .before .before .before .before .pre in
+    let spaced′ = starts-spaced _ _ _ _ (pre .0 .0) (c .before .before .before .before .before .before .before .before .before .before .before .before .before .before .before .before .before .tallies .ensures) (c .before .before .before .before .before .before .before .before .before .before .before .before .before .before .before .starts .ensures) in
+    let same′ = edges-agree _ _ _ _ _ _ _ _ _ (pre .0 .0) (pre .0 .1) (pre .0 .2) (c .before .before .before .before .before .before .before .before .before .before .before .before .before .before .before .before .before .before .before .before .before .counted-from .ensures) (c .before .before .before .before .before .before .before .before .before .before .before .before .before .before .before .before .before .before .before .owners .ensures) spaced′ (c .before .before .before .before .before .before .before .before .before .before .before .before .grouped .ensures) in
     let took = c .take-away .ensures in
     let order′ = order-same _ _ _ same′ in
-    (rest-same _ _ _ _ same′ (took .0), (took .1 .0 ∙ order′, (took .1 .1 .0 ∙ ap length order′, known-same _ _ _ _ same′ (took .0) (c .take-away .last .1 .1 .1 .1 .1 .1 .1 .1 .1 .1 .1 .0) (took .1 .1 .1))))
+    (rest-same _ _ _ _ same′ (took .0), (took .1 .0 .0 ∙ order′, (took .1 .0 .1 ∙ ap length order′, known-same _ _ _ _ same′ (took .0) (c .take-away .last .1 .1 .1 .1 .1 .1 .1 .1 .1 .0) (took .1 .1))))
 
 pub take-jobs-spec : {M : Type 1} → statement M
 take-jobs-spec =
     let first = tie.spec counted-from-requires owners-requires tallies-requires starts-requires grouped-requires last-lines-requires cells-of-requires in
-    tie.close (first cells-of-requires-2 cells-of-requires-3 slice-aggregate-take-away take-away-requires returns)
+    tie.close (first slice-aggregate-take-away take-away-requires returns)

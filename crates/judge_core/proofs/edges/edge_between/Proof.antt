@@ -20,12 +20,12 @@ meeting-cells-requires c κs = search needs
 returns-2 : tie.Need-returns-2
 returns-2 c =
     let pre = c .before .before .before .before .before .before .pre in
-    edge-parts _ _ _ _ _ _ _ (c .before .before .before .before .if1 .left) _ (masked-apart _ _ _ _ _ _ (c .if2 .taken) (its-mask _ _ _ _ _ _ _ _ _ (pre .4) _ _ _ _ _ (pre .0) (pre .1) (pre .2) (pre .3) (c .before .before .before .touched .ensures) (c .before .before .touched2 .ensures) (c .before .meeting-cells .ensures)))
+    edge-parts _ _ _ _ _ _ _ (c .before .before .before .before .if1 .left) _ (masked-apart _ _ _ _ _ _ (c .if2 .taken) (its-mask _ _ _ _ _ _ _ (pre .4) _ _ _ _ _ (pre .0) (pre .1) (pre .2) (pre .3) (c .before .before .before .touched .ensures) (c .before .before .touched2 .ensures) (c .before .meeting-cells .ensures)))
 
 parts-meet-requires : tie.Need-parts-meet-requires
 parts-meet-requires c κs =
     let pre = c .before .before .before .before .before .before .pre in
-    ((pre .1, pre .3, pre .4 .parts), (its-reach _ _ _ _ _ _ _ _ _ (pre .4) _ (pre .2) (pre .3), its-mask _ _ _ _ _ _ _ _ _ (pre .4) _ _ _ _ _ (pre .0) (pre .1) (pre .2) (pre .3) (c .before .before .before .touched .ensures) (c .before .before .touched2 .ensures) (c .before .meeting-cells .ensures)))
+    ((pre .1, pre .3, pre .4 .parts), (its-reach _ _ _ _ _ _ _ (pre .4) _ (pre .2) (pre .3), its-mask _ _ _ _ _ _ _ (pre .4) _ _ _ _ _ (pre .0) (pre .1) (pre .2) (pre .3) (c .before .before .before .touched .ensures) (c .before .before .touched2 .ensures) (c .before .meeting-cells .ensures)))
 
 returns-3 : tie.Need-returns-3
 returns-3 c = edge-parts _ _ _ _ _ _ _ (c .before .before .before .before .before .if1 .left) _ (c .parts-meet .ensures)

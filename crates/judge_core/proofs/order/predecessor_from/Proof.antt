@@ -13,10 +13,10 @@ use Rattle.judge_core.proofs.order.predecessor_from.Statement.{statemen
 use Rattle.judge_core.proofs.order.predecessor_from.Tie as tie
 
 abbrev Inv-loop : tie.InvT-loop
-Inv-loop codes jobs cells lines starts lasts reads writes increments left from j i₀ i = first (λ k. edgeBy codes jobs cells lines starts k j) (leftFrom left from) ≡ first (λ k. edgeBy codes jobs cells lines starts k j) (leftFrom left i)
+Inv-loop codes jobs cells lines starts lasts sets left from j i₀ i = first (λ k. edgeBy codes jobs cells lines starts k j) (leftFrom left from) ≡ first (λ k. edgeBy codes jobs cells lines starts k j) (leftFrom left i)
 
 abbrev μ-loop : tie.MeasureT-loop
-μ-loop codes jobs cells lines starts lasts reads writes increments left from j i₀ i = 256 - i
+μ-loop codes jobs cells lines starts lasts sets left from j i₀ i = 256 - i
 
 element-copy-out-if2 : tie.Need-element-copy-out-if2 Inv-loop μ-loop
 element-copy-out-if2 c = omega arith
@@ -34,7 +34,8 @@ element-copy-out-if3 c = omega arith
 edge-between-requires : tie.Need-edge-between-requires Inv-loop μ-loop
 edge-between-requires c κs =
     let pre = c .before .before .before .before .before .before .pre in
-    (left-not-0 (c .before .before .before .before .before .before .args .left .now) _ (pre .1 .0) (c .if3 .taken), omega arith, pre .0 .0, pre .0 .1, pre .0 .2)
+    let some = left-not-0 (c .before .before .before .before .before .before .args .left .now) _ (pre .1 .0) (c .if3 .taken) in
+    (omega (arith, some), omega arith, omega (arith, some), omega arith, pre .0 .2)
 
 returns-2 : tie.Need-returns-2 Inv-loop μ-loop
 unfolding predecessorFrom

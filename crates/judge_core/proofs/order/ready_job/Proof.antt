@@ -10,10 +10,10 @@ use Rattle.judge_core.proofs.order.ready_job.Statement.{statement}
 use Rattle.judge_core.proofs.order.ready_job.Tie as tie
 
 abbrev Inv-loop : tie.InvT-loop
-Inv-loop codes jobs cells lines starts lasts reads writes increments left predecessors₀ j₀ predecessors j = Passed (edgeBy codes jobs cells lines starts) left predecessors j
+Inv-loop codes jobs cells lines starts lasts sets left predecessors₀ j₀ predecessors j = Passed (edgeBy codes jobs cells lines starts) left predecessors j
 
 abbrev μ-loop : tie.MeasureT-loop
-μ-loop codes jobs cells lines starts lasts reads writes increments left predecessors₀ j₀ predecessors j = 256 - j
+μ-loop codes jobs cells lines starts lasts sets left predecessors₀ j₀ predecessors j = 256 - j
 
 loop-holds : tie.Need-loop-holds Inv-loop μ-loop
 loop-holds c = passed-none _ _ _ (c .before .pre .1)

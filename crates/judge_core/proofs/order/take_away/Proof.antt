@@ -13,10 +13,10 @@ use Rattle.judge_core.proofs.order.take_away.Statement.{statement}
 use Rattle.judge_core.proofs.order.take_away.Tie as tie
 
 abbrev Inv-loop : tie.InvT-loop
-Inv-loop codes jobs cells lines starts lasts reads writes increments left₀ placed₀ predecessors₀ k₀ left placed predecessors k = Going (edgeBy codes jobs cells lines starts) (leftOf left₀) left placed k × Preceding (edgeBy codes jobs cells lines starts) left predecessors × (getD left 0 false ≡ false)
+Inv-loop codes jobs cells lines starts lasts sets left₀ placed₀ predecessors₀ k₀ left placed predecessors k = Going (edgeBy codes jobs cells lines starts) (leftOf left₀) left placed k × Preceding (edgeBy codes jobs cells lines starts) left predecessors × (getD left 0 false ≡ false)
 
 abbrev μ-loop : tie.MeasureT-loop
-μ-loop codes jobs cells lines starts lasts reads writes increments left₀ placed₀ predecessors₀ k₀ left placed predecessors k = length (leftOf left)
+μ-loop codes jobs cells lines starts lasts sets left₀ placed₀ predecessors₀ k₀ left placed predecessors k = length (leftOf left)
 
 loop-holds : tie.Need-loop-holds Inv-loop μ-loop
 loop-holds c = let pre = c .before .before .pre in (going-none _ _ _ (pre .0) (pre .1), preceding-none _ _ (pre .2), pre .2)
@@ -28,7 +28,7 @@ returns : tie.Need-returns Inv-loop μ-loop
 returns c =
     let found = c .before .ready-job .ensures in
     let going = c .before .before .before .before .loop .inv .0 in
-    (going-rest _ _ _ _ _ _ (found .0) going (c .if1 .taken), (going-order _ _ _ _ _ _ (found .0) going (c .if1 .taken), (going-count _ _ _ _ _ _ (found .0) going (c .if1 .taken), λ i b l. found .1 .1 i (omega (arith, c .if1 .taken)) l)))
+    (going-rest _ _ _ _ _ _ (found .0) going (c .if1 .taken), ((going-order _ _ _ _ _ _ (found .0) going (c .if1 .taken), going-count _ _ _ _ _ _ (found .0) going (c .if1 .taken)), (λ i b l. found .1 .1 i (omega (arith, c .if1 .taken)) l)))
 
 cast-placed : tie.Need-cast-placed Inv-loop μ-loop
 cast-placed c = omega (arith, going-fits _ _ _ _ _ _ (c .before .ready-job .ensures .0) (c .before .before .before .before .loop .inv .0) (c .if1 .left))
