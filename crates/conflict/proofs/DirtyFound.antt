@@ -16,7 +16,7 @@ use Rattle.conflict.specs.declared.action.Action.{Action}
 use Rattle.conflict.specs.declared.action.Event.{Event}
 use Rattle.conflict.specs.declared.action.Event.the-variants.{Does, Ends}
 use Rattle.conflict.specs.History.{History, commits}
-use Rattle.conflict.specs.Dirty.{changes, DirtyRead, IsDirty, FirstDirty, ReadOf, lookBack, writerOf, orLater, dirtyFrom, dirtyOf}
+use Rattle.conflict.specs.Dirty.{changes, DirtyRead, IsDirty, FirstDirty, ReadOf, lookBack, writerOf, readOrLater, dirtyFrom, dirtyOf}
 use Rattle.conflict.proofs.DirtyReads.{read-within, write-ahead, read-parts, parts, is-read, read-commits, inOrder, order-append, order-length, Latest, Back, looked}
 
 -- the first dirty read of those that stand at place n or later
@@ -50,8 +50,8 @@ module _ (h : History) (n : ℕ) where
   }
 
   -- a line, and those after it
-  from-line : (reader : ℕ) (o : Option ℕ) (later : Option ReadOf) → Here reader o → From h (suc n) later → From h n (orLater reader o later)
-  unfolding orLater
+  from-line : (reader : ℕ) (o : Option ℕ) (later : Option ReadOf) → Here reader o → From h (suc n) later → From h n (readOrLater reader o later)
+  unfolding readOrLater
   from-line reader none later b f = from-later b later f
   from-line reader (some writer) later b f = record {
     at = n;

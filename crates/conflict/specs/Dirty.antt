@@ -79,14 +79,14 @@ unfoldable pub writerOf : History → Action → History → Option ℕ
 writerOf seen a after = pick (not (changes (a .kind)) && commits (a .job) after) (lookBack seen [] a after) none
 
 -- this read with its writer where it has one, else what is found later
-unfoldable pub orLater : ℕ → Option ℕ → Option ReadOf → Option ReadOf
-orLater reader none later = later
-orLater reader (some writer) later = some (record { reader = reader; writer = writer })
+unfoldable pub readOrLater : ℕ → Option ℕ → Option ReadOf → Option ReadOf
+readOrLater reader none later = later
+readOrLater reader (some writer) later = some (record { reader = reader; writer = writer })
 
 -- the first dirty read of the lines that are left, those before them being seen, the last of them first
 unfoldable pub dirtyFrom : History → History → Option ReadOf
 dirtyFrom seen [] = none
-dirtyFrom seen (Does a ∷ h) = orLater (a .job) (writerOf seen a h) (dirtyFrom (Does a ∷ seen) h)
+dirtyFrom seen (Does a ∷ h) = readOrLater (a .job) (writerOf seen a h) (dirtyFrom (Does a ∷ seen) h)
 dirtyFrom seen (Ends m j ∷ h) = dirtyFrom (Ends m j ∷ seen) h
 
 -- reader and writer of a history's first dirty read, if it has one (02, No. 2)
