@@ -3,14 +3,14 @@
 use Prim.Native.Nat.{ℕ}
 use mathlib.Core.Path.{_≡_, refl, sym, ap, _∙_}
 use mathlib.Core.Bool.{true, false, not, _&&_, _||_}
-use mathlib.Core.List.{[], _∷_, _++_, append-assoc}
+use mathlib.Core.List.{_∷_, _++_, append-assoc}
 use borrow.Author.Tests.{eq-eqb, ne-eqb, not-true}
 use Rattle.laws.specs.Choice.{not-both}
 use Rattle.laws.proofs.Parts.{and-first, and-second, or-either}
 use Rattle.conflict.specs.declared.action.Kind.{Kind}
 use Rattle.conflict.specs.declared.action.Kind.the-variants.{Read, Write, Increment}
 use Rattle.conflict.specs.declared.action.Action.{Action}
-use Rattle.conflict.specs.declared.action.Event.the-variants.{Does, Ends}
+use Rattle.conflict.specs.declared.action.Event.the-variants.{Does}
 use Rattle.conflict.specs.Schedule.{agree, conflicts}
 use Rattle.conflict.specs.History.{History, undisturbed, strict}
 use Rattle.conflict.specs.Runs.{ended}

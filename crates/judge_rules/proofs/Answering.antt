@@ -21,7 +21,7 @@ use Rattle.judge_rules.specs.Meant.Says.{says-order, says-cycle}
 use Rattle.judge_rules.specs.HistoryText.{readingsOf, Faulty, firstFaulty, eventsIn, Tells}
 use Rattle.judge_rules.specs.Judgement.{filled, sayFinding, sayHistory, sayLines, judgementOf}
 use Rattle.judge_rules.specs.LineTable.{AllFaultless}
-use Rattle.judge_rules.specs.Answers.{Fills, InDirt, InOrder, InKnot, Answers}
+use Rattle.judge_rules.specs.Answers.{Fills, InOrder, InKnot, Answers}
 use Rattle.judge_rules.specs.Answers.Answers.{short, faulty, in-dirt, in-order, in-knot}
 use Rattle.judge_rules.proofs.Histories.{jobs-committed, order-serial, order-once, order-names, order-smallest, knot-shows, finding-exactly}
 use Rattle.judge_rules.proofs.LineFaults.{finds-fault}
