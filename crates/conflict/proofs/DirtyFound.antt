@@ -17,7 +17,8 @@ use Rattle.conflict.specs.declared.action.Event.{Event}
 use Rattle.conflict.specs.declared.action.Event.the-variants.{Does, Ends}
 use Rattle.conflict.specs.History.{History, commits}
 use Rattle.conflict.specs.Dirty.{changes, DirtyRead, IsDirty, FirstDirty, ReadOf, lookBack, writerOf, readOrLater, dirtyFrom, dirtyOf}
-use Rattle.conflict.proofs.DirtyReads.{read-within, write-ahead, read-parts, parts, is-read, read-commits, inOrder, order-append, order-length, Latest, Back, looked}
+use Rattle.conflict.proofs.DirtyReads.{read-within, write-ahead, read-parts, parts, is-read, read-commits}
+use Rattle.conflict.proofs.LookingBack.{inOrder, order-append, order-length, Latest, Back, looked}
 
 -- the first dirty read of those that stand at place n or later
 pub record FirstFrom (h : History) (n reader writer : ℕ) : Type 0 where

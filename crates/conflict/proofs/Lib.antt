@@ -26,5 +26,6 @@ pub mod ModeCodes
 pub mod Conflicting
 pub mod CellSets
 pub mod DirtyReads
+pub mod LookingBack
 pub mod DirtyFound
 pub mod StrictClean
