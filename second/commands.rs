@@ -147,6 +147,7 @@ pub fn put_verdict(out: &mut Vec<u8>, verdict: &Verdict, order: &[u8]) {
     let (word, numbers): (&str, Vec<u64>) = match *verdict {
         Verdict::Orderly(count) => ("orderly", order[..count].iter().map(|&job| u64::from(job)).collect()),
         Verdict::Knot(count) => ("knot", order[..count].iter().map(|&job| u64::from(job)).collect()),
+        Verdict::Dirty { reader, writer } => ("dirty", vec![u64::from(reader), u64::from(writer)]),
         Verdict::No { line, refusal, .. } => ("no", vec![line as u64, u64::from(refusal)]),
     };
     out.extend_from_slice(word.as_bytes());

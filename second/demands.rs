@@ -1,9 +1,8 @@
 //! The demands, held against a random run of the desk by brute force. They read with the larger
-//! matrix of 02, No. 1; what that request promises of its own stands in `demands/update.rs`.
+//! matrix of 02, No. 1; what that request promises of its own stands in `demands/update.rs`, and
+//! what is demanded of the history in `demands/history.rs`.
 
 use crate::desk::{history_of, Answer, Cell, Desk, Holder, Outcome, Status};
-use crate::judge::{judge, Verdict};
-use crate::lines::put_event;
 use crate::make::requests::Maker;
 use crate::make::Chance;
 use crate::words::*;
@@ -19,6 +18,7 @@ macro_rules! demand {
     };
 }
 
+pub mod history;
 pub mod update;
 
 /// A wait under way: what was asked, the mode it is for, and the jobs that held the cell
@@ -199,122 +199,6 @@ impl Watch {
         self.waits.insert(job, Wait { asked: seen.asked, mode, runs });
         Ok(())
     }
-
-    /// e and f: the step's history records, one by one.
-    pub fn events(&mut self, seen: &Seen, events: &[Line]) -> Result<(), String> {
-        let end = |event: &Line| matches!(event.letter, COMMIT | GIVE_UP | SENT_BACK);
-        demand!(!events.iter().skip(1).any(end), "f: a wake's record stands before the end that woke it");
-        demand!(
-            seen.ended().is_some() == events.first().is_some_and(end),
-            "f: a run's end without its record"
-        );
-        for &event in events {
-            self.no_event_after_end(event)?;
-            if has_cell(event.letter) {
-                self.strict(event)?;
-            }
-            self.history.push(event);
-            if event.letter == COMMIT {
-                self.commit_order(event.job)?;
-            }
-        }
-        Ok(())
-    }
-
-    /// f: no history event of a job after its `c` or `a`.
-    pub fn no_event_after_end(&self, event: Line) -> Result<(), String> {
-        let ended = |past: &Line| past.job == event.job && matches!(past.letter, COMMIT | GIVE_UP);
-        demand!(!self.history.iter().any(ended), "f: event of {} after its end", event.job);
-        Ok(())
-    }
-
-    /// f: between an action and the end of its run no conflicting action of another job.
-    pub fn strict(&self, event: Line) -> Result<(), String> {
-        let mut ended = BTreeSet::new();
-        for past in self.history.iter().rev() {
-            if !has_cell(past.letter) {
-                ended.insert(past.job);
-            } else if past.job != event.job && past.cell == event.cell && conflict(past.letter, event.letter)
-            {
-                demand!(ended.contains(&past.job), "f: {event:?} against {past:?}, whose run has not ended");
-            }
-        }
-        Ok(())
-    }
-
-    /// e: at a commit, every conflict with the jobs committed before goes from them to it.
-    pub fn commit_order(&mut self, job: u32) -> Result<(), String> {
-        let mut own = Vec::new();
-        for (place, event) in self.history.iter().enumerate().filter(|(_, event)| event.job == job) {
-            match event.letter {
-                SENT_BACK => own.clear(),
-                READ | WRITE | INCREMENT => own.push((place, *event)),
-                _ => {}
-            }
-        }
-        for (place, action) in &own {
-            for (past, other) in &self.committed {
-                let against = action.cell == other.cell && conflict(action.letter, other.letter);
-                demand!(
-                    !against || past < place,
-                    "e: {action:?} of {job} stands before {other:?}, committed earlier"
-                );
-            }
-        }
-        self.committed.extend(own);
-        Ok(())
-    }
-
-    /// e once more, over the whole history in the paper's words; and the judge agrees.
-    pub fn whole_history(&self) -> Result<(), String> {
-        let place = |letter: u8, job: u32| {
-            self.history.iter().rposition(|event| event.letter == letter && event.job == job)
-        };
-        let jobs: BTreeSet<u32> = self.history.iter().map(|event| event.job).collect();
-        let commits: BTreeMap<u32, usize> =
-            jobs.iter().filter_map(|&job| Some((job, place(COMMIT, job)?))).collect();
-        let backs: BTreeMap<u32, usize> =
-            jobs.iter().filter_map(|&job| Some((job, place(SENT_BACK, job)?))).collect();
-        let counts = |&(at, event): &(usize, &Line)| {
-            has_cell(event.letter)
-                && commits.contains_key(&event.job)
-                && backs.get(&event.job).is_none_or(|&back| back < at)
-        };
-        let part: Vec<&Line> =
-            self.history.iter().enumerate().filter(counts).map(|(_, event)| event).collect();
-        for (at, later) in part.iter().enumerate() {
-            for earlier in &part[..at] {
-                let edge = earlier.job != later.job
-                    && earlier.cell == later.cell
-                    && !matches!((earlier.letter, later.letter), (b'r', b'r') | (b'i', b'i'));
-                demand!(
-                    !edge || commits[&earlier.job] < commits[&later.job],
-                    "e: edge from {earlier:?} to {later:?}"
-                );
-            }
-        }
-        self.judged()
-    }
-
-    /// The judge, where it can read the history, says orderly, with every committed job.
-    pub fn judged(&self) -> Result<(), String> {
-        let mut text = Vec::new();
-        self.history.iter().for_each(|&event| put_event(&mut text, event));
-        let commits = self.history.iter().filter(|event| event.letter == COMMIT).count();
-        match judge(&text, &mut [0; HISTORY_JOBS]) {
-            Verdict::Orderly(count) => {
-                demand!(count == commits, "e: {count} jobs in order, {commits} committed")
-            }
-            Verdict::Knot(_) => return Err("e: the judge finds a knot".to_string()),
-            Verdict::No { refusal, .. } => {
-                demand!(
-                    refusal == LINE_TOO_MANY || refusal == JOB_OUTSIDE,
-                    "e: the judge refuses by {refusal}"
-                );
-            }
-        }
-        Ok(())
-    }
 }
 
 /// b: who stops waiting without giving up was woken in this step, runs, and holds the mode
@@ -469,6 +353,9 @@ pub fn demands(seed: u64, count: u64) -> Result<(), String> {
         let outcome = maker.desk.step(asked);
         let seen = Seen { before: &before, asked, outcome: &outcome, after: &maker.desk };
         watch.see(&seen).map_err(|text| format!("step {number}, {asked:?}: {text}"))?;
+        if number % 100 == 0 {
+            watch.nowhere_dirty().map_err(|text| format!("after step {number}: {text}"))?;
+        }
     }
     watch.whole_history().map_err(|text| format!("after step {count}: {text}"))
 }

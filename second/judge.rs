@@ -1,20 +1,23 @@
-//! The judge: a history text to an order, a knot or a refusal.
+//! The judge: a history text to an order, a knot, a dirty read or a refusal.
 
 use crate::lines::read_history;
 use crate::words::*;
 
-/// 01, The judge's rules: the two verdicts with the count of places filled, or the first
+/// 01, The judge's rules: orderly and knot with the count of places filled, or the first
 /// faulty line: its number, the refusal and the line as it stands, without its newline.
+/// 02, No. 2: or the two jobs of the first dirty read.
 #[derive(PartialEq, Debug)]
 pub enum Verdict<'a> {
     Orderly(usize),
     Knot(usize),
+    Dirty { reader: u8, writer: u8 },
     No { line: usize, refusal: u8, text: &'a [u8] },
 }
 
-/// What the judge keeps of a history: the actions of runs not sent back, in order, and
-/// for each job whether it has committed or given up.
+/// What the judge keeps of a history: all its lines, the actions of runs not sent back, in
+/// order, and for each job whether it has committed or given up.
 pub struct History {
+    pub lines: Vec<Line>,
     pub actions: Vec<Line>,
     pub committed: [bool; HISTORY_JOBS + 1],
     pub ended: [bool; HISTORY_JOBS + 1],
@@ -23,11 +26,12 @@ pub struct History {
 impl History {
     pub fn empty() -> History {
         let no_job = [false; HISTORY_JOBS + 1];
-        History { actions: Vec::new(), committed: no_job, ended: no_job }
+        History { lines: Vec::new(), actions: Vec::new(), committed: no_job, ended: no_job }
     }
 
     /// 01, The judge's rules: the actions after the last `k` count.
     pub fn take(&mut self, event: Line) {
+        self.lines.push(event);
         match event.letter {
             SENT_BACK => self.actions.retain(|action| action.job != event.job),
             COMMIT => self.committed[event.job as usize] = true,
@@ -38,7 +42,8 @@ impl History {
     }
 }
 
-/// 01, Refusals by number and The judge's rules: the whole judge.
+/// 01, Refusals by number and The judge's rules: the whole judge. 02, No. 2: "Dirty is told
+/// before orderly or knot", and "the two stand in the first two places of the buffer".
 pub fn judge<'a>(text: &'a [u8], order: &mut [u8]) -> Verdict<'a> {
     if order.len() < HISTORY_JOBS {
         return Verdict::No { line: 0, refusal: BUFFER_SHORT, text: b"" };
@@ -52,6 +57,11 @@ pub fn judge<'a>(text: &'a [u8], order: &mut [u8]) -> Verdict<'a> {
                 return Verdict::No { line: before + 1, refusal, text };
             }
         }
+    }
+    if let Some((read, write)) = first_dirty(&history.lines) {
+        let (reader, writer) = (history.lines[read].job as u8, history.lines[write].job as u8);
+        order[..2].copy_from_slice(&[reader, writer]);
+        return Verdict::Dirty { reader, writer };
     }
     decide(&history, order)
 }
@@ -72,6 +82,37 @@ pub fn judge_line(history: &History, number: usize, line: &[u8]) -> Result<Line,
         return Err(JOB_ENDED);
     }
     Ok(event)
+}
+
+/// 02, No. 2: for each line the place where its run ends: its job's next `k`, `a` or `c`, and
+/// None where that is the end of the text.
+pub fn run_ends(lines: &[Line]) -> Vec<Option<usize>> {
+    let ends = |line: &Line, job: u32| line.job == job && matches!(line.letter, SENT_BACK | GIVE_UP | COMMIT);
+    (0..lines.len()).map(|at| (at..lines.len()).find(|&end| ends(&lines[end], lines[at].job))).collect()
+}
+
+/// 02, No. 2: the latest write or increment that makes the line at `read` a dirty read: "a
+/// committed run's read of a cell stands after a write or increment of that cell by another
+/// job's run that does not commit, and before that run's end if it has one".
+pub fn dirty_write(lines: &[Line], ends: &[Option<usize>], read: usize) -> Option<usize> {
+    let commits = |at: usize| ends[at].is_some_and(|end| lines[end].letter == COMMIT);
+    if lines[read].letter != READ || !commits(read) {
+        return None;
+    }
+    (0..read).rev().find(|&write| {
+        matches!(lines[write].letter, WRITE | INCREMENT)
+            && lines[write].cell == lines[read].cell
+            && lines[write].job != lines[read].job
+            && !commits(write)
+            && ends[write].is_none_or(|end| read < end)
+    })
+}
+
+/// 02, No. 2: the first dirty read in the order of the text, and its latest such write or
+/// increment, by their places.
+pub fn first_dirty(lines: &[Line]) -> Option<(usize, usize)> {
+    let ends = run_ends(lines);
+    (0..lines.len()).find_map(|read| Some((read, dirty_write(lines, &ends, read)?)))
 }
 
 /// `edges[from][to]`.

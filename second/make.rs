@@ -1,6 +1,7 @@
 //! The making of texts: the same seed gives the same bytes for ever.
 
 pub mod cases;
+pub mod dirt;
 pub mod histories;
 pub mod lines;
 pub mod requests;

@@ -4,7 +4,7 @@
 //! random runs, so it is simple rather than clever.
 //!
 //! This file has the command line. Each subject has a file: words, lines, desk, judge,
-//! commands, make with its four, demands; and tests with a file for each of these.
+//! commands, make with its five, demands with its two; and tests with a file for each of these.
 
 mod commands;
 mod demands;

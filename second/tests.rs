@@ -2,6 +2,8 @@
 
 mod demands;
 mod desk;
+mod dirty;
+mod dirty_makers;
 mod judge;
 mod lines;
 mod makers;

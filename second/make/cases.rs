@@ -1,5 +1,6 @@
 //! Cases for the judge: a header and a history each.
 
+use super::dirt::{bare_spot, mend, some_dirt, with_dirt, Dirt, DIRTY, NEAR};
 use super::histories::{
     desk_history, fields_of, knot_history, knotted_history, loose_history, ranked_history,
 };
@@ -9,7 +10,7 @@ use crate::commands::CASE_MARK;
 use crate::words::*;
 
 /// The kinds of case, which come in turn.
-pub const CASE_KINDS: u64 = 16;
+pub const CASE_KINDS: u64 = 26;
 
 /// One case of `make cases`: its header and its history, each line with its newline.
 pub fn case_text(chance: &mut Chance, number: u64) -> Vec<u8> {
@@ -29,7 +30,7 @@ pub fn case_text(chance: &mut Chance, number: u64) -> Vec<u8> {
 pub fn case_lines(chance: &mut Chance, number: u64) -> Vec<Vec<u8>> {
     let count = chance.of(&[3, 6, 12, 30, 60, 120, 240]);
     let kind = number % CASE_KINDS;
-    let events = match kind {
+    let mut events = match kind {
         0 => ranked_history(chance, count),
         1 => knot_case(chance, 2, 4),
         2 => knot_case(chance, 5, 62),
@@ -40,14 +41,39 @@ pub fn case_lines(chance: &mut Chance, number: u64) -> Vec<Vec<u8>> {
         7 => desk_history(chance.number(), count, 255),
         8 => backed_history(chance, count),
         9 => edge_jobs_history(chance, count),
-        10 => return full_lines(chance, number),
-        _ => some_history(chance, count),
+        10 | 16 => return full_lines(chance, number),
+        17..=25 => dirt_case(chance, kind, count),
+        _ => {
+            let dirt = chance.of(&[Dirt::Mended, Dirt::AsMade, Dirt::Dirty]);
+            with_dirt(chance, dirt, count, some_history)
+        }
     };
+    if kind < 6 || kind < 10 && chance.percent(75) {
+        mend(chance, &mut events, &[]);
+    }
     let mut lines: Vec<Vec<u8>> = events.iter().map(|&event| fields_of(event)).collect();
-    if kind > 10 && !lines.is_empty() {
+    if (11..=15).contains(&kind) && !lines.is_empty() {
         put_case_fault(chance, kind, &events, &mut lines);
     }
     lines
+}
+
+/// A dirty spot alone and a near one alone; dirty and near ones among other lines and in a knot; and a
+/// history as it is made.
+pub fn dirt_case(chance: &mut Chance, kind: u64, count: usize) -> Vec<Line> {
+    let knot = |chance: &mut Chance, count: usize| {
+        let wanted = chance.between(2, 40);
+        knot_history(chance, wanted, count)
+    };
+    match kind {
+        17 | 24 => bare_spot(chance, DIRTY),
+        18 => bare_spot(chance, NEAR),
+        19 | 25 => with_dirt(chance, Dirt::Dirty, count + 12, some_history),
+        20 => with_dirt(chance, Dirt::Near, count + 12, some_history),
+        21 => with_dirt(chance, Dirt::Dirty, count + 24, knot),
+        22 => with_dirt(chance, Dirt::Near, count + 24, knot),
+        _ => some_history(chance, count),
+    }
 }
 
 /// An orderly history, a knot or a loose one, with no fault.
@@ -104,11 +130,17 @@ pub fn edge_jobs_history(chance: &mut Chance, count: usize) -> Vec<Line> {
     events
 }
 
-/// 4,096 lines, and in two of three cases one or two more: a good, a bad or an empty one.
+/// 4,096 lines, nearly dirty and dirty in turn; or anything, and in two of three cases one or two lines
+/// more: a good, a bad or an empty one.
 pub fn full_lines(chance: &mut Chance, number: u64) -> Vec<Vec<u8>> {
-    let events = some_history(chance, HISTORY_LINES);
+    let round = number / CASE_KINDS;
+    let (dirt, more) = match number % CASE_KINDS {
+        10 => (some_dirt(chance), round % 3),
+        _ => ([Dirt::Near, Dirt::Dirty][(round % 2) as usize], 0),
+    };
+    let events = with_dirt(chance, dirt, HISTORY_LINES, some_history);
     let mut lines: Vec<Vec<u8>> = events.iter().map(|&event| fields_of(event)).collect();
-    for _ in 0..number / CASE_KINDS % 3 {
+    for _ in 0..more {
         let more = [b"c\t1".to_vec(), Vec::new(), b"r\t256\t64".to_vec(), odd_line(chance)];
         lines.push(more[chance.below(more.len())].clone());
     }

@@ -1,5 +1,7 @@
-//! Histories: orderly, knotted, loose and the desk's own, some of them faulty.
+//! Histories: orderly, knotted, loose and the desk's own, clean, nearly dirty and dirty, some of them
+//! faulty.
 
+use super::dirt::{some_dirt, with_dirt};
 use super::lines::spoil_line;
 use super::requests::Maker;
 use super::Chance;
@@ -7,17 +9,18 @@ use crate::desk::history_of;
 use crate::lines::put_fields;
 use crate::words::*;
 
-/// The shapes of `make histories`, then faults in some of them.
+/// The shapes of `make histories`, with or without dirt, then faults in some of them.
 pub fn history_lines(seed: u64, count: usize) -> Vec<Vec<u8>> {
     let mut chance = Chance(seed);
     chance.number();
-    let mut events = match seed % 8 {
-        0 | 1 => ranked_history(&mut chance, count),
-        2..=4 => knotted_history(&mut chance, count),
-        5 => loose_history(&mut chance, count),
+    let dirt = some_dirt(&mut chance);
+    let mut events = with_dirt(&mut chance, dirt, count, |chance, count| match seed % 8 {
+        0 | 1 => ranked_history(chance, count),
+        2..=4 => knotted_history(chance, count),
+        5 => loose_history(chance, count),
         6 => desk_history(seed, count, 255),
         _ => desk_history(seed, count, LAST_NUMBER),
-    };
+    });
     let faulty = chance.percent(35) && count > 0;
     if faulty {
         for _ in 0..chance.of(&[1, 1, 1, 2, 4]) {

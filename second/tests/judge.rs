@@ -1,5 +1,6 @@
 //! The judge, also by cases and against brute force.
 
+use super::dirty::told_by_runs;
 use super::{check_verdict, made, printed, shown, text};
 use crate::judge::{judge, Verdict};
 use crate::lines::put_event;
@@ -71,70 +72,71 @@ fn first_order(jobs: &[u32], edges: &[(u32, u32)]) -> Option<Vec<u32>> {
     None
 }
 
-#[test]
-fn judge_against_brute_force() {
-    let (mut orders, mut knots) = (0, 0);
-    for seed in 0..400 {
-        let mut chance = Chance(seed);
-        let many = chance.between(2, 6) as u32;
-        let mut events = Vec::new();
-        for _ in 0..chance.between(3, 14) {
-            let letter = chance.of(b"rrwwik");
-            events.push(Line {
-                letter,
-                job: chance.between(1, many as usize) as u32,
-                cell: chance.below(3) as u32,
-            });
-        }
-        let jobs: Vec<u32> = (1..=many).collect();
-        let mut edges = Vec::new();
-        let counts = |at: usize| {
-            has_cell(events[at].letter)
-                && events[at..].iter().all(|e| e.job != events[at].job || e.letter != b'k')
-        };
-        for later in 0..events.len() {
-            for earlier in 0..later {
-                let (one, two) = (events[earlier], events[later]);
-                let kinds = [one.letter, two.letter];
-                if counts(earlier)
-                    && counts(later)
-                    && one.cell == two.cell
-                    && one.job != two.job
-                    && kinds != *b"rr"
-                    && kinds != *b"ii"
-                {
-                    edges.push((one.job, two.job));
-                }
+/// A short history of the jobs 1 to `many` on three cells, all committed at its end.
+fn short_history(chance: &mut Chance, many: usize) -> Vec<Line> {
+    let mut events = Vec::new();
+    for _ in 0..chance.between(3, 14) {
+        let letter = chance.of(b"rrwwik");
+        let job = chance.between(1, many) as u32;
+        events.push(Line { letter, job, cell: chance.below(3) as u32 });
+    }
+    events.extend((1..=many as u32).map(|job| Line { letter: COMMIT, job, cell: 0 }));
+    events
+}
+
+/// The edges of the committed part, by looking at every two lines.
+fn edges_by_pairs(events: &[Line]) -> Vec<(u32, u32)> {
+    let counts = |at: usize| {
+        let back = |event: &Line| event.job == events[at].job && event.letter == b'k';
+        has_cell(events[at].letter) && !events[at..].iter().any(back)
+    };
+    let mut edges = Vec::new();
+    for later in (0..events.len()).filter(|&at| counts(at)) {
+        for earlier in (0..later).filter(|&at| counts(at)) {
+            let (one, two) = (events[earlier], events[later]);
+            let kinds = [one.letter, two.letter];
+            if one.cell == two.cell && one.job != two.job && kinds != *b"rr" && kinds != *b"ii" {
+                edges.push((one.job, two.job));
             }
         }
-        events.extend(jobs.iter().map(|&job| Line { letter: COMMIT, job, cell: 0 }));
+    }
+    edges
+}
+
+#[test]
+fn judge_against_brute_force() {
+    let (mut orders, mut knots, mut dirty) = (0, 0, 0);
+    for seed in 0..400 {
+        let mut chance = Chance(seed);
+        let many = chance.between(2, 6);
+        let events = short_history(&mut chance, many);
+        let jobs: Vec<u32> = (1..=many as u32).collect();
+        let edges = edges_by_pairs(&events);
         let mut text = Vec::new();
         events.iter().for_each(|&event| put_event(&mut text, event));
         let mut order = [0; 255];
-        match (judge(&text, &mut order), first_order(&jobs, &edges)) {
-            (Verdict::Orderly(count), Some(wanted)) => {
-                orders += 1;
-                assert!(wanted.iter().eq(order[..count]
-                    .iter()
-                    .map(|&job| u32::from(job))
-                    .collect::<Vec<u32>>()
-                    .iter()));
+        match (judge(&text, &mut order), told_by_runs(&events), first_order(&jobs, &edges)) {
+            (Verdict::Dirty { reader, writer }, Some(told), _) => {
+                dirty += 1;
+                assert_eq!((reader.into(), writer.into()), told);
             }
-            (Verdict::Knot(count), None) => {
+            (Verdict::Orderly(count), None, Some(wanted)) => {
+                orders += 1;
+                assert!(wanted.into_iter().eq(order[..count].iter().map(|&job| u32::from(job))));
+            }
+            (Verdict::Knot(count), None, None) => {
                 knots += 1;
                 let cycle = &order[..count];
                 assert!(count >= 2 && cycle[1..].iter().all(|job| cycle[0] < *job));
-                for at in 0..count {
-                    assert!(
-                        edges.contains(&(cycle[at].into(), cycle[(at + 1) % count].into())),
-                        "{cycle:?}"
-                    );
-                }
+                let edge = |at: usize| (cycle[at].into(), cycle[(at + 1) % count].into());
+                assert!((0..count).all(|at| edges.contains(&edge(at))), "{cycle:?}");
             }
-            (verdict, wanted) => panic!("seed {seed}: {verdict:?}, but brute force {wanted:?}"),
+            (verdict, told, wanted) => {
+                panic!("seed {seed}: {verdict:?}, but brute force {told:?}, {wanted:?}")
+            }
         }
     }
-    assert!(orders > 50 && knots > 50, "{orders} orders, {knots} knots");
+    assert!(orders > 50 && knots > 50 && dirty > 25, "{orders} orders, {knots} knots, {dirty} dirty");
 }
 
 // ---- the judge by cases
@@ -163,7 +165,7 @@ fn cases_up_to_their_length() {
 fn cases_reach_every_verdict() {
     let mut counts: BTreeMap<String, usize> = BTreeMap::new();
     let mut lengths = BTreeSet::new();
-    for seed in 0..20u64 {
+    for seed in 0..30u64 {
         let input = made(&["make", "cases", &seed.to_string(), "64"]);
         let headers = input.split(|&byte| byte == b'\n').filter(|line| line.starts_with(b"= "));
         assert_eq!(headers.count(), 64);
@@ -177,10 +179,11 @@ fn cases_reach_every_verdict() {
             }
         }
     }
-    for wanted in ["orderly", "knot", "no 2", "no 9", "no 11", "no 12", "no 13", "no 14", "line"] {
+    for wanted in ["orderly", "knot", "dirty", "no 2", "no 9", "no 11", "no 12", "no 13", "no 14", "line"] {
         let count = counts.get(wanted).copied().unwrap_or(0);
-        assert!(count >= 20, "{wanted} in {count} of 1280 cases: {counts:?}");
+        assert!(count >= 20, "{wanted} in {count} of 1920 cases: {counts:?}");
     }
+    assert!(["orderly", "knot", "dirty"].iter().all(|&word| counts[word] > 200), "{counts:?}");
     assert!(lengths.len() > 100, "knots of {lengths:?}");
     assert!([2, 3, 63, 64, 254, 255].iter().all(|length| lengths.contains(length)), "{lengths:?}");
 }

@@ -31,10 +31,10 @@ fn same_seed_same_bytes_for_ever() {
 /// Pinned bytes: the hashes of what the makers make.
 const PINNED: [u64; 5] = [
     1199930767021904925,
-    16970603354096304262,
+    17004301330760525000,
     8533602436639993140,
     7175436058442937876,
-    14162971625076456059,
+    14167269142176557988,
 ];
 
 /// What one step shows of the features wanted.
@@ -230,6 +230,7 @@ fn histories_reach_every_feature() {
     for wanted in [
         "orderly",
         "knot",
+        "dirty",
         "no 2",
         "no 9",
         "no 12",
@@ -249,19 +250,20 @@ fn histories_reach_every_feature() {
         let count = counts.get(wanted).copied().unwrap_or(0);
         assert!(count >= 5, "{wanted} in {count} of 400 histories: {counts:?}");
     }
-    assert!(counts["orderly"] > 100 && counts["knot"] > 50, "{counts:?}");
+    assert!(counts["orderly"] > 70 && counts["knot"] > 70 && counts["dirty"] > 40, "{counts:?}");
 }
 
 #[test]
 fn histories_of_4096_and_4097_lines() {
     let verdicts = |count: &str| -> Vec<String> {
-        (0..24u64)
+        (0..40u64)
             .map(|seed| shown(&verdict_line(&made(&["make", "histories", &seed.to_string(), count]))))
             .collect()
     };
     let full = verdicts("4096");
-    assert!(full.iter().filter(|line| line.starts_with("orderly")).count() > 3, "{full:?}");
-    assert!(full.iter().filter(|line| line.starts_with("knot")).count() > 3, "{full:?}");
+    for word in ["orderly", "knot", "dirty"] {
+        assert!(full.iter().filter(|line| line.starts_with(word)).count() > 3, "{word}: {full:?}");
+    }
     assert!(full.iter().all(|line| !line.ends_with("\t11\n")));
     let more = verdicts("4097");
     assert!(more.iter().filter(|line| *line == "no\t4097\t11\n").count() > 8, "{more:?}");

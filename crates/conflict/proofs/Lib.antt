@@ -25,3 +25,7 @@ pub mod Ways
 pub mod ModeCodes
 pub mod Conflicting
 pub mod CellSets
+pub mod DirtyReads
+pub mod LookingBack
+pub mod DirtyFound
+pub mod StrictClean

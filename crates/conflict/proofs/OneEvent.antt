@@ -6,13 +6,14 @@ use mathlib.Core.Path.{_≡_, refl}
 use mathlib.Core.Bool.{Bool, true, false, not, _&&_, _||_}
 use mathlib.Core.List.{[], _∷_}
 use lib.Dec.{eqb}
+use Rattle.laws.specs.Choice.{pick}
 use Rattle.laws.specs.Lists.{put}
 use Rattle.conflict.specs.declared.action.Action.{Action}
 use Rattle.conflict.specs.declared.action.Mark.{Mark}
 use Rattle.conflict.specs.declared.action.Mark.the-variants.{Commit, GiveUp, Back}
 use Rattle.conflict.specs.declared.action.Event.the-variants.{Does, Ends}
 use Rattle.conflict.specs.Schedule.{keep}
-use Rattle.conflict.specs.History.{History, isCommit, isBack, marked, partOf, committedPart, commitOrder, lineOf, endsForGood}
+use Rattle.conflict.specs.History.{History, isCommit, isBack, marked, partOf, committedPart, commits, commitOrder, lineOf, endsForGood}
 use Rattle.conflict.specs.Runs.{isEnd, ended}
 
 -- whether a mark ends its job for good, as a c and an a do
@@ -110,6 +111,21 @@ any-ends m = refl
 pub ended-is : (j : ℕ) (h : History) → ended j h ≡ marked isEnd j h
 unfolding ended
 ended-is j h = refl
+
+-- by no lines no run commits
+pub commits-none : (j : ℕ) → commits j [] ≡ false
+unfolding commits
+commits-none j = refl
+
+-- an action in front changes nothing of it
+pub commits-does : (j : ℕ) (a : Action) (h : History) → commits j (Does a ∷ h) ≡ commits j h
+unfolding commits
+commits-does j a h = refl
+
+-- a mark in front ends its job's run, which commits if it is a c
+pub commits-ends : (j : ℕ) (m : Mark) (i : ℕ) (h : History) → commits j (Ends m i ∷ h) ≡ pick (eqb i j) (isCommit m) (commits j h)
+unfolding commits
+commits-ends j m i h = refl
 
 -- of no lines nothing is in the committed part
 pub part-none : (whole : History) → partOf whole [] ≡ []

@@ -3,3 +3,4 @@ pub mod Schedule
 pub mod Cells
 pub mod History
 pub mod Runs
+pub mod Dirty

@@ -3,7 +3,7 @@
 use Prim.Native.Nat.{ℕ, _<_, _≤_}
 use mathlib.Core.Path.{_≡_}
 use mathlib.Core.Logic.{_≢_, _↔_}
-use mathlib.Core.List.{List}
+use mathlib.Core.List.{List, _++_}
 use Rattle.terms.specs.declared.letters.Ask.{Ask}
 use Rattle.terms.specs.declared.letters.Letter.the-variants.{Begin, Asks}
 use Rattle.terms.specs.declared.letters.Lettered.the-variants.{Known}
@@ -12,6 +12,7 @@ use Rattle.terms.specs.Letters.{letterOf}
 use Rattle.terms.specs.Limits.{lastNumber}
 use Rattle.conflict.specs.Schedule.{Equivalent, serial}
 use Rattle.conflict.specs.History.{History, committedPart, commitOrder}
+use Rattle.conflict.specs.Dirty.{IsDirty}
 use Rattle.desk_rules.specs.declared.Answer.the-variants.{Go, Wait, Back, No}
 use Rattle.desk_rules.specs.Desk.{Request, freshDesk, waiting}
 use Rattle.desk_rules.specs.Desk as paper
@@ -58,6 +59,10 @@ module _ (n : ℕ) (some : 0 < n) (last : n ≤ lastNumber) where
 -- the committed jobs in order of commit are a conflict-equivalent serial order (demand 2)
 pub desk-serial : {d : Desk} {h : History} → Started d h → Equivalent (committedPart h) (serial (commitOrder h) (committedPart h))
 desk-serial s = desk-promises s .serial .serial-by-commits
+
+-- its history is not dirty, and was not at any moment (02, No. 2)
+pub desk-never-dirty : {d : Desk} {h : History} → Started d h → (x y : History) → h ≡ x ++ y → IsDirty x → ⊥
+desk-never-dirty s = desk-promises s .serial .never-dirty
 
 -- whenever a job waits, some younger job is live and not waiting (demand 3)
 pub desk-somebody-runs : {d : Desk} {h : History} → Started d h → (j c : ℕ) (a : Ask) → view d .stat j ≡ waiting c a → (i : ℕ) × (j < i) × (view d .stat i ≡ paper.running)

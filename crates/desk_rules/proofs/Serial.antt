@@ -1,8 +1,10 @@
 -- In every history that the desk writes, the committed jobs in order of commit are a conflict-equivalent serial order (demand 2).
 -- Assumes nothing.
-use Rattle.conflict.specs.History.{History, committedPart}
+use mathlib.Core.Path.{sym, ap, _∙_}
+use Rattle.conflict.specs.History.{History, committedPart, strict}
 use Rattle.conflict.proofs.Committed.{commit-order-once, committed-is}
 use Rattle.conflict.proofs.Strict.{strict-serializable}
+use Rattle.conflict.proofs.StrictClean.{strict-ended, strict-clean, strict-part}
 use Rattle.conflict.proofs.LockMachine.{machine-serial, machine-strict}
 use Rattle.conflict.proofs.Backward.{refuted}
 use Rattle.desk_rules.specs.Desk.{Desk}
@@ -22,6 +24,8 @@ serial-history {h = h} s =
       serializable = strict-serializable h (machine-strict m) good;
       never-a-knot = λ js k. refuted (committedPart h) js k (strict-serializable h (machine-strict m) good);
       history-strict = machine-strict m;
+      after-their-ends = λ before a between b after l c. strict-ended h (machine-strict m) before a between b after l c;
+      never-dirty = λ x y e. strict-clean x (strict-part x y (ap strict (sym e) ∙ machine-strict m));
       no-event-after-end = good;
       committed-as-worded = committed-is h good;
     }

@@ -1,15 +1,20 @@
 -- Each action that the desk writes is done under a mode that covers it and may stand beside every other holder's, and stays under one until its run ends (01, The desk's rules).
 -- Assumes nothing.
 use Prim.Native.Nat.{ℕ}
-use mathlib.Core.Path.{_≡_, refl, sym, subst}
+use mathlib.Core.Path.{_≡_, refl, sym, _∙_, subst}
+use mathlib.Core.Logic.{_≢_}
+use mathlib.Core.Bool.{false}
 use native.Mathlib.Omega.{arith}
 use Rattle.terms.specs.declared.letters.Ask.{Ask}
 use Rattle.terms.specs.Limits.{cells}
+use Rattle.conflict.specs.declared.action.Kind.{Kind}
 use Rattle.conflict.specs.declared.action.Action.{Action}
 use Rattle.conflict.specs.declared.action.Mark.{Mark}
 use Rattle.conflict.specs.declared.action.Event.the-variants.{Does, Ends}
+use Rattle.conflict.specs.Modes.{lets}
+use Rattle.conflict.specs.Schedule.{agree}
 use Rattle.conflict.specs.History.{History}
-use Rattle.conflict.proofs.ModeLaws.{covers-lets}
+use Rattle.conflict.proofs.ModeLaws.{covers-lets, beside-sym, covering-keeps-out}
 use Rattle.conflict.proofs.StillHeld.{machine-still}
 use Rattle.desk_rules.specs.Desk.{Desk, Request, In}
 use Rattle.desk_rules.specs.Rules.{Outcome, wake, rowsAfter, rule4}
@@ -76,6 +81,12 @@ module _ {d : Desk} (v : Inv d) {r : Request} where
   wrote-locked {o} (mark m s js said open′ last′ _) x h =
       in-split h no-mark (λ k. woken-locked (o .desk) x (λ c. refl) (search-order (rowsAfter d (r .job)) cells .granted (recorded-wake (wakesAfter d (r .job)) k)))
 
+-- beside an action under a lock nobody else holds a mode that lets one that does not agree with it
+kept-out : (e : Desk) (x : Action) (a : Ask) → UnderLock e x a → (i : ℕ) → i ≢ x .job → (l : Kind) → agree (x .kind) l ≡ false → lets (e .row (x .cell) .held i) l ≡ false
+kept-out e x a u i n l f =
+    covering-keeps-out (e .row (x .cell) .held (x .job)) (e .row (x .cell) .held i) a l (u .covered) (beside-sym (e .row (x .cell) .held (x .job)) (e .row (x .cell) .held i) ∙ u .besides i n)
+    (subst (λ k. agree k l ≡ false) (u .kind) f)
+
 -- what is promised of locks
 pub locking : {d : Desk} {h : History} → Started d h → Locking (from d) h
 unfolding recordsBy
@@ -86,5 +97,6 @@ locking {d} s =
       holder-live = λ c. v .rows c .holds;
       held-till-end = λ r i c. moved-held v r i c (step-moved d r) refl;
       under-lock = λ r x k. wrote-locked v (step-wrote d r v) x k;
+      others-kept-out = λ r x k i n l f. let u = wrote-locked v (step-wrote d r v) x k in kept-out _ x (u .0) (u .2) i n l f;
       still-under-lock = λ g i x e f. machine-still g i x (started-machine (subst (Started d) e s)) f;
     }

@@ -5,9 +5,11 @@ use mathlib.Core.Logic.{_≢_, _⊎_}
 use mathlib.Core.Bool.{true, false}
 use mathlib.Core.List.{_∷_, _++_}
 use Rattle.terms.specs.declared.letters.Ask.{Ask}
+use Rattle.conflict.specs.declared.action.Kind.{Kind}
 use Rattle.conflict.specs.declared.action.Action.{Action}
 use Rattle.conflict.specs.declared.action.Event.the-variants.{Does}
 use Rattle.conflict.specs.Modes.{beside, lets, isFree}
+use Rattle.conflict.specs.Schedule.{agree}
 use Rattle.conflict.specs.History.{History}
 use Rattle.conflict.specs.Runs.{ended}
 use Rattle.desk_rules.specs.Desk.{Request, In, isLive}
@@ -23,5 +25,7 @@ pub record Locking (k : Course) (h : History) : Type 0 where
   pub held-till-end : (r : Request) (i c : ℕ) → Keeps (now k) (to k r .desk) i c ⊎ (ended i (records k r) ≡ true)
   -- every action that a step writes, its own or a wake's, is under a lock after that step (01, rules 1 to 4)
   pub under-lock : (r : Request) (x : Action) → In (Does x) (records k r) → (a : Ask) × AskedBy (now k) r x a × UnderLock (to k r .desk) x a
+  -- and after that step nobody else holds its cell under a mode that lets an action that does not agree with it: a read stands while nobody else holds the cell for writing or adding (02, No. 2)
+  pub others-kept-out : (r : Request) (x : Action) → In (Does x) (records k r) → (i : ℕ) → i ≢ x .job → (l : Kind) → agree (x .kind) l ≡ false → lets (to k r .desk .row (x .cell) .held i) l ≡ false
   -- an action whose run has not ended is still under a mode that lets it
   pub still-under-lock : (g i : History) (x : Action) → h ≡ g ++ Does x ∷ i → ended (x .job) i ≡ false → lets (now k .row (x .cell) .held (x .job)) (x .kind) ≡ true

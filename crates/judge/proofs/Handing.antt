@@ -3,6 +3,7 @@
 use Prim.Native.Nat.{ℕ, _+_, _≤_, _<_}
 use mathlib.Core.Path.{_≡_, refl, sym, ap, _∙_, subst}
 use mathlib.Core.List.{List, []}
+use mathlib.Core.Option.{Option, none, some}
 use native.Mathlib.Omega.{arith}
 use borrow.Author.Tests.{lt-ltb, le-ltb}
 use lib.ListN.{length, getD}
@@ -10,12 +11,14 @@ use Rattle.terms.specs.declared.refusals.Refusal.{Refusal}
 use Rattle.terms.specs.declared.refusals.Refusal.the-variants.{ShortOrder}
 use Rattle.terms.specs.Limits.{judgedJobs, judgedLines}
 use Rattle.text_rules.specs.Split.{part, joined}
+use Rattle.conflict.specs.History.{History}
+use Rattle.conflict.specs.Dirty.{ReadOf, dirtyOf}
 use Rattle.judge_rules.specs.declared.verdict.Verdict.{Verdict}
 use Rattle.judge_rules.specs.declared.verdict.Verdict.the-variants.{No}
 use Rattle.judge_rules.specs.Judged.{Finding, orderly, knotted, findingOf}
 use Rattle.judge_rules.specs.Arrays.{historyBy}
 use Rattle.judge_rules.specs.HistoryText.{readingsOf, firstFaulty}
-use Rattle.judge_rules.specs.Judgement.{sayFinding, sayLines, judgementOf, lineFrom}
+use Rattle.judge_rules.specs.Judgement.{Judgement, sayFinding, sayHistory, sayLines, judgementOf, lineFrom}
 use Rattle.judge.specs.declared.scan.Scanned.{Scanned}
 use Rattle.judge.specs.declared.scan.Scanned.the-variants.{Faultless, Faulty}
 use Rattle.judge.specs.declared.entry.Judged.{Judged}
@@ -33,21 +36,25 @@ lines-judgement : (text buffer : List ℕ) → judgedJobs ≤ length buffer → 
 unfolding judgementOf
 lines-judgement text buffer h = rw (le-ltb (length buffer) judgedJobs h)
 
--- a verdict hands back no line
-no-line : (buffer : List ℕ) (v : Finding) → sayFinding buffer v .line ≡ []
-unfolding sayFinding
-no-line buffer (orderly order) = refl
-no-line buffer (knotted js) = refl
-
--- and its part is at the text's start
-no-start : (text buffer : List ℕ) (v : Finding) → 0 ≡ lineFrom text (sayFinding buffer v .said)
+-- an order or a knot hands back no line, and its part is at the text's start
+finding-no-line : (text buffer : List ℕ) (v : Finding) → (sayFinding buffer v .line ≡ []) × (0 ≡ lineFrom text (sayFinding buffer v .said))
 unfolding sayFinding lineFrom
-no-start text buffer (orderly order) = refl
-no-start text buffer (knotted js) = refl
+finding-no-line text buffer (orderly order) = (refl, refl)
+finding-no-line text buffer (knotted js) = (refl, refl)
+
+-- and so with every verdict
+no-line : (text buffer : List ℕ) (h : History) (o : Option ReadOf) → (sayHistory buffer h o .line ≡ []) × (0 ≡ lineFrom text (sayHistory buffer h o .said))
+unfolding sayHistory lineFrom
+no-line text buffer h none = finding-no-line text buffer (findingOf h)
+no-line text buffer h (some d) = (refl, refl)
+
+-- the verdict on the history that arrays keep
+abbrev pub saidOf : List ℕ → List ℕ → List ℕ → List ℕ → ℕ → Judgement
+saidOf codes jobs cells buffer n = sayHistory buffer (historyBy codes jobs cells n) (dirtyOf (historyBy codes jobs cells n))
 
 -- a faultless text is judged by the history that is kept of it
 clean-judgement : (text codes jobs cells buffer : List ℕ) (n : ℕ) → judgedJobs ≤ length buffer → Clean text codes jobs cells n →
-    judgementOf text buffer ≡ sayFinding buffer (findingOf (historyBy codes jobs cells n))
+    judgementOf text buffer ≡ saidOf codes jobs cells buffer n
 unfolding sayLines
 clean-judgement text codes jobs cells buffer n h c =
     lines-judgement text buffer h ∙ rw (c .faultless, c .says)
@@ -85,17 +92,18 @@ module _ (text codes jobs cells : List ℕ) (x : Scanned) (s : ScannedAs text co
 module _ (text codes jobs cells buffer : List ℕ) (x : Scanned) (h : judgedJobs ≤ length buffer) (s : ScannedAs text codes jobs cells x) where
   -- the judge decides a faultless text
   pub judged-clean : (n : ℕ) (said : Verdict) (after : List ℕ) → x ≡ Faultless n →
-      said ≡ sayFinding buffer (findingOf (historyBy codes jobs cells n)) .said → after ≡ sayFinding buffer (findingOf (historyBy codes jobs cells n)) .order →
+      said ≡ saidOf codes jobs cells buffer n .said → after ≡ saidOf codes jobs cells buffer n .order →
       JudgedAs text buffer after (record { said = said; from = 0; to = 0 })
   judged-clean n said after e p q =
       let j = clean-judgement text codes jobs cells buffer n h (subst (ScannedAs text codes jobs cells) e s) in
+      let k = no-line text buffer (historyBy codes jobs cells n) (dirtyOf (historyBy codes jobs cells n)) in
       record {
         said-is = rw j p;
         order-is = rw j q;
         ordered = omega arith;
         within = omega arith;
-        starts = no-start text buffer (findingOf (historyBy codes jobs cells n)) ∙ ap (lineFrom text) (sym p);
-        place = rw j (sym (no-line buffer (findingOf (historyBy codes jobs cells n))));
+        starts = k .1 ∙ ap (lineFrom text) (sym p);
+        place = rw j (sym (k .0));
       }
 
   -- the judge finds a faulty line

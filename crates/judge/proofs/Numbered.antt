@@ -8,7 +8,7 @@ use mir.Val.{Fits}
 use Rattle.terms.specs.declared.refusals.Refusal.{Refusal}
 use Rattle.terms.specs.Refusals.{numberOf}
 use Rattle.judge_rules.specs.declared.verdict.Verdict.{Verdict}
-use Rattle.judge_rules.specs.declared.verdict.Verdict.the-variants.{Orderly, Knot, No}
+use Rattle.judge_rules.specs.declared.verdict.Verdict.the-variants.{Orderly, Knot, Dirty, No}
 use Rattle.judge_rules.specs.Judgement.{inNumbers}
 use Rattle.judge.specs.Judged.{Small}
 
@@ -34,6 +34,11 @@ module _ (v : Verdict) where
   pub knot-numbers : (n : ℕ) → v ≡ Knot n → 1 ∷ n ∷ 0 ∷ [] ≡ inNumbers v
   unfolding inNumbers
   knot-numbers n e = rw e
+
+  -- the numbers of a dirty read
+  pub dirty-numbers : (reader writer : ℕ) → v ≡ Dirty reader writer → 3 ∷ reader ∷ writer ∷ [] ≡ inNumbers v
+  unfolding inNumbers
+  dirty-numbers reader writer e = rw e
 
   -- the numbers of a refusal
   pub refusal-numbers : (line m : ℕ) (why : Refusal) → v ≡ No line why → m ≡ numberOf why → 2 ∷ m ∷ line ∷ [] ≡ inNumbers v

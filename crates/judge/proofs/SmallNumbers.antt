@@ -13,10 +13,11 @@ use Rattle.laws.specs.Lists.{put}
 use Rattle.terms.specs.Limits.{judgedJobs, judgedLines}
 use Rattle.conflict.specs.declared.action.Event.the-variants.{Does, Ends}
 use Rattle.conflict.specs.History.{History, isCommit, commitOrder}
+use Rattle.conflict.specs.Dirty.{ReadOf, dirtyOf}
 use Rattle.conflict.proofs.OneEvent.{order-none, order-does, order-ends}
 use Rattle.judge_rules.specs.Judged.{orderly, knotted, insert, sorted, jobsOf, findingOf}
 use Rattle.judge_rules.specs.HistoryText.{readingsOf, Faulty, firstFaulty, eventsIn}
-use Rattle.judge_rules.specs.Judgement.{sayFinding, sayLines, judgementOf}
+use Rattle.judge_rules.specs.Judgement.{sayFinding, sayHistory, sayLines, judgementOf}
 use Rattle.judge_rules.proofs.Walking.{no-more}
 use Rattle.judge_rules.proofs.Deciding.{by-finding}
 use Rattle.judge_rules.proofs.Histories.{jobs-committed, order-once, order-names, knot-shows}
@@ -63,19 +64,25 @@ order-few h order e =
 knot-few : (h : History) (js : List ℕ) → findingOf h ≡ knotted js → length js ≤ length h
 knot-few h js e = let k = knot-shows h js e in omega (arith, jobs-few h, no-more js (jobsOf h) (k .once) (k .only))
 
--- what is said of a short history has small numbers
-pub verdict-small : (buffer : List ℕ) (h : History) → length h ≤ judgedLines → Small (sayFinding buffer (findingOf h) .said)
+-- what is found of a short history has small numbers
+finding-small : (buffer : List ℕ) (h : History) → length h ≤ judgedLines → Small (sayFinding buffer (findingOf h) .said)
 unfolding sayFinding
-verdict-small buffer h few =
+finding-small buffer h few =
     by-finding (findingOf h)
     (λ order q. rw q (omega (arith, order-few h order q)))
     (λ js q. rw q (omega (arith, knot-few h js q)))
 
--- and so has what is said of lines
+-- and so has what is said of it
+history-small : (buffer : List ℕ) (h : History) (o : Option ReadOf) → length h ≤ judgedLines → Small (sayHistory buffer h o .said)
+unfolding sayHistory
+history-small buffer h none few = finding-small buffer h few
+history-small buffer h (some d) few = tt
+
+-- and what is said of lines
 lines-small : (buffer text : List ℕ) (o : Option Faulty) → firstFaulty 1 [] (readingsOf text) ≡ o → Small (sayLines buffer text o .said)
 unfolding sayLines
 lines-small buffer text none e =
-    verdict-small buffer (eventsIn (readingsOf text)) (omega (arith, events-few (readingsOf text), lines-few 1 [] (readingsOf text) (omega arith) e))
+    history-small buffer (eventsIn (readingsOf text)) (dirtyOf (eventsIn (readingsOf text))) (omega (arith, events-few (readingsOf text), lines-few 1 [] (readingsOf text) (omega arith) e))
 lines-small buffer text (some f) e = omega (arith, number-few 1 [] (readingsOf text) f (omega arith) e)
 
 -- every verdict of the judge has small numbers

@@ -5,14 +5,15 @@ use mathlib.Core.List.{List}
 use lib.ListN.{length}
 use Rattle.text_rules.specs.Split.{part}
 use Rattle.judge_rules.specs.declared.verdict.Verdict.{Verdict}
-use Rattle.judge_rules.specs.declared.verdict.Verdict.the-variants.{Orderly, Knot, No}
+use Rattle.judge_rules.specs.declared.verdict.Verdict.the-variants.{Orderly, Knot, Dirty, No}
 use Rattle.judge_rules.specs.Judgement.{judgementOf, lineFrom}
 use Rattle.judge.specs.declared.entry.Judged.{Judged}
 
--- the numbers of a verdict are small enough for three places of 32 bits
+-- the numbers of a verdict are small enough for three places of 32 bits; reader and writer are bytes already
 abbrev pub Small : Verdict → Type 0
 Small (Orderly n) = n < 2 ^ 32
 Small (Knot n) = n < 2 ^ 32
+Small (Dirty reader writer) = Unit {0}
 Small (No line why) = line < 2 ^ 32
 
 -- what is found of a text and a buffer is the judgement, and the line handed back stands in the text

@@ -66,11 +66,12 @@ fn in_numbers(said: Verdict) -> [u32; 3]
     match said {
         Verdict::Orderly(n) => [0, n as u32, 0],
         Verdict::Knot(n) => [1, n as u32, 0],
+        Verdict::Dirty { reader, writer } => [3, reader as u32, writer as u32],
         Verdict::No { line, why } => [2, number_of(why) as u32, line as u32],
     }
 }
 
-// The verdict on a history text. The order or the knot fills the first places of the buffer, and the rest stay; after a refusal all stay.
+// The verdict on a history text. Reader and writer of a dirty read, the order or the knot fill the first places of the buffer, and the rest stay; after a refusal all stay.
 pub fn judge_text(text: &[u8], order: &mut [u8]) -> Verdict
     ensures said { λ r. ⌜ r ≡ judgementOf (now (text .entry)) (now (order .entry)) .said ⌝ }
     ensures order { λ r. ⌜ now (order .exit) ≡ judgementOf (now (text .entry)) (now (order .entry)) .order ⌝ }

@@ -40,7 +40,7 @@ end-event c job cell h =
     (by-test (eqb c 3) (λ t. rw t) (λ f. by-test (eqb c 4) (λ t. rw (f, t)) (λ g. rw (f, g))))
 
 -- 3 is a c
-mark-commit : (c : ℕ) → isCommit (markBy c) ≡ eqb c 3
+pub mark-commit : (c : ℕ) → isCommit (markBy c) ≡ eqb c 3
 unfolding markBy
 mark-commit c =
     by-test (eqb c 3) (λ t. rw t commit-is-commit) (λ f. by-test (eqb c 4) (λ t. rw (f, t) give-up-not-commit) (λ g. rw (f, g) back-not-commit))

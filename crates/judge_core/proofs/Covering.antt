@@ -1,6 +1,6 @@
 -- The sets of cells and the table of last lines as a pass over the lines makes them, one line at a time.
 -- Assumes nothing.
-use Prim.Native.Nat.{ℕ, _+_, _-_, _<_}
+use Prim.Native.Nat.{ℕ, _+_, _-_, _≤_, _<_}
 use mathlib.Core.Path.{_≡_, sym, ap, _∙_}
 use mathlib.Core.Bool.{_&&_, _||_}
 use mathlib.Core.List.{List}
@@ -12,47 +12,53 @@ use borrow.Author.Tests.{eqb-true, eqb-false, lt-ltb}
 use Rattle.laws.specs.Choice.{by-test}
 use Rattle.laws.proofs.Lists.{same-refl}
 use Rattle.laws.proofs.Parts.{or-first, or-second, and-both}
+use Rattle.conflict.specs.declared.cells.Touched.{Touched}
 use Rattle.conflict.specs.Cells.{inSet}
-use Rattle.judge_core.specs.Reaching.{Covered, lastKey, Lasts}
+use Rattle.judge_core.specs.Reaching.{Covered, setKey, touchedAt, lastKey, Lasts}
 
-module _ (codes cells owners : List ℕ) (kind : ℕ) where
+module _ (codes cells owners : List ℕ) where
   -- nobody has a cell yet
-  pub covered-none : Covered codes cells owners 0 kind (replicate 256 0)
-  covered-none = record { wide = length-replicate {A = ℕ} 256 0; has = λ p h. absurd (omega arith) }
+  pub covered-none : Covered codes cells owners 0 (replicate 768 0)
+  covered-none = record { wide = length-replicate {A = ℕ} 768 0; has = λ p h. absurd (omega arith) }
 
-  module _ (p : ℕ) (sets : List ℕ) (s : Covered codes cells owners p kind sets) where
-    -- a line of another kind changes nothing
-    pub covered-keep : (getD codes p 0 ≡ kind → ⊥) → Covered codes cells owners (p + 1) kind sets
+  module _ (p : ℕ) (sets : List ℕ) (s : Covered codes cells owners p sets) where
+    -- a line that is no action changes nothing
+    pub covered-keep : 3 ≤ getD codes p 0 → Covered codes cells owners (p + 1) sets
     covered-keep n =
         record {
           wide = s .wide;
           has = λ q h e l. by-test (eqb q p)
-              (λ t. absurd (n (rw (← eqb-true q p t) e)))
+              (λ t. let low : getD codes p 0 < 3 = rw (← eqb-true q p t) e in absurd (omega arith))
               (λ g. s .has q (omega (arith, eqb-false q p g)) e l);
         }
 
-    -- one of this kind adds its cell to its job's
-    pub covered-more : (j cell v : ℕ) → j ≡ getD owners p 0 → j < 256 → cell ≡ getD cells p 0 → ((c : ℕ) → inSet v c ≡ ((eqb cell c && ltb cell 64) || inSet (getD sets j 0) c)) → Covered codes cells owners (p + 1) kind (set sets j v)
-    covered-more j cell v q b i e =
+    -- an action adds its cell to its job's of its kind
+    pub covered-more : (j key cell v : ℕ) → j ≡ getD owners p 0 → key ≡ setKey j (getD codes p 0) → key < 768 → cell ≡ getD cells p 0 → ((c : ℕ) → inSet v c ≡ ((eqb cell c && ltb cell 64) || inSet (getD sets key 0) c)) → Covered codes cells owners (p + 1) (set sets key v)
+    covered-more j key cell v o q b i e =
         record {
-          wide = length-set sets j v ∙ s .wide;
-          has = λ y h k l. by-test (eqb (getD owners y 0) j)
+          wide = length-set sets key v ∙ s .wide;
+          has = λ y h k l. by-test (eqb (setKey (getD owners y 0) (getD codes y 0)) key)
               (λ t.
-              let here′ : getD (set sets j v) (getD owners y 0) 0 ≡ v = ap (λ o. getD (set sets j v) o 0) (eqb-true (getD owners y 0) j t) ∙ getD-set-same sets j v 0 (omega (arith, s .wide)) in
+              let here′ : getD (set sets key v) (setKey (getD owners y 0) (getD codes y 0)) 0 ≡ v = ap (λ o. getD (set sets key v) o 0) (eqb-true (setKey (getD owners y 0) (getD codes y 0)) key t) ∙ getD-set-same sets key v 0 (omega (arith, s .wide)) in
               ap (λ w. inSet w (getD cells y 0)) here′ ∙ e (getD cells y 0)
               ∙ by-test (eqb y p)
               (λ u.
               let q′ : cell ≡ getD cells y 0 = i ∙ ap (λ z. getD cells z 0) (sym (eqb-true y p u)) in
-              or-first (eqb cell (getD cells y 0) && ltb cell 64) (inSet (getD sets j 0) (getD cells y 0)) (and-both (eqb cell (getD cells y 0)) (ltb cell 64) (rw q′ (same-refl (getD cells y 0))) (lt-ltb cell 64 (omega arith))))
-              (λ u. or-second (eqb cell (getD cells y 0) && ltb cell 64) (inSet (getD sets j 0) (getD cells y 0))
-              (ap (λ o. inSet (getD sets o 0) (getD cells y 0)) (sym (eqb-true (getD owners y 0) j t)) ∙ s .has y (omega (arith, eqb-false y p u)) k l)))
-              (λ g. ap (λ w. inSet w (getD cells y 0)) (getD-set-other sets j (getD owners y 0) v 0 (eqb-false (getD owners y 0) j g))
-              ∙ s .has y (by-test (eqb y p) (λ u. absurd (eqb-false (getD owners y 0) j g (ap (λ z. getD owners z 0) (eqb-true y p u) ∙ sym q))) (λ u. omega (arith, eqb-false y p u))) k l);
+              or-first (eqb cell (getD cells y 0) && ltb cell 64) (inSet (getD sets key 0) (getD cells y 0)) (and-both (eqb cell (getD cells y 0)) (ltb cell 64) (rw q′ (same-refl (getD cells y 0))) (lt-ltb cell 64 (omega arith))))
+              (λ u. or-second (eqb cell (getD cells y 0) && ltb cell 64) (inSet (getD sets key 0) (getD cells y 0))
+              (ap (λ o. inSet (getD sets o 0) (getD cells y 0)) (sym (eqb-true (setKey (getD owners y 0) (getD codes y 0)) key t)) ∙ s .has y (omega (arith, eqb-false y p u)) k l)))
+              (λ g. ap (λ w. inSet w (getD cells y 0)) (getD-set-other sets key (setKey (getD owners y 0) (getD codes y 0)) v 0 (eqb-false (setKey (getD owners y 0) (getD codes y 0)) key g))
+              ∙ s .has y (by-test (eqb y p) (λ u. absurd (eqb-false (setKey (getD owners y 0) (getD codes y 0)) key g (ap (λ z. setKey (getD owners z 0) (getD codes z 0)) (eqb-true y p u) ∙ ap (λ z. setKey z (getD codes p 0)) (sym o) ∙ sym q))) (λ u. omega (arith, eqb-false y p u))) k l);
         }
 
   -- all lines
-  pub covered-all : (p n : ℕ) (sets : List ℕ) → p ≡ n → Covered codes cells owners p kind sets → Covered codes cells owners n kind sets
+  pub covered-all : (p n : ℕ) (sets : List ℕ) → p ≡ n → Covered codes cells owners p sets → Covered codes cells owners n sets
   covered-all p n sets e s = rw (← e) s
+
+-- the sets of a job, by their places
+pub touched-is : (sets : List ℕ) (j a b c : ℕ) → a ≡ setKey j 0 → b ≡ setKey j 1 → c ≡ setKey j 2 → _≡_ {A = Touched} (record { reads = getD sets a 0; writes = getD sets b 0; increments = getD sets c 0 }) (touchedAt sets j)
+unfolding touchedAt
+touched-is sets j a b c ea eb ec = rw (ea, eb, ec)
 
 -- a table of zeros has nothing
 nothing : (n i : ℕ) → i < n → 0 < getD (replicate {A = ℕ} n 0) i 0 → ⊥

@@ -5,6 +5,7 @@ use mathlib.Core.Path.{_≡_, refl, sym, ap, _∙_}
 use mathlib.Core.List.{List, [], _∷_, _++_}
 use native.Mathlib.Nat.{add-zero, zero-add}
 use native.Mathlib.Omega.{arith}
+use lib.ListN.{length}
 use Rattle.conflict.specs.History.{History}
 use Rattle.judge_rules.specs.Arrays.{historyBy}
 use Rattle.judge_core.specs.Kept.{eventAt}
@@ -27,3 +28,20 @@ module _ (codes jobs cells : List ℕ) where
   history-events zero = refl
   history-events (suc n) =
       ap (λ h. h ++ eventAt codes jobs cells n ∷ []) (history-events n) ∙ sym (events-more 0 n ∙ ap (λ p. eventsFrom 0 n ++ eventAt codes jobs cells p ∷ []) (zero-add n))
+
+  -- as many as there are lines
+  pub events-length : (k m : ℕ) → length (eventsFrom k m) ≡ m
+  unfolding eventsFrom
+  events-length k zero = refl
+  events-length k (suc m) = ap suc (events-length (suc k) m)
+
+  -- parted at line k
+  pub events-parted : (j m b k r : ℕ) → m ≡ b + suc r → k ≡ j + b → eventsFrom j m ≡ eventsFrom j b ++ eventAt codes jobs cells k ∷ eventsFrom (suc k) r
+  unfolding eventsFrom
+  events-parted j m zero k r e l =
+      let one′ : m ≡ suc r = omega arith in
+      let two′ : k ≡ j = omega arith in
+      rw (one′, two′)
+  events-parted j m (suc b) k r e l =
+      let one′ : m ≡ suc (b + suc r) = omega arith in
+      rw one′ (ap (λ h. eventAt codes jobs cells j ∷ h) (events-parted (suc j) (b + suc r) b k r refl (omega arith)))

@@ -16,12 +16,12 @@ use Rattle.judge_rules.specs.Judged.{jobsOf}
 use Rattle.judge_rules.proofs.Histories.{jobs-only}
 use Rattle.judge_core.specs.Lists.{valuesOf}
 use Rattle.judge_core.specs.Counted.{hasCommit, ByteJobs}
-use Rattle.judge_core.specs.Grouped.{edgesIn}
 use Rattle.judge_core.specs.Left.{leftOf}
+use Rattle.judge_core.specs.Preceding.{Known}
 use Rattle.judge_core.proofs.Tabled.{tab-at}
 use Rattle.judge_core.proofs.Listing.{listed-is, listed-has, listed-ascending, listed-fewer}
 use Rattle.judge_core.proofs.Marked.{has-commit}
-use Rattle.judge_core.proofs.EdgeTable.{commit-job}
+use Rattle.judge_core.proofs.PartEdges.{commit-job}
 use Rattle.judge_core.proofs.Said.{Took}
 
 module _ (codes jobs cells : List ℕ) (n : ℕ) (b : ByteJobs jobs n) (done : List Bool) (d : done ≡ valuesOf (hasCommit codes jobs n) 256) where
@@ -58,13 +58,13 @@ module _ (codes jobs cells : List ℕ) (n : ℕ) (b : ByteJobs jobs n) (done : L
       ∙ by-test (marked isCommit 0 (historyBy codes jobs cells n)) (λ t. absurd (marked-job 0 t .1 refl)) (λ f. f) in
       rw (← flags-jobs) (listed-fewer (λ j. getD done j false) 0 255 none′)
 
-  -- what taking them away by the table leaves
-  pub took : (table left : List Bool) (placed : List ℕ) (k : ℕ) → edgesIn table ≡ edge (committedPart (historyBy codes jobs cells n)) → leftOf left ≡ stuck (edgesIn table) (leftOf done) → take k placed ≡ orderOf (edgesIn table) (leftOf done) → k ≡ length (orderOf (edgesIn table) (leftOf done)) → Took (historyBy codes jobs cells n) table left placed k
-  took table left placed k e r o c =
+  -- what taking them away leaves
+  pub took : (left : List Bool) (placed predecessors : List ℕ) (k : ℕ) → leftOf left ≡ stuck (edge (committedPart (historyBy codes jobs cells n))) (leftOf done) → take k placed ≡ orderOf (edge (committedPart (historyBy codes jobs cells n))) (leftOf done) → k ≡ length (orderOf (edge (committedPart (historyBy codes jobs cells n))) (leftOf done)) → Known (edge (committedPart (historyBy codes jobs cells n))) left predecessors 256 → Took (historyBy codes jobs cells n) left placed predecessors k
+  took left placed predecessors k r o c p =
       record {
-        edges = e;
         few = flags-few;
-        remains = rw (e, flags-jobs) at r;
-        order = rw (e, flags-jobs) at o;
-        count = rw (e, flags-jobs) at c;
+        remains = rw flags-jobs at r;
+        order = rw flags-jobs at o;
+        count = rw flags-jobs at c;
+        known = p;
       }

@@ -10,8 +10,8 @@ use Rattle.terms.specs.declared.refusals.Refusal.the-variants.{ShortOrder}
 use Rattle.terms.specs.Limits.{judgedJobs}
 use Rattle.judge_rules.specs.declared.verdict.Verdict.{Verdict}
 use Rattle.judge_rules.specs.declared.verdict.Verdict.the-variants.{No}
-use Rattle.judge_rules.specs.Judged.{findingOf}
-use Rattle.judge_rules.specs.Judgement.{sayFinding}
+use Rattle.conflict.specs.Dirty.{dirtyOf}
+use Rattle.judge_rules.specs.Judgement.{sayHistory}
 use Rattle.judge_rules.specs.Arrays.{historyBy}
 use Rattle.judge_core.specs.declared.kept.Found.{Found}
 use Rattle.judge_core.specs.declared.kept.Found.the-variants.{Faultless, Faulty}
@@ -30,13 +30,13 @@ module _ (codes jobs cells buffer : List ℕ) (n : ℕ) where
     kept-faulty line why q = rw (le-ltb (length buffer) judgedJobs h, sym e ∙ q) (refl, refl)
 
     -- or else the verdict
-    pub kept-decided : f ≡ Faultless → keptJudgement codes jobs cells buffer n ≡ sayFinding buffer (findingOf (historyBy codes jobs cells n))
+    pub kept-decided : f ≡ Faultless → keptJudgement codes jobs cells buffer n ≡ sayHistory buffer (historyBy codes jobs cells n) (dirtyOf (historyBy codes jobs cells n))
     unfolding keptJudgement sayFound
     kept-decided q = rw (le-ltb (length buffer) judgedJobs h, sym e ∙ q)
 
     -- with the jobs that fill the buffer
-    pub kept-said : f ≡ Faultless → (r : Verdict) (last : List ℕ) → r ≡ sayFinding buffer (findingOf (historyBy codes jobs cells n)) .said →
-        last ≡ sayFinding buffer (findingOf (historyBy codes jobs cells n)) .order → (r ≡ keptJudgement codes jobs cells buffer n .said) × (last ≡ keptJudgement codes jobs cells buffer n .order)
+    pub kept-said : f ≡ Faultless → (r : Verdict) (last : List ℕ) → r ≡ sayHistory buffer (historyBy codes jobs cells n) (dirtyOf (historyBy codes jobs cells n)) .said →
+        last ≡ sayHistory buffer (historyBy codes jobs cells n) (dirtyOf (historyBy codes jobs cells n)) .order → (r ≡ keptJudgement codes jobs cells buffer n .said) × (last ≡ keptJudgement codes jobs cells buffer n .order)
     kept-said q r last a b =
         let d = kept-decided q in
         (a ∙ ap (λ j. j .said) (sym d), b ∙ ap (λ j. j .order) (sym d))

@@ -5,7 +5,7 @@ pub mod Codes
 pub mod Marked
 pub mod KeptLines
 pub mod Meetings
-pub mod EdgeTable
+pub mod PartEdges
 pub mod OwnLines
 pub mod Placing
 pub mod Marking
@@ -16,7 +16,8 @@ pub mod Covering
 pub mod Reaching
 pub mod ByParts
 pub mod Seeking
-pub mod Tallying
+pub mod Predecessors
+pub mod SameEdges
 pub mod TakingAway
 pub mod Trail
 pub mod Turning
@@ -27,5 +28,10 @@ pub mod Said
 pub mod JobFlags
 pub mod KeptFaults
 pub mod Faultless
+pub mod Ending
+pub mod DirtyLines
+pub mod Opening
+pub mod DirtyFirst
+pub mod DirtySaid
 pub mod KeptLaws
 pub mod KeptUnique

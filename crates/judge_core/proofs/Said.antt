@@ -1,7 +1,7 @@
 -- The verdict said: an order where no job remains, else the knot, with the jobs that fill the buffer.
 -- Assumes nothing.
 use Prim.Native.Nat.{ℕ, _+_, _-_, _≤_, _<_, min}
-use mathlib.Core.Path.{_≡_, refl, sym, ap, ap₂, _∙_, subst}
+use mathlib.Core.Path.{_≡_, refl, sym, ap, _∙_, subst}
 use mathlib.Core.Bool.{Bool, true}
 use mathlib.Core.List.{List, [], _∷_}
 use mathlib.Core.Option.{Option, none, some}
@@ -18,6 +18,7 @@ use Rattle.judge_rules.specs.Knot.{least, upTo, from, walk, turnTo, turn, knotI
 use Rattle.judge_rules.specs.Judged.{orderly, knotted, findingBy, judged, jobsOf, findingOf}
 use Rattle.judge_rules.specs.Meant.{Knotted}
 use Rattle.judge_rules.specs.Judgement.{filled, sayFinding}
+use Rattle.judge_rules.proofs.Firsts.{first-is}
 use Rattle.judge_rules.proofs.Turns.{cut}
 use Rattle.judge_rules.proofs.Orders.{taken-only, taken-once, rest-ascending}
 use Rattle.judge_rules.proofs.Remains.{rest-preceded}
@@ -25,10 +26,11 @@ use Rattle.judge_rules.proofs.Taking.{order-taken}
 use Rattle.judge_rules.proofs.Walking.{no-more}
 use Rattle.judge_rules.proofs.OneKnot.{looks-enough}
 use Rattle.judge_rules.proofs.Histories.{jobs-ascending, knot-shows}
-use Rattle.judge_core.specs.Grouped.{edgesIn}
 use Rattle.judge_core.specs.Left.{leftOf, orNobody}
+use Rattle.judge_core.specs.Preceding.{Known, walkBy}
 use Rattle.judge_core.specs.Rounds.{RoundAt, putIn}
-use Rattle.judge_core.proofs.Seeking.{found-left, none-left, left-few}
+use Rattle.judge_core.proofs.Seeking.{found-left, none-left, left-few, left-is}
+use Rattle.judge_core.proofs.Trail.{walk-known}
 
 -- a cycle turned is as long
 turn-length : (round : List ℕ) → length (turn round) ≡ length round
@@ -97,14 +99,14 @@ stuck-knot e jobs s rest n up q b =
     rw q (ap (λ r. knotted (turn r)) (sym (looks-enough e s rest rising each n b)))
 
 -- the jobs of a history have been taken away by its edges as long as one was ready
-pub record Took (h : History) (table left : List Bool) (placed : List ℕ) (k : ℕ) : Type 0 where
-  pub edges : edgesIn table ≡ edge (committedPart h)
+pub record Took (h : History) (left : List Bool) (placed predecessors : List ℕ) (k : ℕ) : Type 0 where
   pub few : length (jobsOf h) ≤ 255
   pub remains : leftOf left ≡ stuck (edge (committedPart h)) (jobsOf h)
   pub order : take k placed ≡ orderOf (edge (committedPart h)) (jobsOf h)
   pub count : k ≡ length (orderOf (edge (committedPart h)) (jobsOf h))
+  pub known : Known (edge (committedPart h)) left predecessors 256
 
-module _ (h : History) (table left : List Bool) (placed : List ℕ) (k : ℕ) (t : Took h table left placed k) where
+module _ (h : History) (left : List Bool) (placed predecessors : List ℕ) (k : ℕ) (t : Took h left placed predecessors k) where
   -- no more jobs are taken than the buffer has places
   pub took-few : k ≤ 255
   took-few =
@@ -122,7 +124,7 @@ module _ (h : History) (table left : List Bool) (placed : List ℕ) (k : ℕ) (t
         rw (none′, t .order)
 
     -- else it is the knot
-    pub took-knot : (s ≡ 256 → ⊥) → (s < 256) × (findingOf h ≡ knotted (turn (walk (edgesIn table) (leftOf left) 257 [] s)))
+    pub took-knot : (s ≡ 256 → ⊥) → (s < 256) × (findingOf h ≡ knotted (turn (walkBy predecessors 257 [] s)))
     unfolding findingOf
     took-knot n =
         let by = found-left left (λ j. true) s found n in
@@ -130,14 +132,15 @@ module _ (h : History) (table left : List Bool) (placed : List ℕ) (k : ℕ) (t
           by .1,
           stuck-knot (edge (committedPart h)) (jobsOf h) s (leads′ .0) 257 (jobs-ascending h) (sym (t .remains) ∙ leads′ .1)
               (subst (λ l. length l < 257) (leads′ .1) (omega (arith, left-few left)))
-              ∙ ap₂ (λ e l. knotted (turn (walk e l 257 [] s))) (sym (t .edges)) (sym (leads′ .1)),
+              ∙ ap (λ l. knotted (turn (walk (edge (committedPart h)) l 257 [] s))) (sym (leads′ .1))
+              ∙ ap (λ r. knotted (turn r)) (sym (walk-known (edge (committedPart h)) left predecessors (t .known) 257 [] s (by .1) (left-is left s (first-is (λ j. true) (leftOf left) s (by .0) .0)))),
         )
 
     -- and has room in the buffer
-    pub took-room : (s ≡ 256 → ⊥) → length (turn (walk (edgesIn table) (leftOf left) 257 [] s)) ≤ 255
+    pub took-room : (s ≡ 256 → ⊥) → length (turn (walkBy predecessors 257 [] s)) ≤ 255
     took-room n =
-        let shows : Knotted (edge (committedPart h)) (jobsOf h) (turn (walk (edgesIn table) (leftOf left) 257 [] s)) = knot-shows h (turn (walk (edgesIn table) (leftOf left) 257 [] s)) (took-knot n .1) in
-        omega (arith, t .few, no-more (turn (walk (edgesIn table) (leftOf left) 257 [] s)) (jobsOf h) (shows .once) (shows .only))
+        let shows : Knotted (edge (committedPart h)) (jobsOf h) (turn (walkBy predecessors 257 [] s)) = knot-shows h (turn (walkBy predecessors 257 [] s)) (took-knot n .1) in
+        omega (arith, t .few, no-more (turn (walkBy predecessors 257 [] s)) (jobsOf h) (shows .once) (shows .only))
 
     -- the order's length is said
     pub said-order : s ≡ 256 → (buffer : List ℕ) → Orderly k ≡ sayFinding buffer (findingOf h) .said
@@ -152,11 +155,11 @@ module _ (h : History) (table left : List Bool) (placed : List ℕ) (k : ℕ) (t
         e ∙ rw (took-order n, same′, zero-add (length (take k placed)))
 
     -- or the knot's length is said
-    pub said-knot : (s ≡ 256 → ⊥) → (buffer : List ℕ) (r : Verdict) → r ≡ sayFinding buffer (knotted (turn (walk (edgesIn table) (leftOf left) 257 [] s))) .said → r ≡ sayFinding buffer (findingOf h) .said
+    pub said-knot : (s ≡ 256 → ⊥) → (buffer : List ℕ) (r : Verdict) → r ≡ sayFinding buffer (knotted (turn (walkBy predecessors 257 [] s))) .said → r ≡ sayFinding buffer (findingOf h) .said
     said-knot n buffer r e = e ∙ ap (λ v. sayFinding buffer v .said) (sym (took-knot n .1))
 
     -- and its jobs fill the buffer
-    pub put-knot : (s ≡ 256 → ⊥) → (buffer last : List ℕ) → last ≡ sayFinding buffer (knotted (turn (walk (edgesIn table) (leftOf left) 257 [] s))) .order → last ≡ sayFinding buffer (findingOf h) .order
+    pub put-knot : (s ≡ 256 → ⊥) → (buffer last : List ℕ) → last ≡ sayFinding buffer (knotted (turn (walkBy predecessors 257 [] s))) .order → last ≡ sayFinding buffer (findingOf h) .order
     put-knot n buffer last e = e ∙ ap (λ v. sayFinding buffer v .order) (sym (took-knot n .1))
 
 -- the jobs taken have room in a buffer of 255 places

@@ -1,26 +1,20 @@
 -- The smallest job that is left and passes a test, looked for from the smallest number on.
 -- Assumes nothing.
-use Prim.Native.Nat.{ℕ, suc, _+_, _-_, _*_, _≤_, _<_}
-use mathlib.Core.Path.{_≡_, refl, sym, ap, _∙_}
+use Prim.Native.Nat.{ℕ, zero, suc, _+_, _-_, _≤_, _<_}
+use mathlib.Core.Path.{_≡_, refl, sym, ap, _∙_, subst}
 use mathlib.Core.Bool.{Bool, true, false}
 use mathlib.Core.List.{List}
 use mathlib.Core.Option.{Option, none, some}
 use native.Mathlib.Numerals.{add-one}
 use native.Mathlib.Omega.{arith}
 use lib.ListN.{length, getD}
-use borrow.Author.Tests.{lt-ltb}
-use Rattle.laws.specs.Choice.{by-test}
+use Rattle.laws.specs.Choice.{by-test, not-both}
 use Rattle.laws.specs.Lists.{member, put}
 use Rattle.judge_rules.specs.Order.{first}
 use Rattle.judge_rules.proofs.Firsts.{by-one, first-is}
 use Rattle.judge_core.specs.Lists.{listed}
-use Rattle.judge_core.specs.Grouped.{edgesIn}
-use Rattle.judge_core.specs.Left.{leftOf, orNobody}
-use Rattle.judge_core.proofs.Listing.{listed-is, listed-few}
-
--- the jobs from i on that are left
-unfoldable pub leftFrom : List Bool → ℕ → List ℕ
-leftFrom left i = listed (λ j. getD left j false) i (256 - i)
+use Rattle.judge_core.specs.Left.{leftOf, leftFrom, orNobody}
+use Rattle.judge_core.proofs.Listing.{listed-is, listed-has, listed-few}
 
 module _ (left : List Bool) where
   -- the next number, if it is left, and those behind it
@@ -62,10 +56,33 @@ module _ (left : List Bool) where
         let empty : first test (leftFrom left i) ≡ none = rw z in
         sym (ap orNobody (e ∙ empty))
 
+    -- where none of the first i passes, the others are looked at
+    pub seek-behind : (i : ℕ) → i ≤ 256 → ((k : ℕ) → k < i → getD left k false ≡ true → test k ≡ false) → first test (leftOf left) ≡ first test (leftFrom left i)
+    seek-behind zero b h = seek-start
+    seek-behind (suc i) b h =
+        let before : first test (leftOf left) ≡ first test (leftFrom left i) = seek-behind i (omega arith) (λ k l t. h k (omega arith) t) in
+        subst (λ m. first test (leftOf left) ≡ first test (leftFrom left m)) (add-one i)
+        (by-test (getD left i false) (λ t. seek-past i (first test (leftOf left)) (omega arith) (h i (omega arith) t) before) (λ f. seek-gone i (first test (leftOf left)) (omega arith) f before))
+
   -- a job that is left is one of 256
   pub left-small : (j : ℕ) → member j (leftOf left) ≡ true → j < 256
   unfolding leftOf
   left-small j m = let r = listed-is (λ i. getD left i false) 0 256 j m in omega (arith, r .1)
+
+  -- its flag is set
+  pub left-is : (j : ℕ) → member j (leftOf left) ≡ true → getD left j false ≡ true
+  unfolding leftOf
+  left-is j m = listed-is (λ i. getD left i false) 0 256 j m .2
+
+  -- and one whose flag is set is left
+  pub left-has : (j : ℕ) → j < 256 → getD left j false ≡ true → member j (leftOf left) ≡ true
+  unfolding leftOf
+  left-has j b t = listed-has (λ i. getD left i false) 0 256 j (omega arith) (omega arith) t
+
+  -- where job 0 is not left, one that is is not 0
+  pub left-not-0 : (j : ℕ) → getD left 0 false ≡ false → getD left j false ≡ true → 0 < j
+  left-not-0 zero z t = not-both t z
+  left-not-0 (suc j) z t = omega arith
 
   -- and they are no more
   pub left-few : length (leftOf left) ≤ 256
@@ -91,8 +108,3 @@ module _ (left : List Bool) where
       let small : i < 256 = left-small i (first-is test (leftOf left) i q .0) in
       let same′ : j ≡ i = h ∙ ap orNobody q in
       absurd (omega arith))
-
--- the table's edges between two of the 256 jobs
-pub edge-there : (table : List Bool) (i j : ℕ) → i < 256 → j < 256 → edgesIn table i j ≡ getD table (i * 256 + j) false
-unfolding edgesIn
-edge-there table i j bi bj = rw (lt-ltb i 256 bi, lt-ltb j 256 bj)

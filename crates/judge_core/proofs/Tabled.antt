@@ -1,8 +1,7 @@
 -- A table of values: how long it is, what stands at each place, and what one store makes of it.
 -- Assumes nothing.
-use Prim.Native.Nat.{ℕ, zero, suc, _+_, _≤_, _<_}
+use Prim.Native.Nat.{ℕ, zero, suc, _<_}
 use mathlib.Core.Path.{_≡_, refl, sym, _∙_}
-use mathlib.Core.Bool.{Bool, false}
 use mathlib.Core.List.{List, [], _∷_}
 use native.Mathlib.Omega.{arith}
 use native.Mathlib.Numerals.{add-one}
@@ -55,26 +54,3 @@ module _ {A : Type 0} where
       by-test (eqb i k)
       (λ t. rw (eqb-true i k t) (getD-set-same (valuesOf f n) k v d (rw (tab-length f n) b) ∙ e))
       (λ t. getD-set-other (valuesOf f n) k i v d (eqb-false i k t) ∙ tab-at f n d i l ∙ h i l (eqb-false i k t)))
-
--- the first x of n places of a table say what f does
-pub record Told (f : ℕ → Bool) (n x : ℕ) (table : List Bool) : Type 0 where
-  pub wide : length table ≡ n
-  pub there : (y : ℕ) → y < x → getD table y false ≡ f y
-
--- nothing is told
-pub told-none : (f : ℕ → Bool) (n : ℕ) → Told f n 0 (replicate n false)
-told-none f n = record { wide = length-replicate n false; there = λ y h. absurd (omega arith) }
-
--- one place more
-pub told-more : (f : ℕ → Bool) (n x : ℕ) (table : List Bool) (v : Bool) → x < n → v ≡ f x → Told f n x table → Told f n (x + 1) (set table x v)
-told-more f n x table v h e t =
-    record {
-      wide = length-set table x v ∙ t .wide;
-      there = λ y b. by-test (eqb y x)
-          (λ q. rw (eqb-true y x q) (getD-set-same table x v false (omega (arith, t .wide)) ∙ e))
-          (λ q. getD-set-other table x y v false (eqb-false y x q) ∙ t .there y (omega (arith, eqb-false y x q)));
-    }
-
--- all places
-pub told-all : (f : ℕ → Bool) (n x : ℕ) (table : List Bool) → n ≤ x → Told f n x table → table ≡ valuesOf f n
-told-all f n x table h t = tab-is f n false table (t .wide) (λ y b. t .there y (omega arith))

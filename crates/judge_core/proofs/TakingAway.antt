@@ -2,7 +2,7 @@
 -- Assumes nothing.
 use Prim.Native.Nat.{ℕ, suc, _+_, _-_, _≤_, _<_}
 use mathlib.Core.Path.{_≡_, refl, sym, ap, _∙_}
-use mathlib.Core.Bool.{Bool, true, false, not}
+use mathlib.Core.Bool.{Bool, false, not}
 use mathlib.Core.List.{List, [], _∷_, _++_, append-assoc, append-nil}
 use mathlib.Core.Option.{none, some}
 use native.Mathlib.Numerals.{add-one}
@@ -104,11 +104,6 @@ module _ (e : Edges) where
       pub going-fewer : length (leftOf (set left j false)) < length (leftOf left)
       going-fewer =
           rw (left-without left j (g .flags) (found-ready .1)) (shorter j (leftOf left) (ready-is e (leftOf left) j (found-ready .0) .0))
-
-      -- it was left
-      pub going-left : getD left j false ≡ true
-      unfolding leftOf
-      going-left = listed-is (λ i. getD left i false) 0 256 j (ready-is e (leftOf left) j (found-ready .0) .0) .2
 
       -- it has a place
       pub going-fits : (j < 256) × (k < 256)

@@ -1,6 +1,6 @@
 -- The walk back along smallest predecessors, its jobs put down from the end of a trail to its front.
 -- Assumes nothing.
-use Prim.Native.Nat.{ℕ, suc, _+_, _-_, _≤_, _<_}
+use Prim.Native.Nat.{ℕ, zero, suc, _+_, _-_, _≤_, _<_}
 use mathlib.Core.Path.{_≡_, refl, sym, ap, _∙_, subst}
 use mathlib.Core.Bool.{Bool, true, false}
 use mathlib.Core.List.{List, [], _∷_}
@@ -9,16 +9,18 @@ use native.Mathlib.Numerals.{add-one}
 use native.Mathlib.Omega.{arith}
 use lib.ListN.{length, getD, set, take, drop, length-set, length-drop, drop-of-length-le}
 use lib.Seq.{drop-cons, drop-set-lt, getD-set-same}
-use borrow.Author.Tests.{eq-eqb, ne-eqb}
+use borrow.Author.Tests.{eq-eqb, ne-eqb, lt-ltb, le-ltb}
 use lib.Dec.{eqb}
-use Rattle.laws.specs.Choice.{by-test}
+use Rattle.laws.specs.Choice.{pick, by-test}
 use Rattle.laws.specs.Lists.{member, pos}
 use Rattle.laws.proofs.Lists.{pos-later}
 use Rattle.judge_rules.specs.Order.{Edges}
 use Rattle.judge_rules.specs.Knot.{predecessor, upTo, walk}
+use Rattle.judge_rules.proofs.Firsts.{by-one, first-is}
 use Rattle.judge_core.specs.Left.{leftOf, orNobody}
+use Rattle.judge_core.specs.Preceding.{Known, walkBy}
 use Rattle.judge_core.specs.Rounds.{RoundAt}
-use Rattle.judge_core.proofs.Seeking.{found-left, none-left}
+use Rattle.judge_core.proofs.Seeking.{left-small, left-is}
 
 -- at a job's place it is found
 pub place-here : (trail : List ℕ) (p j : ℕ) → p < length trail → getD trail p 0 ≡ j → p ≡ p + pos (drop p trail) j
@@ -66,32 +68,32 @@ put-front trail m j h =
     ∙ rw (getD-set-same trail m j 0 h, drop-set-lt (suc m) trail m j (omega arith))
 
 -- where no job may be looked at there is no walk
-no-walk : (e : Edges) (jobs : List ℕ) (at : ℕ) (seen : List ℕ) (j : ℕ) → at ≡ 0 → walk e jobs at seen j ≡ []
-unfolding walk
-no-walk e jobs at seen j h = rw h
+no-walk : (predecessors : List ℕ) (at : ℕ) (seen : List ℕ) (j : ℕ) → at ≡ 0 → walkBy predecessors at seen j ≡ []
+unfolding walkBy
+no-walk predecessors at seen j h = rw h
 
 -- the walk has come to job j, and those that it came by stand on the trail, the last first; at jobs more may be looked at
-pub record Walked (e : Edges) (jobs : List ℕ) (start : ℕ) (trail : List ℕ) (at j : ℕ) : Type 0 where
+pub record Walked (predecessors : List ℕ) (start : ℕ) (trail : List ℕ) (at j : ℕ) : Type 0 where
   pub wide : length trail ≡ 257
   pub low : at ≤ 257
   pub small : j < 256
-  pub same : walk e jobs at (drop at trail) j ≡ walk e jobs 257 [] start
+  pub same : walkBy predecessors at (drop at trail) j ≡ walkBy predecessors 257 [] start
 
--- the walk starts
-pub walked-none : (e : Edges) (jobs : List ℕ) (start : ℕ) (trail : List ℕ) → length trail ≡ 257 → start < 256 → Walked e jobs start trail 257 start
-walked-none e jobs start trail w b =
-    let all : length trail ≤ 257 = omega arith in
-    record { wide = w; low = omega arith; small = b; same = rw (drop-of-length-le trail all) }
+module _ (predecessors : List ℕ) (start : ℕ) (trail : List ℕ) where
+  -- the walk starts
+  pub walked-none : length trail ≡ 257 → start < 256 → Walked predecessors start trail 257 start
+  walked-none w b =
+      let all : length trail ≤ 257 = omega arith in
+      record { wide = w; low = omega arith; small = b; same = rw (drop-of-length-le trail all) }
 
-module _ (e : Edges) (left : List Bool) (start : ℕ) (trail : List ℕ) (m j p : ℕ) where
-  module _ (walked : Walked e (leftOf left) start trail (suc m) j) (placed : p ≡ suc m + pos (drop (suc m) trail) j) where
+  module _ (m j p : ℕ) (walked : Walked predecessors start trail (suc m) j) (placed : p ≡ suc m + pos (drop (suc m) trail) j) where
     -- how many have been seen
     seen-count : length (drop (suc m) trail) ≡ 256 - m
     seen-count = rw (length-drop (suc m) trail) (omega (arith, walked .wide))
 
     -- a job that comes again closes the cycle
-    round-closed : p < 257 → RoundAt (walk e (leftOf left) 257 [] start) (set trail m j) m p
-    unfolding walk
+    round-closed : p < 257 → RoundAt (walkBy predecessors 257 [] start) (set trail m j) m p
+    unfolding walkBy
     round-closed b =
         let again : member j (drop (suc m) trail) ≡ true = pos-member j (drop (suc m) trail) (omega (arith, seen-count)) in
         let parts : p - m ≡ suc (pos (drop (suc m) trail) j) = omega arith in
@@ -101,56 +103,69 @@ module _ (e : Edges) (left : List Bool) (start : ℕ) (trail : List ℕ) (m j p 
           listed = rw (parts, put-front trail m j (omega (arith, walked .wide, walked .low)), take-pos j (drop (suc m) trail)) (sym (sym (walked .same) ∙ rw again));
         }
 
-    module _ (b : 257 ≤ p) (i : ℕ) (found′ : i ≡ orNobody (predecessor e (leftOf left) j)) where
+    module _ (b : 257 ≤ p) where
       -- a job that has not been seen goes on
       fresh : member j (drop (suc m) trail) ≡ false
       fresh = pos-none j (drop (suc m) trail) (omega (arith, seen-count))
 
       -- to its smallest predecessor
-      walk-on : (i ≡ 256 → ⊥) → Walked e (leftOf left) start (set trail m j) m i
-      unfolding walk predecessor
+      walk-on : getD predecessors j 0 < 256 → Walked predecessors start (set trail m j) m (getD predecessors j 0)
+      unfolding walkBy
       walk-on n =
-          let by = found-left left (λ k. e k j) i found′ n in
           record {
             wide = length-set trail m j ∙ walked .wide;
             low = omega (arith, walked .low);
-            small = by .1;
-            same = rw (put-front trail m j (omega (arith, walked .wide, walked .low))) (sym (sym (walked .same) ∙ rw (fresh, by .0)));
+            small = n;
+            same = rw (put-front trail m j (omega (arith, walked .wide, walked .low))) (sym (sym (walked .same) ∙ rw (fresh, lt-ltb (getD predecessors j 0) 256 n)));
           }
 
       -- and if it had none there would be no cycle
-      walk-off : i ≡ 256 → (trail′ : List ℕ) → RoundAt (walk e (leftOf left) 257 [] start) trail′ 0 0
-      unfolding walk predecessor
+      walk-off : 256 ≤ getD predecessors j 0 → (trail′ : List ℕ) → RoundAt (walkBy predecessors 257 [] start) trail′ 0 0
+      unfolding walkBy
       walk-off n trail′ =
           record {
             starting = omega arith;
             within = omega arith;
-            listed = sym (sym (walked .same) ∙ rw (fresh, none-left left (λ k. e k j) i found′ n));
+            listed = sym (sym (walked .same) ∙ rw (fresh, le-ltb (getD predecessors j 0) 256 n));
           }
 
-module _ (e : Edges) (left : List Bool) (start : ℕ) (trail : List ℕ) (at j p : ℕ) (h : 0 < at) (walked : Walked e (leftOf left) start trail at j) (placed : p ≡ at + pos (drop at trail) j) where
-  -- the job before the next place
-  stepped : Walked e (leftOf left) start trail (suc (at - 1)) j
-  stepped = let q : at ≡ suc (at - 1) = omega arith in subst (λ k. Walked e (leftOf left) start trail k j) q walked
+  module _ (at j p : ℕ) (h : 0 < at) (walked : Walked predecessors start trail at j) (placed : p ≡ at + pos (drop at trail) j) where
+    -- the job before the next place
+    stepped : Walked predecessors start trail (suc (at - 1)) j
+    stepped = let q : at ≡ suc (at - 1) = omega arith in subst (λ k. Walked predecessors start trail k j) q walked
 
-  -- and where it stands
-  standing : p ≡ suc (at - 1) + pos (drop (suc (at - 1)) trail) j
-  standing = let q : at ≡ suc (at - 1) = omega arith in subst (λ k. p ≡ k + pos (drop k trail) j) q placed
+    -- and where it stands
+    standing : p ≡ suc (at - 1) + pos (drop (suc (at - 1)) trail) j
+    standing = let q : at ≡ suc (at - 1) = omega arith in subst (λ k. p ≡ k + pos (drop k trail) j) q placed
 
-  -- a job that comes again closes the cycle
-  pub walked-round : p < 257 → RoundAt (walk e (leftOf left) 257 [] start) (set trail (at - 1) j) (at - 1) p
-  walked-round b = round-closed e left start trail (at - 1) j p stepped standing b
+    -- a job that comes again closes the cycle
+    pub walked-round : p < 257 → RoundAt (walkBy predecessors 257 [] start) (set trail (at - 1) j) (at - 1) p
+    walked-round b = round-closed (at - 1) j p stepped standing b
 
-  module _ (b : 257 ≤ p) (i : ℕ) (found′ : i ≡ orNobody (predecessor e (leftOf left) j)) where
-    -- any other goes on to its smallest predecessor
-    pub walked-more : (i ≡ 256 → ⊥) → Walked e (leftOf left) start (set trail (at - 1) j) (at - 1) i
-    walked-more n = walk-on e left start trail (at - 1) j p stepped standing b i found′ n
+    module _ (b : 257 ≤ p) where
+      -- any other goes on to its smallest predecessor
+      pub walked-more : getD predecessors j 0 < 256 → Walked predecessors start (set trail (at - 1) j) (at - 1) (getD predecessors j 0)
+      walked-more n = walk-on (at - 1) j p stepped standing b n
 
-    -- and if it had none there would be no cycle
-    pub walked-off : i ≡ 256 → (trail′ : List ℕ) → RoundAt (walk e (leftOf left) 257 [] start) trail′ 0 0
-    walked-off n trail′ = walk-off e left start trail (at - 1) j p stepped standing b i found′ n trail′
+      -- and if it had none there would be no cycle
+      pub walked-off : 256 ≤ getD predecessors j 0 → (trail′ : List ℕ) → RoundAt (walkBy predecessors 257 [] start) trail′ 0 0
+      walked-off n trail′ = walk-off (at - 1) j p stepped standing b n trail′
 
--- when no more jobs may be looked at there is none
-pub walked-out : (e : Edges) (jobs : List ℕ) (start : ℕ) (trail : List ℕ) (at j : ℕ) → at ≡ 0 → Walked e jobs start trail at j → RoundAt (walk e jobs 257 [] start) trail 0 0
-walked-out e jobs start trail at j h w =
-    record { starting = omega arith; within = omega arith; listed = sym (sym (w .same) ∙ no-walk e jobs at (drop at trail) j h) }
+  -- when no more jobs may be looked at there is none
+  pub walked-out : (at j : ℕ) → at ≡ 0 → Walked predecessors start trail at j → RoundAt (walkBy predecessors 257 [] start) trail 0 0
+  walked-out at j h w =
+      record { starting = omega arith; within = omega arith; listed = sym (sym (w .same) ∙ no-walk predecessors at (drop at trail) j h) }
+
+-- where the smallest predecessors of the jobs that are left are known, the walk is that of the judge's rules
+pub walk-known : (e : Edges) (left : List Bool) (predecessors : List ℕ) → Known e left predecessors 256 → (n : ℕ) (seen : List ℕ) (j : ℕ) → j < 256 → getD left j false ≡ true → walkBy predecessors n seen j ≡ walk e (leftOf left) n seen j
+unfolding walkBy walk predecessor orNobody
+walk-known e left predecessors h zero seen j b l = refl
+walk-known e left predecessors h (suc n) seen j b l =
+    ap (λ further. pick (member j seen) (j ∷ upTo j seen) further)
+    (by-one (predecessor e (leftOf left) j)
+    (λ q. let nobody : getD predecessors j 0 ≡ 256 = h j b l ∙ ap orNobody q in rw (nobody, q))
+    (λ i q.
+    let there : getD predecessors j 0 ≡ i = h j b l ∙ ap orNobody q in
+    let is = first-is (λ k. e k j) (leftOf left) i q .0 in
+    let small : i < 256 = left-small left i is in
+    rw (there, q, lt-ltb i 256 small) (walk-known e left predecessors h n (j ∷ seen) i small (left-is left i is))))

@@ -1,8 +1,8 @@
 -- What the edges are worked out from, as the passes over the lines leave it.
 -- Assumes nothing.
 use Prim.Native.Nat.{ℕ, _-_, _≤_, _<_}
-use mathlib.Core.Path.{_≡_, refl, sym, ap, _∙_, subst}
-use mathlib.Core.Bool.{Bool, true, false}
+use mathlib.Core.Path.{_≡_, sym, _∙_, subst}
+use mathlib.Core.Bool.{true, false}
 use mathlib.Core.List.{List}
 use native.Mathlib.Omega.{arith}
 use lib.Dec.{eqb, ltb, leb}
@@ -15,13 +15,11 @@ use Rattle.conflict.specs.Cells.{inSet, actsOn, canConflict}
 use Rattle.conflict.proofs.Conflicting.{conflict-kinds}
 use Rattle.conflict.proofs.CellSets.{can-conflict, acts-read, acts-write, acts-increment}
 use Rattle.judge_core.specs.Lists.{valuesOf}
-use Rattle.judge_core.specs.Counted.{hasCommit, ownerAt, ownersBy, ByteJobs}
+use Rattle.judge_core.specs.Counted.{ownerAt, ownersBy, ByteJobs}
 use Rattle.judge_core.specs.Meeting.{kindBy, actionBy, actionAt, clashing}
 use Rattle.judge_core.specs.Grouped.{ownedLines, partAt, Parted}
-use Rattle.judge_core.specs.Reaching.{Acting, Covered, touchedAt, lastKey, Lasts, Reach, Masked, Worked}
-use Rattle.judge_core.proofs.Tabled.{tab-at}
+use Rattle.judge_core.specs.Reaching.{Acting, Covered, setKey, touchedAt, lastKey, Lasts, Reach, Masked, Worked}
 use Rattle.judge_core.proofs.Listing.{listed-is, listed-has}
-use Rattle.judge_core.proofs.EdgeTable.{commit-job}
 use Rattle.judge_core.proofs.Assembled.{owned}
 use Rattle.judge_core.proofs.Reaching.{one-cell}
 
@@ -70,37 +68,35 @@ module _ (codes jobs cells owners : List ℕ) (n : ℕ) (act : Acting codes jobs
         there-cell = λ k c l d h. s .cell j k c b l d h;
       }
 
-  module _ (reads writes increments : List ℕ) (cr : Covered codes cells owners n 0 reads) (cw : Covered codes cells owners n 1 writes) (ci : Covered codes cells owners n 2 increments) where
+  module _ (sets : List ℕ) (cover : Covered codes cells owners n sets) where
     -- a line of job i is on a cell of its set
-    acts-there : (i x : ℕ) → (i ≡ 0 → ⊥) → member x (ownedLines owners n i) ≡ true → actsOn (touchedAt reads writes increments i) (kindBy (getD codes x 0)) (getD cells x 0) ≡ true
+    acts-there : (i x : ℕ) → (i ≡ 0 → ⊥) → member x (ownedLines owners n i) ≡ true → actsOn (touchedAt sets i) (kindBy (getD codes x 0)) (getD cells x 0) ≡ true
     unfolding kindBy touchedAt
     acts-there i x z m =
         let r = its-line i x m in
         let some′ : getD owners x 0 ≡ 0 → ⊥ = λ q. z (sym (r .1) ∙ q) in
-        let low = act .cell x (r .0) some′ in
+        let low = act .code x (r .0) some′ in
+        let has : inSet (getD sets (setKey i (getD codes x 0)) 0) (getD cells x 0) ≡ true = subst (λ o. inSet (getD sets (setKey o (getD codes x 0)) 0) (getD cells x 0) ≡ true) (r .1) (cover .has x (r .0) low (act .cell x (r .0) some′)) in
+        let of : (k : ℕ) → getD codes x 0 ≡ k → inSet (getD sets (setKey i k) 0) (getD cells x 0) ≡ true = λ k e. subst (λ o. inSet (getD sets (setKey i o) 0) (getD cells x 0) ≡ true) e has in
         by-test (eqb (getD codes x 0) 0)
-        (λ t. rw t (acts-read (touchedAt reads writes increments i) (getD cells x 0) ∙ subst (λ o. inSet (getD reads o 0) (getD cells x 0) ≡ true) (r .1) (cr .has x (r .0) (eqb-true (getD codes x 0) 0 t) low)))
+        (λ t. rw t (acts-read (touchedAt sets i) (getD cells x 0) ∙ of 0 (eqb-true (getD codes x 0) 0 t)))
         (λ f. by-test (eqb (getD codes x 0) 1)
-        (λ t. rw (f, t) (acts-write (touchedAt reads writes increments i) (getD cells x 0) ∙ subst (λ o. inSet (getD writes o 0) (getD cells x 0) ≡ true) (r .1) (cw .has x (r .0) (eqb-true (getD codes x 0) 1 t) low)))
-        (λ g.
-        let two′ : getD codes x 0 ≡ 2 = omega (arith, eqb-false (getD codes x 0) 0 f, eqb-false (getD codes x 0) 1 g, act .code x (r .0) some′) in
-        rw (f, g) (acts-increment (touchedAt reads writes increments i) (getD cells x 0) ∙ subst (λ o. inSet (getD increments o 0) (getD cells x 0) ≡ true) (r .1) (ci .has x (r .0) two′ low))))
+        (λ t. rw (f, t) (acts-write (touchedAt sets i) (getD cells x 0) ∙ of 1 (eqb-true (getD codes x 0) 1 t)))
+        (λ g. rw (f, g) (acts-increment (touchedAt sets i) (getD cells x 0) ∙ of 2 (omega (arith, eqb-false (getD codes x 0) 0 f, eqb-false (getD codes x 0) 1 g)))))
 
     -- two jobs' lines conflict on the cells where their sets meet
-    masks-them : (i j m : ℕ) → (i ≡ 0 → ⊥) → (j ≡ 0 → ⊥) → ((c : ℕ) → inSet m c ≡ canConflict (touchedAt reads writes increments i) (touchedAt reads writes increments j) c) → Masked codes jobs cells m (ownedLines owners n i) (ownedLines owners n j)
+    masks-them : (i j m : ℕ) → (i ≡ 0 → ⊥) → (j ≡ 0 → ⊥) → ((c : ℕ) → inSet m c ≡ canConflict (touchedAt sets i) (touchedAt sets j) c) → Masked codes jobs cells m (ownedLines owners n i) (ownedLines owners n j)
     masks-them i j m zi zj h x y mx my t =
         h (getD cells x 0)
-        ∙ can-conflict (touchedAt reads writes increments i) (touchedAt reads writes increments j) (kindBy (getD codes x 0)) (kindBy (getD codes y 0)) (getD cells x 0) (acts-there i x zi mx)
-        (subst (λ c. actsOn (touchedAt reads writes increments j) (kindBy (getD codes y 0)) c ≡ true) (sym (one-cell codes jobs cells x y t)) (acts-there j y zj my))
+        ∙ can-conflict (touchedAt sets i) (touchedAt sets j) (kindBy (getD codes x 0)) (kindBy (getD codes y 0)) (getD cells x 0) (acts-there i x zi mx)
+        (subst (λ c. actsOn (touchedAt sets j) (kindBy (getD codes y 0)) c ≡ true) (sym (one-cell codes jobs cells x y t)) (acts-there j y zj my))
         (kinds-clash codes jobs cells x y t)
 
     -- all of it
-    pub worked : (done : List Bool) (lines starts lasts : List ℕ) → done ≡ valuesOf (hasCommit codes jobs n) 256 → ByteJobs jobs n → Parted lines starts → ((j : ℕ) → j < 256 → partAt lines starts j ≡ ownedLines owners n j) → Lasts codes cells owners n lasts → Worked codes jobs cells done lines starts lasts reads writes increments
-    worked done lines starts lasts d b p same′ s =
+    pub worked : (lines starts lasts : List ℕ) → Parted lines starts → ((j : ℕ) → j < 256 → partAt lines starts j ≡ ownedLines owners n j) → Lasts codes cells owners n lasts → Worked codes jobs cells lines starts lasts sets
+    worked lines starts lasts p same′ s =
         record {
           parts = p;
-          idle = ap (λ l. getD l 0 false) d ∙ tab-at (hasCommit codes jobs n) 256 false 0 (omega arith)
-              ∙ by-test (hasCommit codes jobs n 0) (λ t. absurd (commit-job codes jobs n (b .bytes) (b .given) n 0 (omega arith) t .1 refl)) (λ f. f);
           reach = λ j l z. subst (λ ys. Reach codes jobs cells lasts j ys) (sym (same′ j l)) (reaches lasts s j l z);
           masks = λ i j m li lj zi zj h.
               subst (λ xs. Masked codes jobs cells m xs (partAt lines starts j)) (sym (same′ i li))

@@ -14,9 +14,9 @@ use Rattle.conflict.specs.declared.action.Mark.{Mark}
 use Rattle.conflict.specs.declared.action.Event.{Event}
 use Rattle.conflict.specs.declared.action.Event.the-variants.{Does, Ends}
 use Rattle.conflict.specs.History.{History, isBack, marked}
+use Rattle.conflict.specs.Dirty.{dirtyOf}
 use Rattle.judge_rules.specs.declared.verdict.Verdict.the-variants.{No}
-use Rattle.judge_rules.specs.Judged.{findingOf}
-use Rattle.judge_rules.specs.Judgement.{Judgement, sayFinding}
+use Rattle.judge_rules.specs.Judgement.{Judgement, sayHistory}
 use Rattle.judge_rules.specs.Arrays.{eventBy, historyBy}
 use Rattle.judge_core.specs.declared.kept.Fault.{Fault}
 use Rattle.judge_core.specs.declared.kept.Fault.the-variants.{Nothing, Due}
@@ -63,7 +63,7 @@ refusedAt buffer line why = record { said = No line why; order = buffer; line = 
 
 -- the first faulty line's refusal, or the verdict on the history
 unfoldable pub sayFound : List ℕ → History → Found → Judgement
-sayFound buffer h Faultless = sayFinding buffer (findingOf h)
+sayFound buffer h Faultless = sayHistory buffer h (dirtyOf h)
 sayFound buffer h (Faulty line why) = refusedAt buffer line why
 
 -- the first n lines: 14 first, with line number 0; then the lines in order

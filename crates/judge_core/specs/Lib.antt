@@ -8,3 +8,4 @@ pub mod Left
 pub mod Preceding
 pub mod Rounds
 pub mod Kept
+pub mod RunEnds

@@ -1,32 +1,35 @@
--- How many predecessors that are left each job has, counted once and kept (01, The judge's rules: Orderly, Knot).
-use Prim.Native.Nat.{ℕ, zero, suc, _+_, _*_, _<_}
+-- Each job's smallest predecessor that is left, kept while jobs are taken away, and the walk back along them (01, The judge's rules: Orderly, Knot).
+use Prim.Native.Nat.{ℕ, zero, suc, _≤_, _<_}
 use mathlib.Core.Path.{_≡_}
-use mathlib.Core.Bool.{Bool, true, false, _&&_}
-use mathlib.Core.List.{List}
+use mathlib.Core.Bool.{Bool, true, false}
+use mathlib.Core.List.{List, [], _∷_}
+use lib.Dec.{ltb}
 use lib.ListN.{length, getD}
+use Rattle.laws.specs.Choice.{pick}
+use Rattle.laws.specs.Lists.{member}
+use Rattle.judge_rules.specs.Order.{Edges, first}
+use Rattle.judge_rules.specs.Knot.{predecessor, upTo}
+use Rattle.judge_core.specs.Left.{leftOf, leftFrom, orNobody}
 use Rattle.judge_core.specs.Sizes.{slots}
 
--- 1 where a test holds, else 0
-unfoldable pub unit : Bool → ℕ
-unit true = 1
-unit false = 0
+-- the smallest job from i on that is left and has an edge to j, or nobody
+unfoldable pub predecessorFrom : Edges → List Bool → ℕ → ℕ → ℕ
+predecessorFrom e left i j = orNobody (first (λ k. e k j) (leftFrom left i))
 
--- how many of the first n numbers pass a test
-unfoldable pub tally : (ℕ → Bool) → ℕ → ℕ
-tally f zero = 0
-tally f (suc n) = tally f n + unit (f n)
+-- of each job that is left: none that is left and smaller than the one at its place has an edge to it, and that one has, if it is left
+pub record Preceding (e : Edges) (left : List Bool) (predecessors : List ℕ) : Type 0 where
+  pub wide : length predecessors ≡ slots
+  pub low : (j : ℕ) → getD predecessors j 0 ≤ slots
+  pub passed : (i j : ℕ) → getD left j false ≡ true → i < getD predecessors j 0 → getD left i false ≡ true → e i j ≡ false
+  pub there : (j : ℕ) → getD left j false ≡ true → getD predecessors j 0 < slots → getD left (getD predecessors j 0) false ≡ true → e (getD predecessors j 0) j ≡ true
 
--- job i is left and has an edge to job j
-unfoldable pub precedes : List Bool → List Bool → ℕ → ℕ → Bool
-precedes table left j i = getD left i false && getD table (i * slots + j) false
+-- of the first n jobs those that are left have their smallest predecessor that is left at their place
+abbrev pub Known : Edges → List Bool → List ℕ → ℕ → Type 0
+Known e left predecessors n = (j : ℕ) → j < n → getD left j false ≡ true → getD predecessors j 0 ≡ orNobody (predecessor e (leftOf left) j)
 
--- the counts after are those before with the edges of job i
-pub record RowAdded (table : List Bool) (i : ℕ) (before after : List ℕ) : Type 0 where
-  pub wide : length after ≡ slots
-  pub wide′ : length before ≡ slots
-  pub more : (j : ℕ) → j < slots → getD after j 0 ≡ getD before j 0 + unit (getD table (i * slots + j) false)
-
--- the counts say how many of the first n jobs are left and have an edge to each
-pub record Preceding (table left : List Bool) (n : ℕ) (counts : List ℕ) : Type 0 where
-  pub wide : length counts ≡ slots
-  pub counted : (j : ℕ) → j < slots → getD counts j 0 ≡ tally (precedes table left j) n
+-- the walk of the judge's rules, from each job to the predecessor that stands at its place
+unfoldable pub walkBy : List ℕ → ℕ → List ℕ → ℕ → List ℕ
+walkBy predecessors zero seen j = []
+walkBy predecessors (suc n) seen j =
+    let further : List ℕ = pick (ltb (getD predecessors j 0) slots) (walkBy predecessors n (j ∷ seen) (getD predecessors j 0)) [] in
+    pick (member j seen) (j ∷ upTo j seen) further

@@ -1,7 +1,7 @@
 -- What is looked at first of two jobs' lines: on which cells each has actions of a kind, and where its last one stands (01, The judge's rules).
 use Prim.Native.Nat.{ℕ, _+_, _-_, _*_, _≤_, _<_}
 use mathlib.Core.Path.{_≡_}
-use mathlib.Core.Bool.{Bool, true, false, _&&_}
+use mathlib.Core.Bool.{Bool, true, _&&_}
 use mathlib.Core.List.{List}
 use lib.Dec.{ltb}
 use lib.ListN.{length, getD}
@@ -11,7 +11,7 @@ use Rattle.conflict.specs.Schedule.{conflicts}
 use Rattle.conflict.specs.Cells.{inSet, canConflict}
 use Rattle.judge_core.specs.Meeting.{actionBy, actionAt, clashing}
 use Rattle.judge_core.specs.Grouped.{partAt, Parted}
-use Rattle.judge_core.specs.Sizes.{slots, keys}
+use Rattle.judge_core.specs.Sizes.{slots, kindSets, keys}
 
 -- the lines that somebody owns are actions, each its owner's, on a cell
 pub record Acting (codes jobs cells owners : List ℕ) (n : ℕ) : Type 0 where
@@ -20,14 +20,18 @@ pub record Acting (codes jobs cells owners : List ℕ) (n : ℕ) : Type 0 where
   pub code : (p : ℕ) → p < n → (getD owners p 0 ≡ 0 → ⊥) → getD codes p 0 < 3
   pub cell : (p : ℕ) → p < n → (getD owners p 0 ≡ 0 → ⊥) → getD cells p 0 < 64
 
--- each job's set has the cells of the lines of one kind that it owns
-pub record Covered (codes cells owners : List ℕ) (n kind : ℕ) (sets : List ℕ) : Type 0 where
-  pub wide : length sets ≡ slots
-  pub has : (p : ℕ) → p < n → getD codes p 0 ≡ kind → getD cells p 0 < 64 → inSet (getD sets (getD owners p 0) 0) (getD cells p 0) ≡ true
+-- the place of the set of the cells of job j's actions of a kind
+abbrev pub setKey : ℕ → ℕ → ℕ
+setKey j k = k * 256 + j
+
+-- each job's set of a kind has the cells of the lines of that kind that it owns
+pub record Covered (codes cells owners : List ℕ) (n : ℕ) (sets : List ℕ) : Type 0 where
+  pub wide : length sets ≡ kindSets
+  pub has : (p : ℕ) → p < n → getD codes p 0 < 3 → getD cells p 0 < 64 → inSet (getD sets (setKey (getD owners p 0) (getD codes p 0)) 0) (getD cells p 0) ≡ true
 
 -- the sets of job j
-unfoldable pub touchedAt : List ℕ → List ℕ → List ℕ → ℕ → Touched
-touchedAt reads writes increments j = record { reads = getD reads j 0; writes = getD writes j 0; increments = getD increments j 0 }
+unfoldable pub touchedAt : List ℕ → ℕ → Touched
+touchedAt sets j = record { reads = getD sets (setKey j 0) 0; writes = getD sets (setKey j 1) 0; increments = getD sets (setKey j 2) 0 }
 
 -- the place of job j's last action of a kind on cell c; 3 is for its last one of any kind
 abbrev pub lastKey : ℕ → ℕ → ℕ → ℕ
@@ -67,8 +71,7 @@ abbrev pub Masked : List ℕ → List ℕ → List ℕ → ℕ → List ℕ → 
 Masked codes jobs cells mask xs ys = (x y : ℕ) → member x xs ≡ true → member y ys ≡ true → clashing codes jobs cells x y ≡ true → inSet mask (getD cells x 0) ≡ true
 
 -- all that the edges are worked out from
-pub record Worked (codes jobs cells : List ℕ) (done : List Bool) (lines starts lasts reads writes increments : List ℕ) : Type 0 where
+pub record Worked (codes jobs cells lines starts lasts sets : List ℕ) : Type 0 where
   pub parts : Parted lines starts
-  pub idle : getD done 0 false ≡ false
   pub reach : (j : ℕ) → j < slots → (j ≡ 0 → ⊥) → Reach codes jobs cells lasts j (partAt lines starts j)
-  pub masks : (i j m : ℕ) → i < slots → j < slots → (i ≡ 0 → ⊥) → (j ≡ 0 → ⊥) → ((c : ℕ) → inSet m c ≡ canConflict (touchedAt reads writes increments i) (touchedAt reads writes increments j) c) → Masked codes jobs cells m (partAt lines starts i) (partAt lines starts j)
+  pub masks : (i j m : ℕ) → i < slots → j < slots → (i ≡ 0 → ⊥) → (j ≡ 0 → ⊥) → ((c : ℕ) → inSet m c ≡ canConflict (touchedAt sets i) (touchedAt sets j) c) → Masked codes jobs cells m (partAt lines starts i) (partAt lines starts j)

@@ -9,9 +9,9 @@ slots = 256
 abbrev pub stops : ℕ
 stops = 257
 
--- every two slots
-abbrev pub pairs : ℕ
-pairs = 65_536
+-- every slot and kind of action
+abbrev pub kindSets : ℕ
+kindSets = 768
 
 -- every cell, slot and kind of last line
 abbrev pub keys : ℕ

@@ -2,7 +2,6 @@
 use crate::counted::committed_jobs;
 use crate::counted::counted_from;
 use crate::counted::owners;
-use crate::edges::edge_table;
 use crate::grouping::grouped;
 use crate::grouping::starts;
 use crate::grouping::tallies;
@@ -14,7 +13,6 @@ use crate::order::smallest_left;
 use crate::order::take_away;
 use crate::sets::cells_of;
 use crate::sets::last_lines;
-use crate::sizes::PAIRS;
 use crate::sizes::SLOTS;
 use crate::sizes::STOPS;
 use judge_rules::verdict::Verdict;
@@ -22,31 +20,37 @@ use terms::limits::JUDGED_LINES;
 ghost use mathlib.Core.Path.{_≡_};
 ghost use mathlib.Core.List.{[]};
 ghost use Prim.Native.Nat.{ℕ, _≤_, _<_};
-ghost use lib.ListN.{length, getD};
+ghost use lib.ListN.{length, getD, take};
 ghost use Rattle.conflict.specs.Schedule.{edge};
 ghost use Rattle.conflict.specs.History.{committedPart};
-ghost use Rattle.judge_rules.specs.Knot.{walk, turn};
+ghost use Rattle.judge_rules.specs.Order.{orderOf, stuck};
+ghost use Rattle.judge_rules.specs.Knot.{turn};
 ghost use Rattle.judge_rules.specs.Judged.{knotted, findingOf};
 ghost use Rattle.judge_rules.specs.Judgement.{sayFinding};
 ghost use Rattle.judge_rules.specs.Arrays.{historyBy};
 ghost use Rattle.judge_core.specs.Lists.{valuesOf};
 ghost use Rattle.judge_core.specs.Counted.{hasCommit, ByteJobs};
-ghost use Rattle.judge_core.specs.Grouped.{edgesIn};
 ghost use Rattle.judge_core.specs.Left.{leftOf};
+ghost use Rattle.judge_core.specs.Preceding.{Known, walkBy};
 ghost use Rattle.terms.specs.Limits.{judgedJobs, judgedLines};
 ghost use Rattle.judge_core.specs.Sizes.{slots, stops};
 
-// The edges between the jobs of the first n lines that have a c.
-fn edges_of<'a>(
+// The jobs that are left, those that have a c among the first n lines, are taken away by the edges between them, and put in their order; how many they are.
+fn take_jobs<'a>(
     codes: &'a [u8; JUDGED_LINES],
     jobs: &'a [u8; JUDGED_LINES],
     cells: &'a [u8; JUDGED_LINES],
-    done: &'a [bool; SLOTS],
     n: usize,
-) -> [bool; PAIRS]
-    requires { ⌜ (n ≤ judgedLines) × ByteJobs (now jobs) n × (now done ≡ valuesOf (hasCommit (now codes) (now jobs) n) slots) ⌝ }
+    left: &mut [bool; SLOTS],
+    placed: &mut [u8; SLOTS],
+    predecessors: &mut [usize; SLOTS],
+) -> usize
+    requires { ⌜ (n ≤ judgedLines) × ByteJobs (now jobs) n × (now left ≡ valuesOf (hasCommit (now codes) (now jobs) n) slots) × (length (now placed) ≡ slots) ⌝ }
     requires { ⌜ ((p : ℕ) → p < n → getD (now codes) p 0 < 3 → getD (now cells) p 0 < 64) ⌝ }
-    ensures { λ r. ⌜ edgesIn r ≡ edge (committedPart (historyBy (now (codes .entry)) (now (jobs .entry)) (now (cells .entry)) n)) ⌝ }
+    ensures { λ r. ⌜ leftOf (now (left .exit)) ≡ stuck (edge (committedPart (historyBy (now (codes .entry)) (now (jobs .entry)) (now (cells .entry)) n))) (leftOf (now (left .entry))) ⌝ }
+    ensures { λ r. ⌜ take r (now (placed .exit)) ≡ orderOf (edge (committedPart (historyBy (now (codes .entry)) (now (jobs .entry)) (now (cells .entry)) n))) (leftOf (now (left .entry))) ⌝ }
+    ensures { λ r. ⌜ r ≡ length (orderOf (edge (committedPart (historyBy (now (codes .entry)) (now (jobs .entry)) (now (cells .entry)) n))) (leftOf (now (left .entry)))) ⌝ }
+    ensures { λ r. ⌜ Known (edge (committedPart (historyBy (now (codes .entry)) (now (jobs .entry)) (now (cells .entry)) n))) (now (left .exit)) (now (predecessors .exit)) slots ⌝ }
 {
     let since = counted_from(codes, jobs, n);
     let owner = owners(codes, jobs, &since, n);
@@ -54,36 +58,29 @@ fn edges_of<'a>(
     let start = starts(&count);
     let lines = grouped(&owner, &start, n);
     let lasts = last_lines(codes, jobs, cells, &owner, n);
-    let reads = cells_of(codes, cells, &owner, n, 0);
-    let writes = cells_of(codes, cells, &owner, n, 1);
-    let increments = cells_of(codes, cells, &owner, n, 2);
-    edge_table(
+    let sets = cells_of(codes, cells, &owner, n);
+    take_away(
         codes,
         jobs,
         cells,
-        done,
         &lines,
         &start,
         &lasts,
-        &reads,
-        &writes,
-        &increments,
+        &sets,
+        left,
+        placed,
+        predecessors,
     )
 }
 
 // The knot that the walk back from a job ends in, put into the first places of the buffer.
-fn knot<'a>(
-    table: &'a [bool; PAIRS],
-    left: &'a [bool; SLOTS],
-    start: usize,
-    order: &mut [u8],
-) -> Verdict
-    requires { ⌜ (start < slots) × (length (turn (walk (edgesIn (now table)) (leftOf (now left)) stops [] start)) ≤ length (now order)) ⌝ }
-    ensures { λ r. ⌜ r ≡ sayFinding (now (order .entry)) (knotted (turn (walk (edgesIn (now (table .entry))) (leftOf (now (left .entry))) stops [] start))) .said ⌝ }
-    ensures { λ r. ⌜ now (order .exit) ≡ sayFinding (now (order .entry)) (knotted (turn (walk (edgesIn (now (table .entry))) (leftOf (now (left .entry))) stops [] start))) .order ⌝ }
+fn knot<'a>(predecessors: &'a [usize; SLOTS], start: usize, order: &mut [u8]) -> Verdict
+    requires { ⌜ (start < slots) × (length (turn (walkBy (now predecessors) stops [] start)) ≤ length (now order)) ⌝ }
+    ensures { λ r. ⌜ r ≡ sayFinding (now (order .entry)) (knotted (turn (walkBy (now (predecessors .entry)) stops [] start))) .said ⌝ }
+    ensures { λ r. ⌜ now (order .exit) ≡ sayFinding (now (order .entry)) (knotted (turn (walkBy (now (predecessors .entry)) stops [] start))) .order ⌝ }
 {
     let mut trail = [0u8; STOPS];
-    let round = walk_back(table, left, start, &mut trail);
+    let round = walk_back(predecessors, start, &mut trail);
     let from = round.from;
     let to = round.to;
     put_turned(order, &trail[from..to]);
@@ -104,15 +101,22 @@ pub fn decide<'a>(
     ensures { λ r. ⌜ r ≡ sayFinding (now (order .entry)) (findingOf (historyBy (now (codes .entry)) (now (jobs .entry)) (now (cells .entry)) n)) .said ⌝ }
     ensures { λ r. ⌜ now (order .exit) ≡ sayFinding (now (order .entry)) (findingOf (historyBy (now (codes .entry)) (now (jobs .entry)) (now (cells .entry)) n)) .order ⌝ }
 {
-    let done = committed_jobs(codes, jobs, n);
-    let table = edges_of(codes, jobs, cells, &done, n);
-    let mut left = done;
+    let mut left = committed_jobs(codes, jobs, n);
     let mut placed = [0u8; SLOTS];
-    let k = take_away(&table, &mut left, &mut placed);
+    let mut predecessors = [0; SLOTS];
+    let k = take_jobs(
+        codes,
+        jobs,
+        cells,
+        n,
+        &mut left,
+        &mut placed,
+        &mut predecessors,
+    );
     let first = smallest_left(&left);
     if first == NOBODY {
         put(order, 0, &placed[0..k]);
         return Verdict::Orderly(k);
     }
-    knot(&table, &left, first, order)
+    knot(&predecessors, first, order)
 }

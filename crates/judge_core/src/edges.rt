@@ -3,8 +3,7 @@ use crate::sets::ANY;
 use crate::sets::last_key;
 use crate::sets::touched;
 use crate::sizes::KEYS;
-use crate::sizes::PAIRS;
-use crate::sizes::SLOTS;
+use crate::sizes::KIND_SETS;
 use crate::sizes::STOPS;
 use conflict::action::Action;
 use conflict::action::Kind;
@@ -15,15 +14,14 @@ use terms::limits::CELLS;
 use terms::limits::JUDGED_LINES;
 ghost use mathlib.Core.Path.{_≡_};
 ghost use mathlib.Core.Bool.{true};
-ghost use Prim.Native.Nat.{ℕ, _/_, _%_, _≤_, _<_};
+ghost use Prim.Native.Nat.{ℕ, _≤_, _<_};
 ghost use lib.ListN.{getD};
 ghost use Rattle.laws.specs.Lists.{member};
-ghost use Rattle.judge_core.specs.Lists.{valuesOf};
 ghost use Rattle.judge_core.specs.Meeting.{kindBy, actionAt, clashing, meetings};
 ghost use Rattle.judge_core.specs.Grouped.{Lined, Parted, partAt, edgeBy};
 ghost use Rattle.judge_core.specs.Reaching.{Reach, Masked, Worked, lastMet, mayMeet};
 ghost use Rattle.terms.specs.Limits.{judgedLines};
-ghost use Rattle.judge_core.specs.Sizes.{slots, pairs};
+ghost use Rattle.judge_core.specs.Sizes.{slots};
 
 // The kind of action that a number stands for.
 fn kind_of(code: u8) -> Kind
@@ -202,79 +200,27 @@ fn parts_meet<'a>(
     )
 }
 
-// Whether job i has an edge to job j.
-fn edge_between<'a>(
+// Whether job i has an edge to job j, both with a c.
+pub fn edge_between<'a>(
     codes: &'a [u8; JUDGED_LINES],
     jobs: &'a [u8; JUDGED_LINES],
     cells: &'a [u8; JUDGED_LINES],
-    done: &'a [bool; SLOTS],
     lines: &'a [u16],
     starts: &'a [usize; STOPS],
     lasts: &'a [u16; KEYS],
-    reads: &'a [u64; SLOTS],
-    writes: &'a [u64; SLOTS],
-    increments: &'a [u64; SLOTS],
+    sets: &'a [u64; KIND_SETS],
     i: usize,
     j: usize,
 ) -> bool
-    requires { ⌜ (i < slots) × (j < slots) × Worked (now codes) (now jobs) (now cells) (now done) (now lines) (now starts) (now lasts) (now reads) (now writes) (now increments) ⌝ }
-    ensures { λ r. ⌜ r ≡ edgeBy (now (codes .entry)) (now (jobs .entry)) (now (cells .entry)) (now (done .entry)) (now (lines .entry)) (now (starts .entry)) i j ⌝ }
+    requires { ⌜ (0 < i) × (i < slots) × (0 < j) × (j < slots) × Worked (now codes) (now jobs) (now cells) (now lines) (now starts) (now lasts) (now sets) ⌝ }
+    ensures { λ r. ⌜ r ≡ edgeBy (now (codes .entry)) (now (jobs .entry)) (now (cells .entry)) (now (lines .entry)) (now (starts .entry)) i j ⌝ }
 {
     if i == j {
         return false;
     }
-    if !done[i] {
-        return false;
-    }
-    if !done[j] {
-        return false;
-    }
-    let mask = meeting_cells(
-        touched(reads, writes, increments, i),
-        touched(reads, writes, increments, j),
-    );
+    let mask = meeting_cells(touched(sets, i), touched(sets, j));
     if mask == 0 {
         return false;
     }
     parts_meet(codes, jobs, cells, lasts, lines, starts, mask, i, j)
-}
-
-// All edges: at place 256 times i and j whether job i has one to job j.
-pub fn edge_table<'a>(
-    codes: &'a [u8; JUDGED_LINES],
-    jobs: &'a [u8; JUDGED_LINES],
-    cells: &'a [u8; JUDGED_LINES],
-    done: &'a [bool; SLOTS],
-    lines: &'a [u16],
-    starts: &'a [usize; STOPS],
-    lasts: &'a [u16; KEYS],
-    reads: &'a [u64; SLOTS],
-    writes: &'a [u64; SLOTS],
-    increments: &'a [u64; SLOTS],
-) -> [bool; PAIRS]
-    requires { ⌜ Worked (now codes) (now jobs) (now cells) (now done) (now lines) (now starts) (now lasts) (now reads) (now writes) (now increments) ⌝ }
-    ensures { λ r. ⌜ r ≡ valuesOf (λ x. edgeBy (now (codes .entry)) (now (jobs .entry)) (now (cells .entry)) (now (done .entry)) (now (lines .entry)) (now (starts .entry)) (x / slots) (x % slots)) pairs ⌝ }
-{
-    let mut table = [false; PAIRS];
-    let mut x = 0;
-    while x < PAIRS {
-        let i = x / SLOTS;
-        let j = x % SLOTS;
-        table[x] = edge_between(
-            codes,
-            jobs,
-            cells,
-            done,
-            lines,
-            starts,
-            lasts,
-            reads,
-            writes,
-            increments,
-            i,
-            j,
-        );
-        x += 1;
-    }
-    table
 }

@@ -1,7 +1,10 @@
 // The judge on lines that are kept as numbers, for any arrays and any buffer: what the table says of them, and else the verdict (01, Refusals by number).
 use crate::counted::place;
 use crate::decide::decide;
+use crate::dirty::Dirt;
+use crate::dirty::first_dirty;
 use crate::edges::wide;
+use crate::knots::put;
 use crate::sizes::SLOTS;
 use judge_rules::verdict::Verdict;
 use terms::limits::CELLS;
@@ -12,8 +15,11 @@ ghost use mathlib.Core.Path.{_≡_};
 ghost use mathlib.Core.Bool.{_&&_, _||_};
 ghost use mathlib.Core.List.{[]};
 ghost use lib.Dec.{eqb, ltb, leb};
-ghost use Prim.Native.Nat.{_+_, _<_};
-ghost use Rattle.terms.specs.Limits.{cells, judgedLines};
+ghost use Prim.Native.Nat.{ℕ, _+_, _≤_, _<_};
+ghost use lib.ListN.{length, getD};
+ghost use Rattle.terms.specs.Limits.{cells, judgedJobs, judgedLines};
+ghost use Rattle.conflict.specs.Dirty.{dirtyOf};
+ghost use Rattle.judge_rules.specs.Judgement.{sayHistory};
 ghost use Rattle.judge_rules.specs.Arrays.{historyBy};
 ghost use Rattle.judge_core.specs.Kept.{eventAt, eventFault, firstFault, keptJudgement, dueOf, Flagged};
 
@@ -104,6 +110,30 @@ fn first_fault<'a>(
     Found::Faultless
 }
 
+// The verdict on the first n lines, and its jobs in the first places of the buffer: a dirty read is told before orderly or knot. The lines are faultless, and the buffer has its places.
+fn judge_faultless<'a>(
+    codes: &'a [u8; JUDGED_LINES],
+    jobs: &'a [u8; JUDGED_LINES],
+    cells: &'a [u8; JUDGED_LINES],
+    n: usize,
+    order: &mut [u8],
+) -> Verdict
+    requires { ⌜ (n ≤ judgedLines) × (judgedJobs ≤ length (now order)) ⌝ }
+    requires { ⌜ ((p : ℕ) → p < n → getD (now jobs) p 0 ≡ 0 → ⊥) ⌝ }
+    requires { ⌜ ((p : ℕ) → p < n → getD (now codes) p 0 < 3 → getD (now cells) p 0 < 64) ⌝ }
+    ensures { λ r. ⌜ r ≡ sayHistory (now (order .entry)) (historyBy (now (codes .entry)) (now (jobs .entry)) (now (cells .entry)) n) (dirtyOf (historyBy (now (codes .entry)) (now (jobs .entry)) (now (cells .entry)) n)) .said ⌝ }
+    ensures { λ r. ⌜ now (order .exit) ≡ sayHistory (now (order .entry)) (historyBy (now (codes .entry)) (now (jobs .entry)) (now (cells .entry)) n) (dirtyOf (historyBy (now (codes .entry)) (now (jobs .entry)) (now (cells .entry)) n)) .order ⌝ }
+{
+    match first_dirty(codes, jobs, cells, n) {
+        Dirt::Clean => decide(codes, jobs, cells, n, order),
+        Dirt::Read { reader, writer } => {
+            let pair = [reader, writer];
+            put(order, 0, &pair);
+            Verdict::Dirty { reader, writer }
+        }
+    }
+}
+
 // The verdict on the first n lines, and its jobs in the first places of the buffer; or 14 for a short buffer, and else the refusal of the first faulty line, and the buffer stays.
 pub fn judge_kept<'a>(
     codes: &'a [u8; JUDGED_LINES],
@@ -122,7 +152,7 @@ pub fn judge_kept<'a>(
         };
     }
     match first_fault(codes, jobs, cells, n) {
-        Found::Faultless => decide(codes, jobs, cells, n, order),
+        Found::Faultless => judge_faultless(codes, jobs, cells, n, order),
         Found::Faulty { line, why } => Verdict::No { line, why },
     }
 }

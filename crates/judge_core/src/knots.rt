@@ -1,7 +1,5 @@
 // The knot: from the smallest job that remains back along smallest predecessors, until one comes again (01, The judge's rules: Knot).
 use crate::order::NOBODY;
-use crate::order::predecessor;
-use crate::sizes::PAIRS;
 use crate::sizes::SLOTS;
 use crate::sizes::STOPS;
 ghost use mathlib.Core.Path.{_≡_};
@@ -9,10 +7,9 @@ ghost use mathlib.Core.List.{[], _++_};
 ghost use Prim.Native.Nat.{_+_, _≤_, _<_};
 ghost use lib.ListN.{length, take, drop};
 ghost use Rattle.laws.specs.Lists.{pos};
-ghost use Rattle.judge_rules.specs.Knot.{walk, turn};
+ghost use Rattle.judge_rules.specs.Knot.{turn};
 ghost use Rattle.judge_rules.specs.Judgement.{filled};
-ghost use Rattle.judge_core.specs.Grouped.{edgesIn};
-ghost use Rattle.judge_core.specs.Left.{leftOf};
+ghost use Rattle.judge_core.specs.Preceding.{walkBy};
 ghost use Rattle.judge_core.specs.Rounds.{RoundAt, putIn};
 ghost use Rattle.judge_core.specs.Sizes.{slots, stops};
 
@@ -37,15 +34,14 @@ fn place_of(trail: &[u8; STOPS], at: usize, j: u8) -> usize
     p
 }
 
-// The walk back from a job, each job put before the one that it was come from, until one comes again: the trail from its second coming up to its first is the cycle.
+// The walk back from a job along smallest predecessors, each job put before the one that it was come from, until one comes again: the trail from its second coming up to its first is the cycle.
 pub fn walk_back<'a>(
-    table: &'a [bool; PAIRS],
-    left: &'a [bool; SLOTS],
+    predecessors: &'a [usize; SLOTS],
     start: usize,
     trail: &mut [u8; STOPS],
 ) -> Round
     requires { ⌜ (start < slots) × (length (now trail) ≡ stops) ⌝ }
-    ensures { λ r. ⌜ RoundAt (walk (edgesIn (now (table .entry))) (leftOf (now (left .entry))) stops [] start) (now (trail .exit)) (r .from) (r .to) ⌝ }
+    ensures { λ r. ⌜ RoundAt (walkBy (now (predecessors .entry)) stops [] start) (now (trail .exit)) (r .from) (r .to) ⌝ }
 {
     let mut at: usize = STOPS;
     let mut j = start;
@@ -56,8 +52,8 @@ pub fn walk_back<'a>(
         if p < STOPS {
             return Round { from: at, to: p };
         }
-        j = predecessor(table, left, j);
-        if j == NOBODY {
+        j = predecessors[j];
+        if NOBODY <= j {
             return Round { from: 0, to: 0 };
         }
     }

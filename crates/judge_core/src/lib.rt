@@ -1,6 +1,7 @@
 // The deciding half of the judge: from lines that are kept as numbers to the order or the knot (01, The judge's rules).
 mod counted;
 mod decide;
+mod dirty;
 mod edges;
 mod grouping;
 pub mod kept;

@@ -1,28 +1,47 @@
 // The order: of the jobs that are left, the smallest without a predecessor among them is taken away, again and again (01, The judge's rules: Orderly).
-use crate::sizes::PAIRS;
+use crate::edges::edge_between;
+use crate::sizes::KEYS;
+use crate::sizes::KIND_SETS;
 use crate::sizes::SLOTS;
+use crate::sizes::STOPS;
+use terms::limits::JUDGED_LINES;
 ghost use mathlib.Core.Path.{_≡_};
 ghost use mathlib.Core.Bool.{true, false};
-ghost use Prim.Native.Nat.{ℕ, _+_, _*_, _≤_, _<_};
+ghost use Prim.Native.Nat.{_<_};
 ghost use lib.ListN.{length, getD, take};
 ghost use Rattle.judge_rules.specs.Order.{first, ready, orderOf, stuck};
-ghost use Rattle.judge_rules.specs.Knot as knots;
-ghost use Rattle.judge_core.specs.Grouped.{edgesIn};
+ghost use Rattle.judge_core.specs.Grouped.{edgeBy};
+ghost use Rattle.judge_core.specs.Reaching.{Worked};
 ghost use Rattle.judge_core.specs.Left.{leftOf, orNobody};
-ghost use Rattle.judge_core.specs.Preceding.{unit, RowAdded, Preceding};
+ghost use Rattle.judge_core.specs.Preceding.{predecessorFrom, Preceding, Known};
 ghost use Rattle.judge_core.specs.Sizes.{slots};
 
 // No job: one past the largest.
 pub const NOBODY: usize = SLOTS;
 
-// The smallest job that is left and has an edge to j.
-pub fn predecessor<'a>(table: &'a [bool; PAIRS], left: &'a [bool; SLOTS], j: usize) -> usize
-    requires { ⌜ j < slots ⌝ }
-    ensures { λ r. ⌜ r ≡ orNobody (knots.predecessor (edgesIn (now (table .entry))) (leftOf (now (left .entry))) j) ⌝ }
+// The smallest job from a number on that is left and has an edge to job j. If the number is that of a job that is left, it is known to have one, and nothing is searched.
+fn predecessor_from<'a>(
+    codes: &'a [u8; JUDGED_LINES],
+    jobs: &'a [u8; JUDGED_LINES],
+    cells: &'a [u8; JUDGED_LINES],
+    lines: &'a [u16],
+    starts: &'a [usize; STOPS],
+    lasts: &'a [u16; KEYS],
+    sets: &'a [u64; KIND_SETS],
+    left: &'a [bool; SLOTS],
+    from: usize,
+    j: usize,
+) -> usize
+    requires { ⌜ (0 < j) × (j < slots) × Worked (now codes) (now jobs) (now cells) (now lines) (now starts) (now lasts) (now sets) ⌝ }
+    requires { ⌜ (getD (now left) 0 false ≡ false) × (from < slots → getD (now left) from false ≡ true → edgeBy (now codes) (now jobs) (now cells) (now lines) (now starts) from j ≡ true) ⌝ }
+    ensures { λ r. ⌜ r ≡ predecessorFrom (edgeBy (now (codes .entry)) (now (jobs .entry)) (now (cells .entry)) (now (lines .entry)) (now (starts .entry))) (now (left .entry)) from j ⌝ }
 {
-    let mut i = 0;
+    if from < SLOTS && left[from] {
+        return from;
+    }
+    let mut i = from;
     while i < SLOTS {
-        if left[i] && table[i * SLOTS + j] {
+        if left[i] && edge_between(codes, jobs, cells, lines, starts, lasts, sets, i, j) {
             return i;
         }
         i += 1;
@@ -30,93 +49,84 @@ pub fn predecessor<'a>(table: &'a [bool; PAIRS], left: &'a [bool; SLOTS], j: usi
     NOBODY
 }
 
-// 1 for an edge.
-fn one(edge: bool) -> u16
-    ensures { λ r. ⌜ r ≡ unit edge ⌝ }
-{
-    if edge {
-        return 1;
-    }
-    0
-}
-
-// Each job that job i has an edge to is counted once more.
-fn count_row(table: &[bool; PAIRS], i: usize, counts: &mut [u16; SLOTS])
-    requires { ⌜ (i < slots) × (length (now counts) ≡ slots) × ((j : ℕ) → j < slots → getD (now counts) j 0 < slots) ⌝ }
-    ensures { λ r. ⌜ RowAdded (now (table .entry)) i (now (counts .entry)) (now (counts .exit)) ⌝ }
-{
-    let row = i * SLOTS;
-    let mut j = 0;
-    while j < SLOTS {
-        counts[j] = counts[j] + one(table[row + j]);
-        j += 1;
-    }
-}
-
-// Each job that job i has an edge to is counted once less.
-fn uncount_row(table: &[bool; PAIRS], i: usize, counts: &mut [u16; SLOTS])
-    requires { ⌜ (i < slots) × (length (now counts) ≡ slots) × ((j : ℕ) → j < slots → unit (getD (now table) (i * slots + j) false) ≤ getD (now counts) j 0) ⌝ }
-    ensures { λ r. ⌜ RowAdded (now (table .entry)) i (now (counts .exit)) (now (counts .entry)) ⌝ }
-{
-    let row = i * SLOTS;
-    let mut j = 0;
-    while j < SLOTS {
-        counts[j] = counts[j] - one(table[row + j]);
-        j += 1;
-    }
-}
-
-// How many predecessors that are left each job has.
-fn counts_of(table: &[bool; PAIRS], left: &[bool; SLOTS]) -> [u16; SLOTS]
-    ensures { λ r. ⌜ Preceding (now (table .entry)) (now (left .entry)) slots r ⌝ }
-{
-    let mut counts = [0; SLOTS];
-    let mut i = 0;
-    while i < SLOTS {
-        if left[i] {
-            count_row(table, i, &mut counts);
-        }
-        i += 1;
-    }
-    counts
-}
-
-// The smallest job that is left and has no predecessor left.
+// The smallest job that is left and has no predecessor left. On the way to it each job whose smallest predecessor has gone looks on behind that one: those before it have gone too or have no edge to it. So no two jobs are searched twice.
 fn ready_job<'a>(
-    table: &'a [bool; PAIRS],
+    codes: &'a [u8; JUDGED_LINES],
+    jobs: &'a [u8; JUDGED_LINES],
+    cells: &'a [u8; JUDGED_LINES],
+    lines: &'a [u16],
+    starts: &'a [usize; STOPS],
+    lasts: &'a [u16; KEYS],
+    sets: &'a [u64; KIND_SETS],
     left: &'a [bool; SLOTS],
-    counts: &'a [u16; SLOTS],
+    predecessors: &mut [usize; SLOTS],
 ) -> usize
-    requires { ⌜ Preceding (now table) (now left) slots (now counts) ⌝ }
-    ensures { λ r. ⌜ r ≡ orNobody (ready (edgesIn (now (table .entry))) (leftOf (now (left .entry)))) ⌝ }
+    requires { ⌜ (getD (now left) 0 false ≡ false) × Preceding (edgeBy (now codes) (now jobs) (now cells) (now lines) (now starts)) (now left) (now predecessors) × Worked (now codes) (now jobs) (now cells) (now lines) (now starts) (now lasts) (now sets) ⌝ }
+    ensures { λ r. ⌜ r ≡ orNobody (ready (edgeBy (now (codes .entry)) (now (jobs .entry)) (now (cells .entry)) (now (lines .entry)) (now (starts .entry))) (leftOf (now (left .entry)))) ⌝ }
+    ensures { λ r. ⌜ Preceding (edgeBy (now (codes .entry)) (now (jobs .entry)) (now (cells .entry)) (now (lines .entry)) (now (starts .entry))) (now (left .entry)) (now (predecessors .exit)) × Known (edgeBy (now (codes .entry)) (now (jobs .entry)) (now (cells .entry)) (now (lines .entry)) (now (starts .entry))) (now (left .entry)) (now (predecessors .exit)) r ⌝ }
 {
     let mut j = 0;
     while j < SLOTS {
-        if left[j] && counts[j] == 0 {
-            return j;
+        if left[j] {
+            let i = predecessor_from(
+                codes,
+                jobs,
+                cells,
+                lines,
+                starts,
+                lasts,
+                sets,
+                left,
+                predecessors[j],
+                j,
+            );
+            predecessors[j] = i;
+            if i == NOBODY {
+                return j;
+            }
         }
         j += 1;
     }
     NOBODY
 }
 
-// The jobs that are left are taken away, as long as one is ready, and put in their order; how many they are. The predecessors that each has left are counted once, and less with each job that goes.
-pub fn take_away(table: &[bool; PAIRS], left: &mut [bool; SLOTS], placed: &mut [u8; SLOTS]) -> usize
-    requires { ⌜ (length (now left) ≡ slots) × (length (now placed) ≡ slots) ⌝ }
-    ensures { λ r. ⌜ leftOf (now (left .exit)) ≡ stuck (edgesIn (now (table .entry))) (leftOf (now (left .entry))) ⌝ }
-    ensures { λ r. ⌜ take r (now (placed .exit)) ≡ orderOf (edgesIn (now (table .entry))) (leftOf (now (left .entry))) ⌝ }
-    ensures { λ r. ⌜ r ≡ length (orderOf (edgesIn (now (table .entry))) (leftOf (now (left .entry)))) ⌝ }
+// The jobs that are left are taken away, as long as one is ready, and put in their order; how many they are. When none is, each job that remains has been looked at, and its smallest predecessor is known.
+pub fn take_away<'a>(
+    codes: &'a [u8; JUDGED_LINES],
+    jobs: &'a [u8; JUDGED_LINES],
+    cells: &'a [u8; JUDGED_LINES],
+    lines: &'a [u16],
+    starts: &'a [usize; STOPS],
+    lasts: &'a [u16; KEYS],
+    sets: &'a [u64; KIND_SETS],
+    left: &mut [bool; SLOTS],
+    placed: &mut [u8; SLOTS],
+    predecessors: &mut [usize; SLOTS],
+) -> usize
+    requires { ⌜ (length (now left) ≡ slots) × (length (now placed) ≡ slots) × (getD (now left) 0 false ≡ false) × Worked (now codes) (now jobs) (now cells) (now lines) (now starts) (now lasts) (now sets) ⌝ }
+    ensures { λ r. ⌜ leftOf (now (left .exit)) ≡ stuck (edgeBy (now (codes .entry)) (now (jobs .entry)) (now (cells .entry)) (now (lines .entry)) (now (starts .entry))) (leftOf (now (left .entry))) ⌝ }
+    ensures { λ r. ⌜ (take r (now (placed .exit)) ≡ orderOf (edgeBy (now (codes .entry)) (now (jobs .entry)) (now (cells .entry)) (now (lines .entry)) (now (starts .entry))) (leftOf (now (left .entry)))) × (r ≡ length (orderOf (edgeBy (now (codes .entry)) (now (jobs .entry)) (now (cells .entry)) (now (lines .entry)) (now (starts .entry))) (leftOf (now (left .entry))))) ⌝ }
+    ensures { λ r. ⌜ Known (edgeBy (now (codes .entry)) (now (jobs .entry)) (now (cells .entry)) (now (lines .entry)) (now (starts .entry))) (now (left .exit)) (now (predecessors .exit)) slots ⌝ }
 {
-    let mut counts = counts_of(table, left);
+    *predecessors = [0; SLOTS];
     let mut k = 0;
     loop {
-        let j = ready_job(table, left, &counts);
+        let j = ready_job(
+            codes,
+            jobs,
+            cells,
+            lines,
+            starts,
+            lasts,
+            sets,
+            left,
+            predecessors,
+        );
         if j == NOBODY {
             return k;
         }
         placed[k] = j as u8;
         left[j] = false;
-        uncount_row(table, j, &mut counts);
         k += 1;
     }
 }

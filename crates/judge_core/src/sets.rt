@@ -2,36 +2,45 @@
 use crate::counted::place;
 use crate::edges::wide;
 use crate::sizes::KEYS;
+use crate::sizes::KIND_SETS;
 use crate::sizes::SLOTS;
 use conflict::cells::Touched;
 use conflict::cells::with_cell;
 use terms::limits::JUDGED_LINES;
 ghost use mathlib.Core.Path.{_≡_};
 ghost use Prim.Native.Nat.{_≤_, _<_};
-ghost use Rattle.judge_core.specs.Reaching.{Acting, Covered, Lasts, touchedAt, lastKey};
+ghost use Rattle.judge_core.specs.Reaching.{Acting, Covered, Lasts, setKey, touchedAt, lastKey};
 ghost use Rattle.terms.specs.Limits.{judgedLines};
-ghost use Rattle.judge_core.specs.Sizes.{slots, keys};
+ghost use Rattle.judge_core.specs.Sizes.{slots, kindSets, keys};
 
 // Stands beside the numbers of the three kinds for a line of whatever kind.
 pub const ANY: u8 = 3;
 
-// For each job the cells of the lines of one kind that it owns, of the first n.
+// The place of the set of job j's cells of a kind.
+fn set_key(j: usize, kind: u8) -> usize
+    requires { ⌜ (j < slots) × (kind < 3) ⌝ }
+    ensures { λ r. ⌜ (r ≡ setKey j kind) × (r < kindSets) ⌝ }
+{
+    place(kind) * SLOTS + j
+}
+
+// For each job the cells of the lines of each kind that it owns, of the first n.
 pub fn cells_of<'a>(
     codes: &'a [u8; JUDGED_LINES],
     cells: &'a [u8; JUDGED_LINES],
     owners: &'a [u8; JUDGED_LINES],
     n: usize,
-    kind: u8,
-) -> [u64; SLOTS]
+) -> [u64; KIND_SETS]
     requires { ⌜ n ≤ judgedLines ⌝ }
-    ensures { λ r. ⌜ Covered (now (codes .entry)) (now (cells .entry)) (now (owners .entry)) n kind r ⌝ }
+    ensures { λ r. ⌜ Covered (now (codes .entry)) (now (cells .entry)) (now (owners .entry)) n r ⌝ }
 {
-    let mut sets = [0; SLOTS];
+    let mut sets = [0; KIND_SETS];
     let mut p = 0;
     while p < n {
         let j = place(owners[p]);
-        if codes[p] == kind {
-            sets[j] = with_cell(sets[j], wide(cells[p]));
+        if codes[p] < 3 {
+            let key = set_key(j, codes[p]);
+            sets[key] = with_cell(sets[key], wide(cells[p]));
         }
         p += 1;
     }
@@ -39,19 +48,17 @@ pub fn cells_of<'a>(
 }
 
 // The sets of one job.
-pub fn touched<'a>(
-    reads: &'a [u64; SLOTS],
-    writes: &'a [u64; SLOTS],
-    increments: &'a [u64; SLOTS],
-    j: usize,
-) -> Touched
+pub fn touched(sets: &[u64; KIND_SETS], j: usize) -> Touched
     requires { ⌜ j < slots ⌝ }
-    ensures { λ r. ⌜ r ≡ touchedAt (now (reads .entry)) (now (writes .entry)) (now (increments .entry)) j ⌝ }
+    ensures { λ r. ⌜ r ≡ touchedAt (now (sets .entry)) j ⌝ }
 {
+    let read = set_key(j, 0);
+    let written = set_key(j, 1);
+    let incremented = set_key(j, 2);
     Touched {
-        reads: reads[j],
-        writes: writes[j],
-        increments: increments[j],
+        reads: sets[read],
+        writes: sets[written],
+        increments: sets[incremented],
     }
 }
 

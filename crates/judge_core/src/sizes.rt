@@ -6,7 +6,7 @@ use terms::limits::JUDGED_JOBS;
 pub const SLOTS: usize = JUDGED_JOBS + 1;
 // Where each slot's lines start, and where all end.
 pub const STOPS: usize = SLOTS + 1;
-// Every two slots.
-pub const PAIRS: usize = SLOTS * SLOTS;
+// Every slot and kind of action.
+pub const KIND_SETS: usize = SLOTS * 3;
 // Every cell, slot and kind of last line.
 pub const KEYS: usize = CELLS as usize * SLOTS * 4;

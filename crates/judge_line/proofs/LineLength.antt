@@ -23,6 +23,8 @@ use Rattle.terms.specs.Refusals.{numberOf}
 use Rattle.terms.specs.Words.{tab}
 use Rattle.terms.proofs.Numbers.{one-to-sixteen}
 use Rattle.conflict.specs.History.{isCommit, marked}
+use Rattle.conflict.specs.Dirty.{ReadOf, dirtyOf}
+use Rattle.conflict.proofs.DirtyFound.{dirty-exactly}
 use Rattle.text_rules.specs.declared.Written.the-variants.{Next}
 use Rattle.text_rules.specs.Decimal.{decimal}
 use Rattle.text_rules.specs.Records.{fits, told, left, tabbed, wordLine}
@@ -31,14 +33,16 @@ use Rattle.text_rules.proofs.DigitLaws.{digits-at-most}
 use Rattle.text.proofs.WordLaws.{word-at-most-7}
 use Rattle.text_rules.proofs.WriterLaws.{told-next, left-text}
 use Rattle.judge_rules.specs.Judged.{orderly, knotted, findingOf}
+use Rattle.judge_rules.specs.LineTable.{AllFaultless}
 use Rattle.judge_rules.specs.HistoryText.{readingsOf, Faulty, firstFaulty, eventsIn, Tells}
-use Rattle.judge_rules.specs.Judgement.{filled, sayFinding, sayLines, judgementOf}
+use Rattle.judge_rules.specs.Judgement.{filled, sayFinding, sayHistory, sayLines, judgementOf}
 use Rattle.judge_rules.proofs.Deciding.{by-finding}
 use Rattle.judge_rules.proofs.FewJobs.{at-most-255, committed-within}
 use Rattle.judge_rules.proofs.Histories.{jobs-committed, order-once, order-names, knot-shows}
 use Rattle.judge_rules.proofs.LineFaults.{finds-fault}
 use Rattle.judge.proofs.FewLines.{number-few}
 use Rattle.judge_rules.specs.VerdictLine.{sayLine, judgedLine, verdictOf, lineLimit}
+use Rattle.judge_rules.proofs.DirtyJobs.{dirty-within}
 use Rattle.judge_line.proofs.WordLines.{word-line-length, two-numbers-length}
 
 -- jobs of at most three digits have at most four bytes each, the tab among them
@@ -71,9 +75,13 @@ unfolding filled
 filled-first js buffer = take-append-seam js (drop (length js) buffer)
 
 module _ (ls : List Reading) (e : firstFaulty 1 [] ls ≡ none) (buffer : List ℕ) where
+  -- no line has a fault
+  faultless : AllFaultless ls
+  faultless = subst (Tells ls) e (finds-fault ls)
+
   -- a job with a c is 1 to 255
   within : (j : ℕ) → marked isCommit j (eventsIn ls) ≡ true → (1 ≤ j) × (j ≤ 255)
-  within = committed-within ls (subst (Tells ls) e (finds-fault ls))
+  within = committed-within ls faultless
 
   -- the line of an order
   order-at-most : (order : List ℕ) → findingOf (eventsIn ls) ≡ orderly order → length (wordLine word.the-variants.Orderly order) ≤ lineLimit
@@ -86,7 +94,7 @@ module _ (ls : List Reading) (e : firstFaulty 1 [] ls ≡ none) (buffer : List �
       let k = knot-shows (eventsIn ls) js v in
       jobs-at-most word.the-variants.Knot js (k .once) (λ j m. within j (sym (jobs-committed (eventsIn ls) j) ∙ k .only j m))
 
-  -- the line of a verdict on faultless lines
+  -- the line of an order or a knot
   said-at-most : let j = sayFinding buffer (findingOf (eventsIn ls)) in length (sayLine (j .said) (j .order)) ≤ lineLimit
   unfolding sayFinding sayLine
   said-at-most =
@@ -94,10 +102,27 @@ module _ (ls : List Reading) (e : firstFaulty 1 [] ls ≡ none) (buffer : List �
       (λ order v. rw v (rw filled-first (order-at-most order v)))
       (λ js v. rw v (rw filled-first (knot-at-most js v)))
 
+  -- the line of a dirty read
+  dirty-at-most : (d : ReadOf) → dirtyOf (eventsIn ls) ≡ some d → length (wordLine word.the-variants.Dirty (d .reader ∷ d .writer ∷ [])) ≤ lineLimit
+  dirty-at-most d v =
+      let w = dirty-within ls faultless (d .reader) (d .writer) (dirty-exactly (eventsIn ls) (d .reader) (d .writer) .1 v) in
+      omega (
+        arith,
+        two-numbers-length word.the-variants.Dirty (d .reader) (d .writer),
+        digits-at-most 2 (d .reader) (omega (arith, w .0 .1)),
+        digits-at-most 2 (d .writer) (omega (arith, w .1 .1)),
+      )
+
+  -- the line of a verdict on faultless lines
+  history-at-most : (o : Option ReadOf) → dirtyOf (eventsIn ls) ≡ o → let j = sayHistory buffer (eventsIn ls) o in length (sayLine (j .said) (j .order)) ≤ lineLimit
+  unfolding sayHistory sayLine
+  history-at-most none v = said-at-most
+  history-at-most (some d) v = dirty-at-most d v
+
 -- the line on any lines
 lines-at-most : (buffer text : List ℕ) (o : Option Faulty) → firstFaulty 1 [] (readingsOf text) ≡ o → let j = sayLines buffer text o in length (sayLine (j .said) (j .order)) ≤ lineLimit
 unfolding sayLines sayLine
-lines-at-most buffer text none e = said-at-most (readingsOf text) e buffer
+lines-at-most buffer text none e = history-at-most (readingsOf text) e buffer (dirtyOf (eventsIn (readingsOf text))) refl
 lines-at-most buffer text (some f) e = no-at-most (f .number) (f .why) (number-few 1 [] (readingsOf text) f (omega arith) e)
 
 -- the line on a text of any length, with an order buffer that is long enough

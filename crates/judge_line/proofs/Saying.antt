@@ -13,7 +13,7 @@ use Rattle.terms.specs.Refusals.{numberOf}
 use Rattle.text_rules.specs.declared.Written.{Written}
 use Rattle.text_rules.specs.Records.{told, left, wordLine}
 use Rattle.judge_rules.specs.declared.verdict.Verdict.{Verdict}
-use Rattle.judge_rules.specs.declared.verdict.Verdict.the-variants.{Orderly, Knot, No}
+use Rattle.judge_rules.specs.declared.verdict.Verdict.the-variants.{Orderly, Knot, Dirty, No}
 use Rattle.judge_rules.specs.Judgement.{judgementOf}
 use Rattle.judge_rules.specs.VerdictLine.{sayLine, judgedLine, verdictOf}
 
@@ -36,6 +36,12 @@ pub says-knot : {w : Written} {m : List ℕ} (v : Verdict) (n : ℕ) (order plac
     Says w m b (sayLine v order)
 unfolding sayLine
 says-knot v n order places b e f s = says-as b _ _ (ap (wordLine word.the-variants.Knot) f ∙ ap (λ u. sayLine u order) (sym e)) s
+
+-- a dirty read
+pub says-dirty : {w : Written} {m : List ℕ} (v : Verdict) (reader writer : ℕ) (order b : List ℕ) → v ≡ Dirty reader writer → Says w m b (wordLine word.the-variants.Dirty (reader ∷ writer ∷ [])) →
+    Says w m b (sayLine v order)
+unfolding sayLine
+says-dirty v reader writer order b e s = says-as b _ _ (ap (λ u. sayLine u order) (sym e)) s
 
 -- a refusal
 pub says-no : {w : Written} {m : List ℕ} (v : Verdict) (line number : ℕ) (why : Refusal) (order b : List ℕ) → v ≡ No line why → number ≡ numberOf why →

@@ -1,4 +1,4 @@
-// The verdict as a line: orderly or knot and the jobs, or no, line number, refusal (01, The judge's rules).
+// The verdict as a line: orderly or knot and the jobs, dirty and reader and writer, or no, line number, refusal (01, The judge's rules; 02, No. 2).
 use crate::lines::write_jobs;
 use crate::lines::write_no;
 use judge::entry::judge_text;
@@ -28,6 +28,7 @@ pub fn write_verdict(said: Verdict, order: &[u8], out: &mut [u8]) -> Written
     match said {
         Verdict::Orderly(n) => write_jobs(out, Word::Orderly, first_places(order, n)),
         Verdict::Knot(n) => write_jobs(out, Word::Knot, first_places(order, n)),
+        Verdict::Dirty { reader, writer } => write_jobs(out, Word::Dirty, &[reader, writer]),
         Verdict::No { line, why } => write_no(out, line as u64, number_of(why) as u64),
     }
 }

@@ -1,4 +1,4 @@
--- The judge in the paper's words and numbers: which texts are faultless, which line is refused and with which number, and of which texts orderly and a knot are said; each both ways (01, Refusals by number; 01, The judge's rules).
+-- The judge in the paper's words and numbers: which texts are faultless, which line is refused and with which number, and of which texts dirty, orderly and a knot are said; each both ways (01, Refusals by number; 01, The judge's rules; 02, No. 2).
 -- Assumes nothing.
 use Prim.Native.Nat.{ℕ, _-_, _≤_, _<_}
 use mathlib.Core.Path.{_≡_, refl, ap, _∙_}
@@ -13,10 +13,12 @@ use Rattle.terms.specs.declared.refusals.Refusal.{Refusal}
 use Rattle.terms.specs.declared.refusals.Refusal.the-variants.{TooManyLines, ShortOrder}
 use Rattle.terms.specs.Refusals.{numberOf}
 use Rattle.conflict.specs.Schedule.{ConflictSerializable}
-use Rattle.conflict.specs.History.{committedPart}
+use Rattle.conflict.specs.History.{History, committedPart}
+use Rattle.conflict.specs.Dirty.{IsDirty, FirstDirty}
+use Rattle.conflict.proofs.DirtyFound.{first-is-dirty}
 use Rattle.text_rules.specs.Split.{linesOf}
 use Rattle.judge_rules.specs.declared.verdict.Verdict.{Verdict}
-use Rattle.judge_rules.specs.declared.verdict.Verdict.the-variants.{Orderly, Knot, No}
+use Rattle.judge_rules.specs.declared.verdict.Verdict.the-variants.{Orderly, Knot, Dirty, No}
 use Rattle.judge_rules.specs.HistoryText.{readingsOf, eventsIn}
 use Rattle.judge_rules.specs.Judgement.{judgementOf, inNumbers}
 use Rattle.judge_rules.specs.LineTable.{readingAt, linesBefore, Faultless, FirstFault, AllFaultless}
@@ -27,7 +29,7 @@ use Rattle.judge_rules.proofs.CleanLines.{clean-line}
 use Rattle.judge_rules.proofs.OneAnswer.{no-fault}
 use Rattle.judge_rules.proofs.Refusing.{short-exactly, line-0-short, refused-exactly}
 use Rattle.judge_rules.proofs.VerdictNumbers.{same-verdict}
-use Rattle.judge_rules.proofs.JudgedTexts.{orderly-said, knot-said, orderly-said-exactly, knot-said-exactly}
+use Rattle.judge_rules.proofs.JudgedTexts.{dirty-said, orderly-said, knot-said, dirty-said-exactly, orderly-said-exactly, knot-said-exactly}
 use Rattle.judge_rules.proofs.WordedLines.{faultless-sound, sound-faultless, due-worded, worded-due}
 
 -- what the paper asks of line n where it refuses it: the lines before it are faultless, it is there, and it has the fault of that number and none that is tested before
@@ -95,25 +97,44 @@ module _ (text buffer : List ℕ) where
     λ p. unfold inNumbers in ap inNumbers (refused-as-worded 4_097 TooManyLines (omega arith) .1 (room, record { from = omega arith; to = p .0; before = p .1; fault = too-many refl })),
   )
 
-  -- what is said is a refusal or it is not
-  by-said : {P : Type 0} (v : Verdict) → judgementOf text buffer .said ≡ v → ((n : ℕ) (why : Refusal) → judgementOf text buffer .said ≡ No n why → P) →
-      ((n : ℕ) → judgementOf text buffer .said ≡ Orderly n → P) → ((n : ℕ) → judgementOf text buffer .said ≡ Knot n → P) → P
-  by-said (No n why) e one′ two′ three′ = one′ n why e
-  by-said (Orderly n) e one′ two′ three′ = two′ n e
-  by-said (Knot n) e one′ two′ three′ = three′ n e
+  -- the history that the text says
+  abbrev says : History
+  says = eventsIn (readingsOf text)
 
-  -- ORDERLY: it is said exactly of a faultless text, with 255 places, of which the committed part is conflict-serializable
-  pub orderly-as-worded : ((n : ℕ) × (judgementOf text buffer .said ≡ Orderly n)) ↔ ((255 ≤ length buffer) × SoundText text × ConflictSerializable (committedPart (eventsIn (readingsOf text))))
-  orderly-as-worded = (
-    λ s. let o = orderly-said text buffer (s .0) (s .1) in (o .0, faultless-exactly text .0 (o .1), orderly-said-exactly text buffer (o .0) (o .1) .0 s),
-    λ p. orderly-said-exactly text buffer (p .0) (faultless-exactly text .1 (p .1)) .1 (p .2),
+  -- what is said is a refusal or it is not
+  by-said : {P : Type 0} (v : Verdict) → judgementOf text buffer .said ≡ v → ((n : ℕ) (why : Refusal) → judgementOf text buffer .said ≡ No n why → P) → ((i j : ℕ) → judgementOf text buffer .said ≡ Dirty i j → P) →
+      ((n : ℕ) → judgementOf text buffer .said ≡ Orderly n → P) → ((n : ℕ) → judgementOf text buffer .said ≡ Knot n → P) → P
+  by-said (No n why) e one′ two′ three′ four′ = one′ n why e
+  by-said (Dirty i j) e one′ two′ three′ four′ = two′ i j e
+  by-said (Orderly n) e one′ two′ three′ four′ = three′ n e
+  by-said (Knot n) e one′ two′ three′ four′ = four′ n e
+
+  -- DIRTY: it is said with this reader and this writer exactly of a faultless text, with 255 places, of which they are those of the first dirty read
+  pub dirty-as-worded : (i j : ℕ) → (judgementOf text buffer .said ≡ Dirty i j) ↔ ((255 ≤ length buffer) × SoundText text × FirstDirty says i j)
+  dirty-as-worded i j = (
+    λ e. let d = dirty-said text buffer i j e in (d .0, faultless-exactly text .0 (d .1), d .2 .first),
+    λ p. dirty-said-exactly text buffer (p .0) (faultless-exactly text .1 (p .1)) i j .1 (p .2),
   )
 
-  -- A KNOT: it is said exactly of a faultless text, with 255 places, of which the committed part is not conflict-serializable
-  pub knot-as-worded : ((n : ℕ) × (judgementOf text buffer .said ≡ Knot n)) ↔ ((255 ≤ length buffer) × SoundText text × (ConflictSerializable (committedPart (eventsIn (readingsOf text))) → ⊥))
+  -- in numbers it is 3, reader, writer
+  pub dirty-in-numbers : (i j : ℕ) → (inNumbers (judgementOf text buffer .said) ≡ 3 ∷ i ∷ j ∷ []) ↔ ((255 ≤ length buffer) × SoundText text × FirstDirty says i j)
+  dirty-in-numbers i j = (
+    λ e. dirty-as-worded i j .0 (same-verdict (judgementOf text buffer .said) (Dirty i j) (unfold inNumbers in e)),
+    λ p. unfold inNumbers in ap inNumbers (dirty-as-worded i j .1 p),
+  )
+
+  -- ORDERLY: it is said exactly of a faultless text, with 255 places, of which the committed part is conflict-serializable and which is not dirty
+  pub orderly-as-worded : ((n : ℕ) × (judgementOf text buffer .said ≡ Orderly n)) ↔ ((255 ≤ length buffer) × SoundText text × ConflictSerializable (committedPart says) × (IsDirty says → ⊥))
+  orderly-as-worded = (
+    λ s. let o = orderly-said text buffer (s .0) (s .1) in (o .0, faultless-exactly text .0 (o .1), orderly-said-exactly text buffer (o .0) (o .1) .0 s .0, o .2 .clean),
+    λ p. orderly-said-exactly text buffer (p .0) (faultless-exactly text .1 (p .1)) .1 (p .2, p .3),
+  )
+
+  -- A KNOT: it is said exactly of a faultless text, with 255 places, of which the committed part is not conflict-serializable and which is not dirty
+  pub knot-as-worded : ((n : ℕ) × (judgementOf text buffer .said ≡ Knot n)) ↔ ((255 ≤ length buffer) × SoundText text × (ConflictSerializable (committedPart says) → ⊥) × (IsDirty says → ⊥))
   knot-as-worded = (
-    λ s. let k = knot-said text buffer (s .0) (s .1) in (k .0, faultless-exactly text .0 (k .1), knot-said-exactly text buffer (k .0) (k .1) .0 s),
-    λ p. knot-said-exactly text buffer (p .0) (faultless-exactly text .1 (p .1)) .1 (p .2),
+    λ s. let k = knot-said text buffer (s .0) (s .1) in (k .0, faultless-exactly text .0 (k .1), knot-said-exactly text buffer (k .0) (k .1) .0 s .0, k .2 .clean),
+    λ p. knot-said-exactly text buffer (p .0) (faultless-exactly text .1 (p .1)) .1 (p .2, p .3),
   )
 
   -- a refusal is said of a text with faults or of a short buffer alone
@@ -133,6 +154,35 @@ module _ (text buffer : List ℕ) where
   no-as-worded = (
     λ s. by-test (leb 255 (length buffer)) (λ t. inr (refused-not-sound (s .0) (s .1) (s .2) (leb-true 255 (length buffer) t))) (λ f. inl (leb-false 255 (length buffer) f)),
     ⊎-elim (λ h. (0, ShortOrder, short-exactly text buffer .1 h))
-        (λ faulty′. by-said (judgementOf text buffer .said) refl (λ n why e. (n, why, e))
+        (λ faulty′. by-said (judgementOf text buffer .said) refl (λ n why e. (n, why, e)) (λ i j e. absurd (faulty′ (dirty-as-worded i j .0 e .1)))
         (λ n e. absurd (faulty′ (orderly-as-worded .0 (n, e) .1))) (λ n e. absurd (faulty′ (knot-as-worded .0 (n, e) .1)))),
   )
+
+  -- what the four kinds of answer are given for: a refusal, dirty, orderly, a knot
+  abbrev pub Refused : Type 0
+  Refused = (length buffer < 255) ⊎ (SoundText text → ⊥)
+
+  abbrev pub Dirtied : Type 0
+  Dirtied = (255 ≤ length buffer) × SoundText text × IsDirty says
+
+  abbrev pub Ordered : Type 0
+  Ordered = (255 ≤ length buffer) × SoundText text × ConflictSerializable (committedPart says) × (IsDirty says → ⊥)
+
+  abbrev pub Knotted : Type 0
+  Knotted = (255 ≤ length buffer) × SoundText text × (ConflictSerializable (committedPart says) → ⊥) × (IsDirty says → ⊥)
+
+  -- ALWAYS ONE: one of the four is so of every text and buffer
+  pub always-one : Refused ⊎ (Dirtied ⊎ (Ordered ⊎ Knotted))
+  always-one =
+      by-said (judgementOf text buffer .said) refl (λ n why e. inl (no-as-worded .0 (n, why, e)))
+      (λ i j e. let d = dirty-as-worded i j .0 e in inr (inl (d .0, d .1, first-is-dirty says i j (d .2))))
+      (λ n e. inr (inr (inl (orderly-as-worded .0 (n, e))))) (λ n e. inr (inr (inr (knot-as-worded .0 (n, e)))))
+
+  -- nothing is refused that has its places and no fault
+  unrefused : Refused → 255 ≤ length buffer → SoundText text → ⊥
+  unrefused (inl h) room s = omega arith
+  unrefused (inr f) room s = f s
+
+  -- NEVER TWO: each excludes the others
+  pub never-two : (Refused → Dirtied → ⊥) × (Refused → Ordered → ⊥) × (Refused → Knotted → ⊥) × (Dirtied → Ordered → ⊥) × (Dirtied → Knotted → ⊥) × (Ordered → Knotted → ⊥)
+  never-two = (λ r d. unrefused r (d .0) (d .1), λ r o. unrefused r (o .0) (o .1), λ r k. unrefused r (k .0) (k .1), λ d o. o .3 (d .2), λ d k. k .3 (d .2), λ o k. k .2 (o .2))

@@ -11,7 +11,9 @@ use Rattle.conflict.specs.declared.action.Mark.the-variants.{Commit, Back}
 use Rattle.conflict.specs.declared.action.Event.{Event}
 use Rattle.conflict.specs.declared.action.Event.the-variants.{Does, Ends}
 use Rattle.conflict.specs.Schedule.{agree, conflicts, keep, touches, edge}
-use Rattle.conflict.specs.History.{History, isCommit, isBack, marked, partOf, committedPart, commitOrder}
+use Rattle.conflict.specs.History.{History, isCommit, isBack, marked, partOf, committedPart, commits, commitOrder}
+use Rattle.conflict.specs.Runs.{isEnd, ended}
+use Rattle.conflict.specs.Dirty.{changes, spoils, lookBack, writerOf, readOrLater, dirtyFrom, dirtyOf}
 use Rattle.text_rules.specs.Quoted.{bytes}
 use Rattle.text_rules.specs.Lines.{isDigit, digitsOf, afterDigits, valueFrom, shortest, numberThen, ending, cellPart, jobPart, letterPart, readLine}
 use Rattle.text_rules.specs.Split.{inFront, linesOf}
@@ -19,7 +21,7 @@ use Rattle.judge_rules.specs.Order.{preceded, first, ready, without, end
 use Rattle.judge_rules.specs.Knot.{predecessor, upTo, from, walk, least, turnTo, turn, knotIn}
 use Rattle.judge_rules.specs.Judged.{Finding, orderly, knotted, findingBy, judged, insert, sorted, jobsOf, findingOf}
 use Rattle.judge_rules.specs.HistoryText.{readingsOf, faultOfGood, faultOf, lineFault, endedAfter, orLater, firstFaulty, eventOf, eventsIn, bare}
-use Rattle.judge_rules.specs.Judgement.{filled, sayFinding, sayLines, judgementOf, inNumbers}
+use Rattle.judge_rules.specs.Judgement.{filled, sayFinding, sayHistory, sayLines, judgementOf, inNumbers}
 use Rattle.judge_rules.specs.JudgedSet.{tells, told, cases}
 
 -- cell A of the papers is 0
@@ -98,5 +100,5 @@ tried = refl
 
 -- each of these texts is told so
 pub all-told : map tells cases ≡ map told cases
-unfolding bytes isDigit digitsOf afterDigits valueFrom shortest numberThen ending cellPart jobPart letterPart readLine inFront linesOf member put recorded agree conflicts keep touches edge isCommit isBack marked partOf committedPart commitOrder preceded first ready without ends leads taken orderOf stuck predecessor upTo from walk least turnTo turn knotIn findingBy judged insert sorted jobsOf findingOf readingsOf faultOfGood faultOf lineFault endedAfter orLater firstFaulty eventOf eventsIn bare filled sayFinding sayLines judgementOf inNumbers
+unfolding bytes isDigit digitsOf afterDigits valueFrom shortest numberThen ending cellPart jobPart letterPart readLine inFront linesOf member put recorded agree conflicts keep touches edge isCommit isBack marked partOf committedPart commitOrder preceded first ready without ends leads taken orderOf stuck predecessor upTo from walk least turnTo turn knotIn findingBy judged insert sorted jobsOf findingOf readingsOf faultOfGood faultOf lineFault endedAfter orLater firstFaulty eventOf eventsIn bare commits isEnd ended changes spoils lookBack writerOf readOrLater dirtyFrom dirtyOf filled sayFinding sayHistory sayLines judgementOf inNumbers
 all-told = refl

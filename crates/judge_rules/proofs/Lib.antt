@@ -20,6 +20,7 @@ pub mod LineFaults
 pub mod LineBack
 pub mod CleanLines
 pub mod FewJobs
+pub mod DirtyJobs
 pub mod Answering
 pub mod OneAnswer
 pub mod Refusing

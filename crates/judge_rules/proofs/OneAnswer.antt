@@ -3,7 +3,7 @@
 use Prim.Native.Nat.{ℕ, _≤_, _<_}
 use mathlib.Core.Path.{_≡_, refl, sym, ap, ap₂, _∙_, subst}
 use mathlib.Core.Logic.{_↔_}
-use mathlib.Core.List.{List, [], _++_}
+use mathlib.Core.List.{List, [], _∷_, _++_}
 use mathlib.Core.Option.{Option, none, some}
 use native.Mathlib.Omega.{arith}
 use lib.Dec.{ltb}
@@ -13,16 +13,18 @@ use Rattle.laws.specs.Choice.{by-test}
 use Rattle.terms.specs.declared.refusals.Refusal.{Refusal}
 use Rattle.terms.specs.declared.refusals.Refusal.the-variants.{ShortOrder}
 use Rattle.terms.specs.Limits.{judgedJobs}
+use Rattle.conflict.specs.Dirty.{IsDirty, FirstDirty, dirtyOf}
+use Rattle.conflict.proofs.DirtyFound.{dirty-exactly, clean-exactly}
 use Rattle.text_rules.specs.declared.Reading.{Reading}
 use Rattle.text_rules.specs.Split.{linesOf}
-use Rattle.judge_rules.specs.declared.verdict.Verdict.the-variants.{Orderly, Knot, No}
+use Rattle.judge_rules.specs.declared.verdict.Verdict.the-variants.{Orderly, Knot, Dirty, No}
 use Rattle.judge_rules.specs.Judged.{orderly, knotted, findingOf}
 use Rattle.judge_rules.specs.Meant.Says.{says-order, says-cycle}
 use Rattle.judge_rules.specs.HistoryText.{readingsOf, lineAt, Faulty, firstFaulty, eventsIn, bare, Tells}
-use Rattle.judge_rules.specs.Judgement.{Judgement, filled, sayFinding, sayLines, judgementOf}
+use Rattle.judge_rules.specs.Judgement.{Judgement, filled, sayFinding, sayHistory, sayLines, judgementOf}
 use Rattle.judge_rules.specs.LineTable.{Faultless, Due, FirstFault, AllFaultless}
 use Rattle.judge_rules.specs.Answers.{Fills, Answers}
-use Rattle.judge_rules.specs.Answers.Answers.{short, faulty, in-order, in-knot}
+use Rattle.judge_rules.specs.Answers.Answers.{short, faulty, in-dirt, in-order, in-knot}
 use Rattle.judge_rules.proofs.Histories.{finding-exactly}
 use Rattle.judge_rules.proofs.LineFaults.{finds-fault}
 use Rattle.judge_rules.proofs.LineBack.{stands-only}
@@ -80,7 +82,7 @@ module _ (text buffer : List ℕ) where
         same-answer (ap₂ No (s .0) (s .1)) refl (ap (λ m. bare (lineAt (linesOf text) m)) (s .0))
 
     -- where every line is faultless, the verdict is
-    verdict-by : AllFaultless (readingsOf text) → (o : Option Faulty) → Tells (readingsOf text) o → sayLines buffer text o ≡ sayFinding buffer (findingOf (eventsIn (readingsOf text)))
+    verdict-by : AllFaultless (readingsOf text) → (o : Option Faulty) → Tells (readingsOf text) o → sayLines buffer text o ≡ sayHistory buffer (eventsIn (readingsOf text)) (dirtyOf (eventsIn (readingsOf text)))
     unfolding sayLines
     verdict-by all none t = refl
     verdict-by all (some g) t = no-fault (readingsOf text) (g .number) (g .why) all t
@@ -90,8 +92,18 @@ module _ (text buffer : List ℕ) where
     fault-is n why f = lines-decide ∙ fault-by n why f (firstFaulty 1 [] (readingsOf text)) (finds-fault (readingsOf text))
 
     -- and of a faultless text the verdict is given
-    verdict-is : AllFaultless (readingsOf text) → judgementOf text buffer ≡ sayFinding buffer (findingOf (eventsIn (readingsOf text)))
+    verdict-is : AllFaultless (readingsOf text) → judgementOf text buffer ≡ sayHistory buffer (eventsIn (readingsOf text)) (dirtyOf (eventsIn (readingsOf text)))
     verdict-is all = lines-decide ∙ verdict-by all (firstFaulty 1 [] (readingsOf text)) (finds-fault (readingsOf text))
+
+    -- where it is dirty, reader and writer are told
+    dirt-is : AllFaultless (readingsOf text) → (i j : ℕ) → FirstDirty (eventsIn (readingsOf text)) i j → judgementOf text buffer ≡ record { said = Dirty i j; order = filled (i ∷ j ∷ []) buffer; line = [] }
+    unfolding sayHistory
+    dirt-is all i j f = verdict-is all ∙ ap (sayHistory buffer (eventsIn (readingsOf text))) (dirty-exactly (eventsIn (readingsOf text)) i j .0 f)
+
+    -- and where it is not, the order or the knot
+    clean-is : AllFaultless (readingsOf text) → (IsDirty (eventsIn (readingsOf text)) → ⊥) → judgementOf text buffer ≡ sayFinding buffer (findingOf (eventsIn (readingsOf text)))
+    unfolding sayHistory
+    clean-is all c = verdict-is all ∙ ap (sayHistory buffer (eventsIn (readingsOf text))) (clean-exactly (eventsIn (readingsOf text)) .0 c)
 
 -- an answer that is one of the paper's is the judge's
 answer-is : (text buffer : List ℕ) (j : Judgement) → Answers text buffer j → judgementOf text buffer ≡ j
@@ -99,12 +111,14 @@ unfolding sayFinding
 answer-is text buffer j (short h) = short-is text buffer h
 answer-is text buffer j (faulty {n = n} {why = why} {line = line} room f s) =
     fault-is text buffer room n why f ∙ same-answer refl refl (sym (stands-only text n line s))
+answer-is text buffer j (in-dirt {reader = i} {writer = k} room all d) =
+    dirt-is text buffer room all i k (d .first) ∙ same-answer refl (sym (fills-only (i ∷ k ∷ []) buffer _ (d .fills))) refl
 answer-is text buffer j (in-order room all o) =
-    verdict-is text buffer room all
+    clean-is text buffer room all (o .clean)
     ∙ ap (sayFinding buffer) (finding-exactly (eventsIn (readingsOf text)) (orderly (o .order)) .0 (says-order (o .smallest)))
     ∙ same-answer (ap Orderly (sym (o .count))) (sym (fills-only (o .order) buffer _ (o .fills))) refl
 answer-is text buffer j (in-knot room all k) =
-    verdict-is text buffer room all
+    clean-is text buffer room all (k .clean)
     ∙ ap (sayFinding buffer) (finding-exactly (eventsIn (readingsOf text)) (knotted (k .knot)) .0 (says-cycle (k .takes) (k .walked)))
     ∙ same-answer (ap Knot (sym (k .count))) (sym (fills-only (k .knot) buffer _ (k .fills))) refl
 

@@ -1,4 +1,4 @@
--- What the verdict program prints of every text, byte by byte: of one that is too long, that has a faulty line, that is orderly, and of a knot (01, The judge's rules).
+-- What the verdict program prints of every text, byte by byte: of one that is too long, that has a faulty line, that is dirty, that is orderly, and of a knot (01, The judge's rules; 02, No. 2).
 -- Assumes nothing.
 use Prim.Native.Nat.{ℕ, _≤_, _<_}
 use mathlib.Core.Path.{_≡_, ap, _∙_}
@@ -6,18 +6,19 @@ use mathlib.Core.List.{List, [], _∷_, _++_, map}
 use native.Mathlib.Omega.{arith}
 use borrow.Author.Tests.{lt-ltb, le-ltb}
 use lib.ListN.{length, take, replicate, length-replicate}
-use Rattle.terms.specs.declared.words.Word.the-variants.{Orderly as the-word-orderly, Knot as the-word-knot, No as the-word-no}
+use Rattle.terms.specs.declared.words.Word.the-variants.{Orderly as the-word-orderly, Knot as the-word-knot, Dirty as the-word-dirty, No as the-word-no}
 use Rattle.terms.specs.declared.refusals.Refusal.{Refusal}
 use Rattle.terms.specs.Limits.{judgedBytes, judgedJobs}
 use Rattle.terms.specs.Refusals.{numberOf}
 use Rattle.conflict.specs.Schedule.{ConflictSerializable, edge}
 use Rattle.conflict.specs.History.{History, committedPart}
+use Rattle.conflict.specs.Dirty.{IsDirty, FirstDirty}
 use Rattle.text_rules.specs.Decimal.{decimal, digitsIn}
 use Rattle.text_rules.specs.Records.{tabbed, wordLine}
 use Rattle.text_rules.specs.Split.{joined}
-use Rattle.text_rules.proofs.RecordBytes.{orderly-bytes, knot-bytes, refusal-bytes}
+use Rattle.text_rules.proofs.RecordBytes.{orderly-bytes, knot-bytes, dirty-bytes, refusal-bytes}
 use Rattle.judge_rules.specs.declared.verdict.Verdict.{Verdict}
-use Rattle.judge_rules.specs.declared.verdict.Verdict.the-variants.{Orderly, Knot, No}
+use Rattle.judge_rules.specs.declared.verdict.Verdict.the-variants.{Orderly, Knot, Dirty, No}
 use Rattle.judge_rules.specs.Judged.{jobsOf}
 use Rattle.judge_rules.specs.Judgement.{judgementOf}
 use Rattle.judge_rules.specs.HistoryText.{readingsOf, eventsIn}
@@ -25,7 +26,7 @@ use Rattle.judge_rules.specs.LineTable.{FirstFault, AllFaultless}
 use Rattle.judge_rules.specs.Meant.{SmallestFirst, Takes, Shown}
 use Rattle.judge_rules.specs.VerdictLine.{sayLine, judgedLine, verdictOf}
 use Rattle.judge_rules.proofs.Refusing.{refused-exactly}
-use Rattle.judge_rules.proofs.JudgedTexts.{orderly-said, orderly-said-exactly, knot-said, knot-said-exactly}
+use Rattle.judge_rules.proofs.JudgedTexts.{dirty-said-exactly, orderly-said, orderly-said-exactly, knot-said, knot-said-exactly}
 
 -- the order buffer of the verdict program
 abbrev places : List ℕ
@@ -40,7 +41,7 @@ short-text : (text : List ℕ) → length text ≤ judgedBytes → verdictOf tex
 unfolding verdictOf judgedLine
 short-text text h = rw (le-ltb judgedBytes (length text) h)
 
--- the line of an order, of a knot and of a refusal
+-- the line of an order, of a knot, of a dirty read and of a refusal
 said-order : (v : Verdict) (order : List ℕ) (n : ℕ) → v ≡ Orderly n → sayLine v order ≡ wordLine the-word-orderly (take n order)
 unfolding sayLine
 said-order v order n e = rw e
@@ -48,6 +49,10 @@ said-order v order n e = rw e
 said-knot : (v : Verdict) (order : List ℕ) (n : ℕ) → v ≡ Knot n → sayLine v order ≡ wordLine the-word-knot (take n order)
 unfolding sayLine
 said-knot v order n e = rw e
+
+said-dirty : (v : Verdict) (order : List ℕ) (i j : ℕ) → v ≡ Dirty i j → sayLine v order ≡ wordLine the-word-dirty (i ∷ j ∷ [])
+unfolding sayLine
+said-dirty v order i j e = rw e
 
 said-refusal : (v : Verdict) (order : List ℕ) (n : ℕ) (why : Refusal) → v ≡ No n why → sayLine v order ≡ wordLine the-word-no (n ∷ numberOf why ∷ [])
 unfolding sayLine
@@ -70,11 +75,17 @@ module _ (text : List ℕ) (short : length text ≤ 65_536) where
       short-text text short ∙ said-refusal (judgementOf text places .said) (judgementOf text places .order) n why e ∙ refusal-bytes n (numberOf why)
 
   module _ (all : AllFaultless (readingsOf text)) where
-    -- ORDERLY: of a faultless text whose committed part is conflict-serializable, orderly and each job of its order are printed, a tab before each
-    pub printed-orderly : ConflictSerializable (committedPart says) →
+    -- DIRTY: of a faultless text dirty, reader and writer of its first dirty read are printed, a tab before each
+    pub printed-dirty : (i j : ℕ) → FirstDirty says i j → verdictOf text ≡ 100 ∷ 105 ∷ 114 ∷ 116 ∷ 121 ∷ 9 ∷ decimal i ++ 9 ∷ decimal j ++ 10 ∷ []
+    printed-dirty i j f =
+        let e = dirty-said-exactly text places room all i j .1 f in
+        short-text text short ∙ said-dirty (judgementOf text places .said) (judgementOf text places .order) i j e ∙ dirty-bytes i j
+
+    -- ORDERLY: of a faultless text that is not dirty and whose committed part is conflict-serializable, orderly and each job of its order are printed, a tab before each
+    pub printed-orderly : ConflictSerializable (committedPart says) → (IsDirty says → ⊥) →
         (order : List ℕ) × SmallestFirst (edge (committedPart says)) (jobsOf says) order × (verdictOf text ≡ 111 ∷ 114 ∷ 100 ∷ 101 ∷ 114 ∷ 108 ∷ 121 ∷ joined (map (λ j. 9 ∷ decimal j) order) ++ 10 ∷ [])
-    printed-orderly c =
-        let s = orderly-said-exactly text places room all .1 c in
+    printed-orderly c clean =
+        let s = orderly-said-exactly text places room all .1 (c, clean) in
         let o = orderly-said text places (s .0) (s .1) .2 in (
           o .order,
           o .smallest,
@@ -85,11 +96,11 @@ module _ (text : List ℕ) (short : length text ≤ 65_536) where
         )
 
     -- A KNOT: of any other, knot and each job of its cycle
-    pub printed-knot : (ConflictSerializable (committedPart says) → ⊥) →
+    pub printed-knot : (ConflictSerializable (committedPart says) → ⊥) → (IsDirty says → ⊥) →
         (knot : List ℕ) × (taken : List ℕ) × (remain : List ℕ) × Takes (edge (committedPart says)) (jobsOf says) taken remain × Shown (edge (committedPart says)) remain knot
         × (verdictOf text ≡ 107 ∷ 110 ∷ 111 ∷ 116 ∷ joined (map (λ j. 9 ∷ decimal j) knot) ++ 10 ∷ [])
-    printed-knot c =
-        let s = knot-said-exactly text places room all .1 c in
+    printed-knot c clean =
+        let s = knot-said-exactly text places room all .1 (c, clean) in
         let k = knot-said text places (s .0) (s .1) .2 in (
           k .knot,
           k .taken,

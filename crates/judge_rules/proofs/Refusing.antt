@@ -1,15 +1,12 @@
 -- The judge's refusals are given exactly when the table says, with the right line number; the line is handed back then and only then, and the buffer stays (01, Refusals by number; 01, Lines).
 -- Assumes nothing.
 use Prim.Native.Nat.{ℕ, _≤_, _<_}
-use mathlib.Core.Path.{_≡_, refl, ap, subst}
+use mathlib.Core.Path.{_≡_, refl, ap}
 use mathlib.Core.Logic.{_↔_}
-use mathlib.Core.Bool.{Bool, true}
-use mathlib.Core.List.{List, [], _∷_}
-use mathlib.Core.Option.{some}
+use mathlib.Core.Bool.{true}
+use mathlib.Core.List.{List, []}
 use native.Mathlib.Omega.{arith}
 use lib.ListN.{length, take, drop}
-use Rattle.laws.specs.Choice.{by-test}
-use Rattle.laws.specs.Lists.{firstOf}
 use Rattle.laws.proofs.Lists.{first-holds}
 use Rattle.terms.specs.declared.refusals.Refusal.{Refusal}
 use Rattle.terms.specs.declared.refusals.Refusal.the-variants.{ShortOrder}
@@ -19,7 +16,7 @@ use Rattle.judge_rules.specs.HistoryText.{readingsOf}
 use Rattle.judge_rules.specs.Judgement.{Judgement, judgementOf, lineFrom}
 use Rattle.judge_rules.specs.LineTable.{readingAt, linesBefore, holds, order, tableSays, Due, FirstFault}
 use Rattle.judge_rules.specs.Answers.{Stands, Answers}
-use Rattle.judge_rules.specs.Answers.Answers.{short, faulty, in-order, in-knot}
+use Rattle.judge_rules.specs.Answers.Answers.{short, faulty, in-dirt, in-order, in-knot}
 use Rattle.judge_rules.proofs.Answering.{answers}
 use Rattle.judge_rules.proofs.OneAnswer.{answers-exactly}
 use Rattle.judge_rules.proofs.LineBack.{bare-stands, stands-behind}
@@ -34,6 +31,7 @@ module _ (text buffer : List ℕ) where
       let p : m ≡ n = cc in
       let q : x ≡ why = cc in
       two′ room (rw (← p, ← q) f) (rw (← p) s) refl
+  refused-cases j (in-dirt room all d) n why e one′ two′ = let z : _≡_ {A = ℕ} 0 1 = cc in absurd (omega arith)
   refused-cases j (in-order room all o) n why e one′ two′ = let z : _≡_ {A = ℕ} 0 1 = cc in absurd (omega arith)
   refused-cases j (in-knot room all k) n why e one′ two′ = let z : _≡_ {A = ℕ} 0 1 = cc in absurd (omega arith)
 
@@ -65,6 +63,7 @@ module _ (text buffer : List ℕ) where
   no-line : (j : Judgement) → Answers text buffer j → ((n : ℕ) (why : Refusal) → 1 ≤ n → j .said ≡ No n why → ⊥) → j .line ≡ []
   no-line j (short h) other = refl
   no-line j (faulty {n = n} {why = why} room f s) other = absurd (other n why (f .from) refl)
+  no-line j (in-dirt room all d) other = refl
   no-line j (in-order room all o) other = refl
   no-line j (in-knot room all k) other = refl
 
@@ -77,6 +76,7 @@ module _ (text buffer : List ℕ) where
   unfolding lineFrom
   handed-there j (short h) = refl
   handed-there j (faulty {n = n} {line = line} room f s) = stands-behind text n line s
+  handed-there j (in-dirt room all d) = refl
   handed-there j (in-order room all o) = refl
   handed-there j (in-knot room all k) = refl
 

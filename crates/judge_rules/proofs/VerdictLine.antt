@@ -11,7 +11,7 @@ use lib.Dec.{eqb, ltb}
 use lib.ListN.{length, getD, take, replicate, length-replicate}
 use Rattle.laws.specs.Choice.{by-test}
 use Rattle.terms.specs.declared.words.Word.{Word}
-use Rattle.terms.specs.declared.words.Word.the-variants.{Go, Wait, Back, No, Wake, Orderly, Knot}
+use Rattle.terms.specs.declared.words.Word.the-variants.{Go, Wait, Back, No, Wake, Orderly, Knot, Dirty}
 use Rattle.terms.specs.declared.refusals.Refusal.{Refusal}
 use Rattle.terms.specs.declared.refusals.Refusal.the-variants.{TooLong}
 use Rattle.terms.specs.Limits.{judgedBytes, judgedJobs}
@@ -22,7 +22,7 @@ use Rattle.text_rules.specs.Decimal.{decimal}
 use Rattle.text_rules.proofs.DigitLaws.{decimal-0}
 use Rattle.text_rules.proofs.DecimalLaws.{decimal-digits, decimal-shortest, decimal-value}
 use Rattle.judge_rules.specs.declared.verdict.Verdict.{Verdict}
-use Rattle.judge_rules.specs.declared.verdict.Verdict.the-variants.{Orderly as is-orderly, Knot as is-knot, No as is-refused}
+use Rattle.judge_rules.specs.declared.verdict.Verdict.the-variants.{Orderly as is-orderly, Knot as is-knot, Dirty as is-dirty, No as is-refused}
 use Rattle.text_rules.specs.Records.{tabbed, wordLine}
 use Rattle.text_rules.specs.Split.{noNewline}
 use Rattle.judge_rules.specs.Judgement.{judgementOf}
@@ -40,6 +40,7 @@ word-plain No = refl
 word-plain Wake = refl
 word-plain Orderly = refl
 word-plain Knot = refl
+word-plain Dirty = refl
 
 -- nor have numbers with a tab before each
 tabbed-plain : (ns : List ℕ) → noNewline (tabbed ns) ≡ true
@@ -61,6 +62,7 @@ said-one-line : (v : Verdict) (order : List ℕ) → OneLine (sayLine v order)
 unfolding sayLine
 said-one-line (is-orderly n) order = word-one-line Orderly (take n order)
 said-one-line (is-knot n) order = word-one-line Knot (take n order)
+said-one-line (is-dirty i j) order = word-one-line Dirty (i ∷ j ∷ [])
 said-one-line (is-refused line why) order = word-one-line No (line ∷ numberOf why ∷ [])
 
 -- digits that begin with 0 and are shortest are the single 0
@@ -95,6 +97,7 @@ module _ (text : List ℕ) where
   unfolding sayLine wordLine
   not-16 (is-orderly n) order e p = other-word Orderly (take n order) p refl
   not-16 (is-knot n) order e p = other-word Knot (take n order) p refl
+  not-16 (is-dirty i j) order e p = other-word Dirty (i ∷ j ∷ []) p refl
   not-16 (is-refused n why) order e p = refused-line n why e (printed-line-0 n (numberOf why) p)
 
 -- SIXTEEN EXACTLY FOR A LONGER TEXT: no, 0, 16 is printed of a text exactly where it has more than 65,536 bytes

@@ -1,135 +1,184 @@
--- The word that the verdict program's line begins with, as bytes, and exactly of which texts: `orderly`, `knot`, `no` (01, The judge's rules; demand 2).
+-- The word that the verdict program's line begins with, as bytes, and exactly of which texts: `dirty`, `orderly`, `knot`, `no` (01, The judge's rules; demand 2; 02, No. 2).
 -- Assumes nothing.
 use Prim.Native.Nat.{ℕ, _≤_, _<_}
-use mathlib.Core.Path.{_≡_, refl, sym, _∙_}
+use mathlib.Core.Path.{_≡_, refl, sym, ap, _∙_}
 use mathlib.Core.Logic.{_↔_, _⊎_, inl, inr, ⊎-elim}
 use mathlib.Core.List.{List, [], _∷_}
 use native.Mathlib.Omega.{arith}
 use lib.Dec.{ltb}
-use lib.ListN.{length, length-replicate, take, replicate}
-use borrow.Author.Tests.{ltb-true, ltb-false}
+use lib.ListN.{length, length-replicate, getD, take, replicate}
+use borrow.Author.Tests.{ltb-true, ltb-false, lt-ltb, le-ltb}
 use Rattle.laws.specs.Choice.{by-test}
-use Rattle.terms.specs.declared.words.Word.the-variants.{No as the-no, Orderly as the-orderly, Knot as the-knot}
 use Rattle.terms.specs.declared.refusals.Refusal.{Refusal}
 use Rattle.terms.specs.Limits.{judgedBytes}
-use Rattle.terms.specs.Refusals.{numberOf}
 use Rattle.conflict.specs.Schedule.{ConflictSerializable}
-use Rattle.conflict.specs.History.{committedPart}
+use Rattle.conflict.specs.History.{History, committedPart}
+use Rattle.conflict.specs.Dirty.{IsDirty}
+use Rattle.conflict.proofs.DirtyFound.{first-is-dirty, dirty-first}
 use Rattle.text_rules.specs.Records.{wordLine}
 use Rattle.judge_rules.specs.declared.verdict.Verdict.{Verdict}
-use Rattle.judge_rules.specs.declared.verdict.Verdict.the-variants.{Orderly, Knot, No}
+use Rattle.judge_rules.specs.declared.verdict.Verdict.the-variants.{Orderly, Knot, Dirty, No}
 use Rattle.judge_rules.specs.HistoryText.{readingsOf, eventsIn}
 use Rattle.judge_rules.specs.Judgement.{judgementOf}
 use Rattle.judge_rules.specs.AsWorded.{SoundText}
-use Rattle.judge_rules.proofs.AsWorded.{orderly-as-worded, knot-as-worded, no-as-worded}
+use Rattle.judge_rules.proofs.AsWorded.{dirty-as-worded, orderly-as-worded, knot-as-worded, no-as-worded}
 use Rattle.judge_rules.specs.VerdictLine.{sayLine, judgedLine, verdictOf}
 
 -- the bytes begin with these
 abbrev pub BeginsWith : List ℕ → List ℕ → Type 0
 BeginsWith bytes word = take (length word) bytes ≡ word
 
--- `orderly`, `knot` and `no`
+-- `orderly`, `knot`, `dirty` and `no`
 abbrev pub orderlyBytes : List ℕ
 orderlyBytes = 111 ∷ 114 ∷ 100 ∷ 101 ∷ 114 ∷ 108 ∷ 121 ∷ []
 
 abbrev pub knotBytes : List ℕ
 knotBytes = 107 ∷ 110 ∷ 111 ∷ 116 ∷ []
 
+abbrev pub dirtyBytes : List ℕ
+dirtyBytes = 100 ∷ 105 ∷ 114 ∷ 116 ∷ 121 ∷ []
+
 abbrev pub noBytes : List ℕ
 noBytes = 110 ∷ 111 ∷ []
 
--- a line of a word begins with it
-begins-orderly-word : (ns : List ℕ) → BeginsWith (wordLine the-orderly ns) orderlyBytes
-unfolding wordLine
-begins-orderly-word ns = refl
+-- bytes that begin with a word begin with its first byte
+begins-first : (bytes w : List ℕ) (a : ℕ) → BeginsWith bytes (a ∷ w) → getD bytes 0 0 ≡ a
+begins-first [] w a e = let z : _≡_ {A = ℕ} 0 1 = cc in absurd (omega arith)
+begins-first (c ∷ bytes) w a e = cc
 
-begins-knot-word : (ns : List ℕ) → BeginsWith (wordLine the-knot ns) knotBytes
-unfolding wordLine
-begins-knot-word ns = refl
+-- the word of a verdict
+wordBytes : Verdict → List ℕ
+wordBytes (Orderly n) = orderlyBytes
+wordBytes (Knot n) = knotBytes
+wordBytes (Dirty i j) = dirtyBytes
+wordBytes (No n why) = noBytes
 
-begins-no-word : (ns : List ℕ) → BeginsWith (wordLine the-no ns) noBytes
-unfolding wordLine
-begins-no-word ns = refl
+-- its line begins with it
+line-begins : (v : Verdict) (order : List ℕ) → BeginsWith (sayLine v order) (wordBytes v)
+unfolding sayLine wordLine wordBytes
+line-begins (Orderly n) order = refl
+line-begins (Knot n) order = refl
+line-begins (Dirty i j) order = refl
+line-begins (No n why) order = refl
 
--- lines that begin otherwise differ in their first byte
-first-differs : {P : Type 0} (bytes v w : List ℕ) (a b : ℕ) → BeginsWith bytes (a ∷ v) → BeginsWith bytes (b ∷ w) → (a ≡ b → ⊥) → P
-first-differs [] v w a b e f g = let z : _≡_ {A = ℕ} 0 1 = cc in absurd (omega arith)
-first-differs (c ∷ bytes) v w a b e f g = let p : c ≡ a = cc in let q : c ≡ b = cc in absurd (g (sym p ∙ q))
+-- and by its first byte it is known
+first-byte : (v : Verdict) (order : List ℕ) (b : ℕ) → getD (sayLine v order) 0 0 ≡ b → getD (wordBytes v) 0 0 ≡ b
+unfolding sayLine wordLine wordBytes
+first-byte (Orderly n) order b e = e
+first-byte (Knot n) order b e = e
+first-byte (Dirty i j) order b e = e
+first-byte (No n why) order b e = e
+
+is-orderly : (v : Verdict) → getD (wordBytes v) 0 0 ≡ 111 → (n : ℕ) × (v ≡ Orderly n)
+unfolding wordBytes
+is-orderly (Orderly n) e = (n, refl)
+is-orderly (Knot n) e = absurd (omega arith)
+is-orderly (Dirty i j) e = absurd (omega arith)
+is-orderly (No n why) e = absurd (omega arith)
+
+is-knot : (v : Verdict) → getD (wordBytes v) 0 0 ≡ 107 → (n : ℕ) × (v ≡ Knot n)
+unfolding wordBytes
+is-knot (Orderly n) e = absurd (omega arith)
+is-knot (Knot n) e = (n, refl)
+is-knot (Dirty i j) e = absurd (omega arith)
+is-knot (No n why) e = absurd (omega arith)
+
+is-dirty : (v : Verdict) → getD (wordBytes v) 0 0 ≡ 100 → (i : ℕ) × (j : ℕ) × (v ≡ Dirty i j)
+unfolding wordBytes
+is-dirty (Orderly n) e = absurd (omega arith)
+is-dirty (Knot n) e = absurd (omega arith)
+is-dirty (Dirty i j) e = (i, j, refl)
+is-dirty (No n why) e = absurd (omega arith)
+
+is-refused : (v : Verdict) → getD (wordBytes v) 0 0 ≡ 110 → (n : ℕ) × (why : Refusal) × (v ≡ No n why)
+unfolding wordBytes
+is-refused (Orderly n) e = absurd (omega arith)
+is-refused (Knot n) e = absurd (omega arith)
+is-refused (Dirty i j) e = absurd (omega arith)
+is-refused (No n why) e = (n, why, refl)
 
 module _ (text : List ℕ) where
   -- the judgement with the program's order buffer
-  said : Verdict
+  abbrev said : Verdict
   said = judgementOf text (replicate 255 0) .said
 
-  -- the history that the text says has a conflict-serializable committed part
-  abbrev Serializable : Type 0
-  Serializable = ConflictSerializable (committedPart (eventsIn (readingsOf text)))
+  -- the history that the text says
+  abbrev says : History
+  says = eventsIn (readingsOf text)
 
   -- the program's buffer has 255 places
   room : 255 ≤ length (replicate {A = ℕ} 255 0)
   room = omega (arith, length-replicate {A = ℕ} 255 0)
 
-  -- what the program's line begins with, by what the judge says
-  begins-by : (v : Verdict) (order : List ℕ) → {P : Type 0} → ((n : ℕ) → v ≡ Orderly n → BeginsWith (sayLine v order) orderlyBytes → P) →
-      ((n : ℕ) → v ≡ Knot n → BeginsWith (sayLine v order) knotBytes → P) → ((n : ℕ) (why : Refusal) → v ≡ No n why → BeginsWith (sayLine v order) noBytes → P) → P
-  unfolding sayLine
-  begins-by (Orderly n) order one′ two′ three′ = one′ n refl (begins-orderly-word (take n order))
-  begins-by (Knot n) order one′ two′ three′ = two′ n refl (begins-knot-word (take n order))
-  begins-by (No n why) order one′ two′ three′ = three′ n why refl (begins-no-word (n ∷ numberOf why ∷ []))
+  -- a text that is not too long gets the line of what the judge says
+  short-line : length text ≤ 65_536 → verdictOf text ≡ sayLine said (judgementOf text (replicate 255 0) .order)
+  unfolding verdictOf judgedLine
+  short-line h = rw (le-ltb judgedBytes (length text) h)
 
-  -- the same of the program's line, where a text that is too long begins with no
-  by-line : {P : Type 0} → (length text ≤ 65_536 → (n : ℕ) → said ≡ Orderly n → BeginsWith (verdictOf text) orderlyBytes → P) →
-      (length text ≤ 65_536 → (n : ℕ) → said ≡ Knot n → BeginsWith (verdictOf text) knotBytes → P) →
-      (length text ≤ 65_536 → (n : ℕ) (why : Refusal) → said ≡ No n why → BeginsWith (verdictOf text) noBytes → P) → (65_536 < length text → BeginsWith (verdictOf text) noBytes → P) → P
-  unfolding verdictOf judgedLine said
-  by-line one′ two′ three′ four′ =
-      by-test (ltb judgedBytes (length text))
-      (λ t. four′ (ltb-true judgedBytes (length text) t) (rw t (begins-no-word (0 ∷ 16 ∷ []))))
+  -- a longer one gets no
+  long-line : 65_536 < length text → BeginsWith (verdictOf text) noBytes
+  unfolding verdictOf wordLine
+  long-line h = rw (lt-ltb judgedBytes (length text) h)
+
+  -- what the line begins with is the word of what is said
+  begins-said : length text ≤ 65_536 → (v : Verdict) → said ≡ v → BeginsWith (verdictOf text) (wordBytes v)
+  begins-said h v e = rw (short-line h, ← e) (line-begins said (judgementOf text (replicate 255 0) .order))
+
+  -- a line that begins with another byte than that of no is of a text that is not too long, and what is said has that first byte
+  said-first : (w : List ℕ) (a : ℕ) → BeginsWith (verdictOf text) (a ∷ w) → (a ≡ 110 → ⊥) → (length text ≤ 65_536) × (getD (wordBytes said) 0 0 ≡ a)
+  said-first w a e other =
+      by-test (ltb 65_536 (length text))
+      (λ t. absurd (other (sym (begins-first (verdictOf text) w a e) ∙ begins-first (verdictOf text) (111 ∷ []) 110 (long-line (ltb-true 65_536 (length text) t)))))
       (λ f.
-      let h : length text ≤ 65_536 = ltb-false judgedBytes (length text) f in
-      let j = judgementOf text (replicate 255 0) in
-      begins-by (j .said) (j .order) (λ n e b. one′ h n e (rw f b)) (λ n e b. two′ h n e (rw f b)) (λ n why e b. three′ h n why e (rw f b)))
+      let h = ltb-false 65_536 (length text) f in
+      (h, first-byte said (judgementOf text (replicate 255 0) .order) a (ap (λ l. getD l 0 0) (sym (short-line h)) ∙ begins-first (verdictOf text) w a e)))
 
-  -- ORDERLY: the line begins with it exactly where the text has at most 65,536 bytes, is faultless, and the committed part of what it says is conflict-serializable
-  pub begins-orderly : BeginsWith (verdictOf text) orderlyBytes ↔ ((length text ≤ 65_536) × SoundText text × Serializable)
-  unfolding said
+  -- DIRTY: the line begins with it exactly where the text has at most 65,536 bytes, is faultless, and what it says is dirty
+  pub begins-dirty : BeginsWith (verdictOf text) dirtyBytes ↔ ((length text ≤ 65_536) × SoundText text × IsDirty says)
+  unfolding wordBytes
+  begins-dirty = (
+    λ e.
+        let f = said-first _ 100 e (λ (q : _≡_ {A = ℕ} 100 110). omega arith) in
+        let v = is-dirty said (f .1) in
+        let d = dirty-as-worded text (replicate 255 0) (v .0) (v .1) .0 (v .2) in
+        (f .0, d .1, first-is-dirty says (v .0) (v .1) (d .2)),
+    λ p. let f = dirty-first says (p .2) in begins-said (p .0) (Dirty (f .0) (f .1)) (dirty-as-worded text (replicate 255 0) (f .0) (f .1) .1 (room, p .1, f .2)),
+  )
+
+  -- ORDERLY: exactly where it is as short, is faultless, the committed part of what it says is conflict-serializable, and what it says is not dirty
+  pub begins-orderly : BeginsWith (verdictOf text) orderlyBytes ↔ ((length text ≤ 65_536) × SoundText text × ConflictSerializable (committedPart says) × (IsDirty says → ⊥))
+  unfolding wordBytes
   begins-orderly = (
-    λ e. by-line (λ h n s b. let o = orderly-as-worded text (replicate 255 0) .0 (n, s) in (h, o .1, o .2))
-        (λ h n s b. first-differs (verdictOf text) _ _ 111 107 e b (λ (q : _≡_ {A = ℕ} 111 107). omega arith))
-        (λ h n why s b. first-differs (verdictOf text) _ _ 111 110 e b (λ (q : _≡_ {A = ℕ} 111 110). omega arith))
-        (λ h b. first-differs (verdictOf text) _ _ 111 110 e b (λ (q : _≡_ {A = ℕ} 111 110). omega arith)),
-    λ p. let o = orderly-as-worded text (replicate 255 0) .1 (room, p .1, p .2) in
-        by-line (λ h n s b. b)
-        (λ h n s b. let q : Knot n ≡ Orderly (o .0) = sym s ∙ o .1 in let z : _≡_ {A = ℕ} 0 1 = cc in absurd (omega arith))
-        (λ h n why s b. let q : No n why ≡ Orderly (o .0) = sym s ∙ o .1 in let z : _≡_ {A = ℕ} 0 1 = cc in absurd (omega arith))
-        (λ h b. let g : length text ≤ 65_536 = p .0 in absurd (omega arith)),
+    λ e.
+        let f = said-first _ 111 e (λ (q : _≡_ {A = ℕ} 111 110). omega arith) in
+        let o = orderly-as-worded text (replicate 255 0) .0 (is-orderly said (f .1)) in
+        (f .0, o .1, o .2, o .3),
+    λ p. let o = orderly-as-worded text (replicate 255 0) .1 (room, p .1, p .2, p .3) in begins-said (p .0) (Orderly (o .0)) (o .1),
   )
 
-  -- KNOT: exactly where it is as short, is faultless, and the committed part is not conflict-serializable
-  pub begins-knot : BeginsWith (verdictOf text) knotBytes ↔ ((length text ≤ 65_536) × SoundText text × (Serializable → ⊥))
-  unfolding said
+  -- KNOT: exactly where it is as short, is faultless, the committed part is not conflict-serializable, and what it says is not dirty
+  pub begins-knot : BeginsWith (verdictOf text) knotBytes ↔ ((length text ≤ 65_536) × SoundText text × (ConflictSerializable (committedPart says) → ⊥) × (IsDirty says → ⊥))
+  unfolding wordBytes
   begins-knot = (
-    λ e. by-line (λ h n s b. first-differs (verdictOf text) _ _ 107 111 e b (λ (q : _≡_ {A = ℕ} 107 111). omega arith))
-        (λ h n s b. let k = knot-as-worded text (replicate 255 0) .0 (n, s) in (h, k .1, k .2))
-        (λ h n why s b. first-differs (verdictOf text) _ _ 107 110 e b (λ (q : _≡_ {A = ℕ} 107 110). omega arith))
-        (λ h b. first-differs (verdictOf text) _ _ 107 110 e b (λ (q : _≡_ {A = ℕ} 107 110). omega arith)),
-    λ p. let o = knot-as-worded text (replicate 255 0) .1 (room, p .1, p .2) in
-        by-line (λ h n s b. let q : Orderly n ≡ Knot (o .0) = sym s ∙ o .1 in let z : _≡_ {A = ℕ} 0 1 = cc in absurd (omega arith))
-        (λ h n s b. b)
-        (λ h n why s b. let q : No n why ≡ Knot (o .0) = sym s ∙ o .1 in let z : _≡_ {A = ℕ} 0 1 = cc in absurd (omega arith))
-        (λ h b. let g : length text ≤ 65_536 = p .0 in absurd (omega arith)),
+    λ e.
+        let f = said-first _ 107 e (λ (q : _≡_ {A = ℕ} 107 110). omega arith) in
+        let k = knot-as-worded text (replicate 255 0) .0 (is-knot said (f .1)) in
+        (f .0, k .1, k .2, k .3),
+    λ p. let k = knot-as-worded text (replicate 255 0) .1 (room, p .1, p .2, p .3) in begins-said (p .0) (Knot (k .0)) (k .1),
   )
+
+  -- what is said of a text that is not too long is a refusal where its line begins with no
+  refused-then : BeginsWith (verdictOf text) noBytes → length text ≤ 65_536 → SoundText text → ⊥
+  refused-then e h s =
+      let v = is-refused said (first-byte said (judgementOf text (replicate 255 0) .order) 110 (ap (λ l. getD l 0 0) (sym (short-line h)) ∙ begins-first (verdictOf text) (111 ∷ []) 110 e)) in
+      ⊎-elim (λ (less : length (replicate {A = ℕ} 255 0) < 255). omega (arith, room)) (λ f. f s) (no-as-worded text (replicate 255 0) .0 v)
 
   -- NO: exactly where it has more than 65,536 bytes or is not faultless
   pub begins-no : BeginsWith (verdictOf text) noBytes ↔ ((65_536 < length text) ⊎ (SoundText text → ⊥))
-  unfolding said
+  unfolding wordBytes
   begins-no = (
-    λ e. by-line (λ h n s b. first-differs (verdictOf text) _ _ 110 111 e b (λ (q : _≡_ {A = ℕ} 110 111). omega arith))
-        (λ h n s b. first-differs (verdictOf text) _ _ 110 107 e b (λ (q : _≡_ {A = ℕ} 110 107). omega arith))
-        (λ h n why s b. ⊎-elim (λ less. let g : 255 ≤ length (replicate {A = ℕ} 255 0) = room in absurd (omega arith)) inr (no-as-worded text (replicate 255 0) .0 (n, why, s)))
-        (λ h b. inl h),
-    λ p. by-line
-        (λ h n s b. let o = orderly-as-worded text (replicate 255 0) .0 (n, s) in ⊎-elim (λ long. absurd (omega arith)) (λ faulty. absurd (faulty (o .1))) p)
-        (λ h n s b. let o = knot-as-worded text (replicate 255 0) .0 (n, s) in ⊎-elim (λ long. absurd (omega arith)) (λ faulty. absurd (faulty (o .1))) p)
-        (λ h n why s b. b) (λ h b. b),
+    λ e. by-test (ltb 65_536 (length text)) (λ t. inl (ltb-true 65_536 (length text) t)) (λ f. inr (refused-then e (ltb-false 65_536 (length text) f))),
+    ⊎-elim long-line
+        (λ faulty. by-test (ltb 65_536 (length text)) (λ t. long-line (ltb-true 65_536 (length text) t))
+        (λ f. let r = no-as-worded text (replicate 255 0) .1 (inr faulty) in begins-said (ltb-false 65_536 (length text) f) (No (r .0) (r .1)) (r .2))),
   )

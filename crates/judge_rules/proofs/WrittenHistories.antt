@@ -10,6 +10,7 @@ use lib.ListN.{length, length-map}
 use borrow.Author.Tests.{ne-eqb, le-leb}
 use Rattle.conflict.specs.Schedule.{ConflictSerializable}
 use Rattle.conflict.specs.History.{History, endsForGood, committedPart}
+use Rattle.conflict.specs.Dirty.{IsDirty}
 use Rattle.conflict.specs.declared.action.Event.{Event}
 use Rattle.conflict.specs.declared.action.Event.the-variants.{Does, Ends}
 use Rattle.terms.specs.declared.refusals.Refusal.the-variants.{TooManyLines, JobOutside}
@@ -61,9 +62,9 @@ written-faultless h w g few n from to =
 pub written-fits : (h : History) → allWithin judgedJobs h ≡ true → length h ≤ judgedLines → length (textOf h) ≤ judgedBytes
 written-fits h w few = omega (arith, text-short h (within-more judgedJobs lastNumber (omega arith) h w))
 
--- so of such a history the judge says orderly exactly where its committed part is conflict-serializable
+-- so of such a history the judge says orderly exactly where its committed part is conflict-serializable and it is not dirty
 pub written-judged : (h : History) (buffer : List ℕ) → allWithin judgedJobs h ≡ true → endsForGood h ≡ true → length h ≤ judgedLines → judgedJobs ≤ length buffer →
-    ((n : ℕ) × (judgementOf (textOf h) buffer .said ≡ Orderly n)) ↔ ConflictSerializable (committedPart h)
+    ((n : ℕ) × (judgementOf (textOf h) buffer .said ≡ Orderly n)) ↔ (ConflictSerializable (committedPart h) × (IsDirty h → ⊥))
 written-judged h buffer w g few room =
-    subst (λ x. ((n : ℕ) × (judgementOf (textOf h) buffer .said ≡ Orderly n)) ↔ ConflictSerializable (committedPart x)) (written-says h (within-more judgedJobs lastNumber (omega arith) h w))
+    subst (λ x. ((n : ℕ) × (judgementOf (textOf h) buffer .said ≡ Orderly n)) ↔ (ConflictSerializable (committedPart x) × (IsDirty x → ⊥))) (written-says h (within-more judgedJobs lastNumber (omega arith) h w))
     (orderly-said-exactly (textOf h) buffer room (written-faultless h w g few))

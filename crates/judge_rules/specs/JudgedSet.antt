@@ -1,4 +1,4 @@
--- The judge at texts of bytes: every refusal of a line and of the buffer, each two neighbours of 9, 12, 2, 13 on one line, what is no fault, and what is judged then (01, Refusals by number; 01, Lines).
+-- The judge at texts of bytes: every refusal of a line and of the buffer, each two neighbours of 9, 12, 2, 13 on one line, what is no fault, and what is judged then (01, Refusals by number; 01, Lines; 02, No. 2).
 -- One list, with the answer in numbers, the line handed back and the buffer; that each is told so is `all-told` (proofs/Examples.antt). Refusal 11 is at line 4,097 of any text: `too-many-exactly` (proofs/AsWorded.antt).
 use Prim.Native.Nat.{ℕ, _-_}
 use Prim.Native.String.{String}
@@ -7,7 +7,7 @@ use lib.ListN.{length, replicate}
 use Rattle.text_rules.specs.Quoted.{bytes}
 use Rattle.judge_rules.specs.Judgement.{judgementOf, inNumbers}
 
--- what is told of a text: the answer in three numbers (0 orderly and 1 knot with the length, 2 a refusal with its number and line number), the line handed back, and the buffer
+-- what is told of a text: the answer in three numbers (0 orderly and 1 knot with the length, 2 a refusal with its number and line number, 3 dirty with reader and writer), the line handed back, and the buffer
 pub record Telling : Type 0 where
   pub answer : List ℕ
   pub line : List ℕ
@@ -25,13 +25,17 @@ pub record Case : Type 0 where
 abbrev pub faulty : String → ℕ → ℕ → String → Case
 faulty text number n line = record { text = text; places = 255; answer = 2 ∷ number ∷ n ∷ []; line = line; jobs = [] }
 
--- a text in which there is no fault and no knot: so many jobs, in this order
+-- a text in which there is no fault, no dirty read and no knot: so many jobs, in this order
 abbrev pub fine : String → ℕ → List ℕ → Case
 fine text n jobs = record { text = text; places = 255; answer = 0 ∷ n ∷ 0 ∷ []; line = ""; jobs = jobs }
 
--- a text in which there is no fault and a knot: so many jobs, in this order
+-- a text in which there is no fault, no dirty read and a knot: so many jobs, in this order
 abbrev pub tied : String → ℕ → List ℕ → Case
 tied text n jobs = record { text = text; places = 255; answer = 1 ∷ n ∷ 0 ∷ []; line = ""; jobs = jobs }
+
+-- a text in which there is no fault and a dirty read: its reader and its writer (02, No. 2)
+abbrev pub soiled : String → ℕ → ℕ → Case
+soiled text reader writer = record { text = text; places = 255; answer = 3 ∷ reader ∷ writer ∷ []; line = ""; jobs = reader ∷ writer ∷ [] }
 
 -- the texts, with what is told of each
 abbrev pub cases : List Case
@@ -86,6 +90,27 @@ cases =
     ∷ fine "w\t1\t0\nw\t2\t0\nw\t2\t1\nk\t1\nw\t1\t1\nc\t1\nc\t2\n" 2 (2 ∷ 1 ∷ [])
     ∷ fine "w\t1\t0\nw\t2\t0\nw\t2\t1\nw\t1\t1\na\t1\nc\t2\n" 1 (2 ∷ [])
     ∷ fine "w\t1\t0\nw\t2\t0\nw\t2\t1\nw\t1\t1\nc\t2\n" 1 (2 ∷ [])
+    -- dirty (02, No. 2): the writer is sent back, gives up, has no end; it wrote or incremented; it commits in a later run; a committed write in between does not cleanse
+    ∷ soiled "w\t1\t0\nr\t2\t0\nk\t1\nc\t2\n" 2 1
+    ∷ soiled "i\t1\t0\nr\t2\t0\nc\t2\na\t1\n" 2 1
+    ∷ soiled "w\t1\t0\nr\t2\t0\nc\t2\n" 2 1
+    ∷ soiled "w\t1\t0\nr\t2\t0\nk\t1\nc\t1\nc\t2\n" 2 1
+    ∷ soiled "w\t1\t0\nw\t3\t0\nc\t3\nr\t2\t0\nc\t2\na\t1\n" 2 1
+    -- the first such read, and of its writers the latest; dirty before a knot
+    ∷ soiled "w\t1\t0\ni\t3\t0\nr\t2\t0\nr\t4\t0\na\t3\na\t1\nc\t4\nc\t2\n" 2 3
+    ∷ soiled "w\t3\t5\nr\t2\t5\nw\t1\t0\nw\t2\t0\nw\t2\t1\nw\t1\t1\nc\t1\nc\t2\na\t3\n" 2 3
+    -- not dirty: the writer's run ended before the read, the writer commits, the job's own write was taken back, an increment in place of the read, another cell, the read stands first, the reader is sent back or has no end
+    ∷ fine "w\t1\t0\nk\t1\nr\t2\t0\nc\t2\n" 1 (2 ∷ [])
+    ∷ fine "w\t1\t0\nr\t2\t0\nc\t2\nc\t1\n" 2 (1 ∷ 2 ∷ [])
+    ∷ fine "w\t1\t0\nk\t1\nr\t1\t0\nc\t1\n" 1 (1 ∷ [])
+    ∷ fine "w\t1\t0\ni\t2\t0\nk\t1\nc\t2\n" 1 (2 ∷ [])
+    ∷ fine "w\t1\t0\nr\t2\t1\nk\t1\nc\t2\n" 1 (2 ∷ [])
+    ∷ fine "r\t2\t0\nw\t1\t0\nk\t1\nc\t2\n" 1 (2 ∷ [])
+    ∷ fine "w\t1\t0\nr\t2\t0\nk\t2\nk\t1\nc\t2\n" 1 (2 ∷ [])
+    ∷ fine "w\t1\t0\nr\t2\t0\nk\t1\n" 0 []
+    -- 14 and a fault before dirty
+    ∷ record { text = "w\t1\t0\nr\t2\t0\nc\t2\n"; places = 254; answer = 2 ∷ 14 ∷ 0 ∷ []; line = ""; jobs = [] }
+    ∷ faulty "w\t1\t0\nr\t2\t0\nc\t2\nr\t2\t0\n" 13 4 "r\t2\t0"
     -- the first faulty line decides, whatever follows: 13, then 9
     ∷ faulty "c\t1\nr\t1\t5\nx\n" 13 2 "r\t1\t5"
     ∷ []

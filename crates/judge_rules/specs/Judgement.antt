@@ -8,9 +8,11 @@ use Rattle.laws.specs.Choice.{pick}
 use Rattle.terms.specs.declared.refusals.Refusal.the-variants.{ShortOrder}
 use Rattle.terms.specs.Refusals.{numberOf}
 use Rattle.terms.specs.Limits.{judgedJobs}
+use Rattle.conflict.specs.History.{History}
+use Rattle.conflict.specs.Dirty.{ReadOf, dirtyOf}
 use Rattle.text_rules.specs.Split.{linesOf, joined}
 use Rattle.judge_rules.specs.declared.verdict.Verdict.{Verdict}
-use Rattle.judge_rules.specs.declared.verdict.Verdict.the-variants.{Orderly, Knot, No}
+use Rattle.judge_rules.specs.declared.verdict.Verdict.the-variants.{Orderly, Knot, Dirty, No}
 use Rattle.judge_rules.specs.Judged.{Finding, orderly, knotted, findingOf}
 use Rattle.judge_rules.specs.HistoryText.{readingsOf, lineAt, Faulty, firstFaulty, eventsIn, bare}
 use Rattle.judge_rules.specs.LineTable.{linesBefore}
@@ -25,14 +27,19 @@ pub record Judgement : Type 0 where
 unfoldable pub filled : List ℕ → List ℕ → List ℕ
 filled jobs buffer = jobs ++ drop (length jobs) buffer
 
--- the verdict on a faultless history, by what is found of it: the length is said, the jobs fill the buffer, and no line is handed back
+-- the verdict by the order or the knot that is found: the length is said, the jobs fill the buffer, and no line is handed back
 unfoldable pub sayFinding : List ℕ → Finding → Judgement
 sayFinding buffer (orderly order) = record { said = Orderly (length order); order = filled order buffer; line = [] }
 sayFinding buffer (knotted js) = record { said = Knot (length js); order = filled js buffer; line = [] }
 
+-- the verdict on a faultless history: where it has a dirty read, that is told before orderly or knot, and reader and writer fill the first two places (02, No. 2)
+unfoldable pub sayHistory : List ℕ → History → Option ReadOf → Judgement
+sayHistory buffer h none = sayFinding buffer (findingOf h)
+sayHistory buffer h (some d) = record { said = Dirty (d .reader) (d .writer); order = filled (d .reader ∷ d .writer ∷ []) buffer; line = [] }
+
 -- a faulty line is handed back without its newline, with its number and refusal, and the buffer stays; else the verdict on what the lines say
 unfoldable pub sayLines : List ℕ → List ℕ → Option Faulty → Judgement
-sayLines buffer text none = sayFinding buffer (findingOf (eventsIn (readingsOf text)))
+sayLines buffer text none = sayHistory buffer (eventsIn (readingsOf text)) (dirtyOf (eventsIn (readingsOf text)))
 sayLines buffer text (some f) = record { said = No (f .number) (f .why); order = buffer; line = bare (lineAt (linesOf text) (f .number)) }
 
 -- the judge: 14 first, with line number 0; then the lines in order (01, Refusals by number)
@@ -46,10 +53,12 @@ judgementOf text buffer =
 unfoldable pub lineFrom : List ℕ → Verdict → ℕ
 lineFrom text (Orderly n) = 0
 lineFrom text (Knot n) = 0
+lineFrom text (Dirty reader writer) = 0
 lineFrom text (No line why) = length (joined (linesBefore (linesOf text) line))
 
--- the answer in three numbers: 0 orderly and 1 knot with the length, 2 a refusal with its number and its line number
+-- the answer in three numbers: 0 orderly and 1 knot with the length, 2 a refusal with its number and its line number, 3 dirty with reader and writer
 unfoldable pub inNumbers : Verdict → List ℕ
 inNumbers (Orderly n) = 0 ∷ n ∷ 0 ∷ []
 inNumbers (Knot n) = 1 ∷ n ∷ 0 ∷ []
+inNumbers (Dirty reader writer) = 3 ∷ reader ∷ writer ∷ []
 inNumbers (No line why) = 2 ∷ numberOf why ∷ line ∷ []

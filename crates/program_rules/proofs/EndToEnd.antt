@@ -4,7 +4,7 @@ use Prim.Native.Nat.{ℕ, _≤_, _<_}
 use mathlib.Core.Path.{_≡_, sym, ap, _∙_, subst}
 use mathlib.Core.Logic.{_≢_, _⊎_}
 use mathlib.Core.Bool.{true}
-use mathlib.Core.List.{List, [], _∷_, _++_, map}
+use mathlib.Core.List.{List, [], _∷_, _++_, map, append-nil}
 use native.Mathlib.Omega.{arith}
 use lib.Dec.{eqb}
 use lib.ListN.{length}
@@ -15,12 +15,14 @@ use Rattle.terms.specs.declared.refusals.Refusal.the-variants.{TooManyLines, Jo
 use Rattle.laws.specs.Lists.{member, distinct}
 use Rattle.conflict.specs.Schedule.{Equivalent, serial, ConflictSerializable, edge}
 use Rattle.conflict.specs.History.{History, isCommit, marked, committedPart, commitOrder}
+use Rattle.conflict.specs.Dirty.{IsDirty}
+use Rattle.conflict.proofs.DirtyFound.{first-is-dirty}
 use Rattle.conflict.proofs.Marks.{listed}
 use Rattle.text_rules.specs.Decimal.{decimal}
 use Rattle.text_rules.specs.Split.{linesOf, joined}
 use Rattle.desk_rules.specs.Step.{Started}
 use Rattle.desk_rules.proofs.Serial.{serial-history}
-use Rattle.judge_rules.specs.declared.verdict.Verdict.the-variants.{Orderly, Knot, No}
+use Rattle.judge_rules.specs.declared.verdict.Verdict.the-variants.{Orderly, Knot, Dirty, No}
 use Rattle.judge_rules.specs.HistoryText.{readingsOf, eventsIn}
 use Rattle.judge_rules.specs.Judged.{jobsOf}
 use Rattle.judge_rules.specs.Judgement.{judgementOf}
@@ -29,7 +31,7 @@ use Rattle.judge_rules.specs.LineTable.{FirstFault, AllReadBack, AllFaultless}
 use Rattle.judge_rules.specs.Answers.{InOrder}
 use Rattle.judge_rules.specs.KeepsLimits.{KeepsLimits}
 use Rattle.judge_rules.specs.VerdictLine.{verdictOf}
-use Rattle.judge_rules.proofs.JudgedTexts.{knot-said, knot-said-exactly}
+use Rattle.judge_rules.proofs.JudgedTexts.{dirty-said, knot-said, knot-said-exactly}
 use Rattle.judge_rules.proofs.ReadBack.{only-limits}
 use Rattle.judge_rules.proofs.Printed.{printed-orderly}
 use Rattle.judge_rules.proofs.Refusing.{short-exactly, line-0-short, refused-exactly}
@@ -66,6 +68,10 @@ module _ (text : List ℕ) where
   pub history-serial : Equivalent (committedPart readIn) (serial (commitOrder readIn) (committedPart readIn)) × (distinct (commitOrder readIn) ≡ true) × ((j : ℕ) → member j (commitOrder readIn) ≡ marked isCommit j readIn)
   history-serial = (subst (λ h. Equivalent (committedPart h) (serial (commitOrder h) (committedPart h))) (sym history-says) (serial-history started .serial-by-commits), history-commits-once .0, history-commits-once .1)
 
+  -- NEVER DIRTY, OF TEXTS ALONE: whatever comes in, the history that is read in what `history` writes is not dirty, nor is any part of it from its start on (02, No. 2)
+  pub history-never-dirty : (x y : History) → readIn ≡ x ++ y → IsDirty x → ⊥
+  history-never-dirty x y e = serial-history started .never-dirty x y (sym history-says ∙ e)
+
   -- since every line is read back, the first faulty one, if there is one, is line 4,097 or is for a job outside 1 to 255
   pub history-fault : (n : ℕ) (why : Refusal) → FirstFault (readingsOf (historyOf text)) n why → (why ≡ TooManyLines) ⊎ (why ≡ JobOutside)
   history-fault n why f = only-limits (readingsOf (historyOf text)) history-read-back n why f
@@ -81,11 +87,17 @@ module _ (text : List ℕ) where
       absurd (omega arith))
       (λ f. let other′ : n ≢ 0 = eqb-false n 0 f in history-fault n why (refused-exactly (historyOf text) buffer n why (omega arith) .0 e .1))
 
-  -- and the judge never finds a knot in it
+  -- and the judge never says of it that it is dirty
+  pub history-not-dirty : (buffer : List ℕ) (i j : ℕ) → judgementOf (historyOf text) buffer .said ≡ Dirty i j → ⊥
+  history-not-dirty buffer i j e =
+      let d = dirty-said (historyOf text) buffer i j e in
+      history-never-dirty readIn [] (sym (append-nil readIn)) (first-is-dirty readIn i j (d .2 .first))
+
+  -- nor does it ever find a knot in it
   pub history-no-knot : (buffer : List ℕ) (n : ℕ) → judgementOf (historyOf text) buffer .said ≡ Knot n → ⊥
   history-no-knot buffer n e =
       let k = knot-said (historyOf text) buffer n e in
-      knot-said-exactly (historyOf text) buffer (k .0) (k .1) .0 (n, e) (subst (λ h. ConflictSerializable (committedPart h)) (sym history-says) (serial-history started .serializable))
+      knot-said-exactly (historyOf text) buffer (k .0) (k .1) .0 (n, e) .0 (subst (λ h. ConflictSerializable (committedPart h)) (sym history-says) (serial-history started .serializable))
 
   -- the judge's limits by what comes in alone: at most 255 begins that go, and at most 4,096 lines
   pub small-input : length (givenIn (runOn text)) ≤ 255 → length (linesOf text) ≤ 4_096 → KeepsLimits (historyOn text)
@@ -112,5 +124,5 @@ module _ (text : List ℕ) where
     pub history-verdict : (order : List ℕ) × SmallestFirst (edge (committedPart (historyOn text))) (jobsOf (historyOn text)) order
         × (verdictOf (historyOf text) ≡ 111 ∷ 114 ∷ 100 ∷ 101 ∷ 114 ∷ 108 ∷ 121 ∷ joined (map (λ j. 9 ∷ decimal j) order) ++ 10 ∷ [])
     history-verdict =
-        let p = printed-orderly (historyOf text) history-fits history-faultless (subst (λ h. ConflictSerializable (committedPart h)) (sym history-says) (serial-history started .serializable)) in
+        let p = printed-orderly (historyOf text) history-fits history-faultless (subst (λ h. ConflictSerializable (committedPart h)) (sym history-says) (serial-history started .serializable)) (history-never-dirty readIn [] (sym (append-nil readIn))) in
         (p .0, subst (λ h. SmallestFirst (edge (committedPart h)) (jobsOf h) (p .0)) history-says (p .1), p .2)

@@ -3,7 +3,7 @@
 use Prim.Native.Nat.{ℕ, _≤_, _<_}
 use mathlib.Core.Path.{_≡_, refl, sym, _∙_, subst}
 use mathlib.Core.Bool.{true}
-use mathlib.Core.List.{List, [], _∷_}
+use mathlib.Core.List.{List, [], _∷_, append-nil}
 use native.Mathlib.Omega.{arith}
 use lib.ListN.{length}
 use lib.Dec.{eqb}
@@ -12,6 +12,7 @@ use Rattle.conflict.specs.declared.action.Action.{Action}
 use Rattle.conflict.specs.declared.action.Event.the-variants.{Does, Ends}
 use Rattle.laws.specs.Lists.{member, distinct}
 use Rattle.conflict.specs.History.{History, commitOrder, lineOf}
+use Rattle.conflict.specs.Dirty.{IsDirty}
 use Rattle.laws.proofs.Parts.{and-both, or-first, or-second}
 use Rattle.laws.proofs.Lists.{same-refl}
 use Rattle.conflict.proofs.Marks.{listed}
@@ -63,6 +64,10 @@ module _ {d : Desk} {h : History} (s : Started d h) where
   pub started-says : eventsIn (readingsOf (textOf h)) ≡ h
   started-says = written-says h started-within
 
+  -- it is not dirty
+  pub started-clean : IsDirty h → ⊥
+  started-clean = serial-history s .never-dirty h [] (sym (append-nil h))
+
   module _ (k : KeepsLimits h) where
     -- within the judge's limits its jobs are 1 to 255
     judged-within : allWithin judgedJobs h ≡ true
@@ -79,7 +84,7 @@ module _ {d : Desk} {h : History} (s : Started d h) where
     module _ (buffer : List ℕ) (room : judgedJobs ≤ length buffer) where
       -- orderly is said of it
       said : (n : ℕ) × (judgementOf (textOf h) buffer .said ≡ Orderly n)
-      said = written-judged h buffer judged-within (serial-history s .no-event-after-end) (k .events) room .1 (serial-history s .serializable)
+      said = written-judged h buffer judged-within (serial-history s .no-event-after-end) (k .events) room .1 (serial-history s .serializable, started-clean)
 
       -- with an order of what the desk has written
       in-order : InOrder h buffer (judgementOf (textOf h) buffer .order) (said .0)

@@ -4,7 +4,7 @@ use mathlib.Core.List.{List, [], _∷_, _++_}
 use lib.ListN.{length, replicate}
 use Rattle.terms.specs.declared.words.Spelling.{Spelling}
 use Rattle.terms.specs.declared.words.Word.{Word}
-use Rattle.terms.specs.declared.words.Word.the-variants.{Go, Wait, Back, No, Wake, Orderly, Knot}
+use Rattle.terms.specs.declared.words.Word.the-variants.{Go, Wait, Back, No, Wake, Orderly, Knot, Dirty}
 
 -- one tab parts fields (01, Lines)
 abbrev pub tab : ℕ
@@ -14,7 +14,7 @@ tab = 9
 abbrev pub newline : ℕ
 newline = 10
 
--- each word's bytes: go, wait, back, no, wake, orderly, knot
+-- each word's bytes: go, wait, back, no, wake, orderly, knot, and dirty (02, No. 2)
 abbrev pub spelt : Word → List ℕ
 spelt Go = 103 ∷ 111 ∷ []
 spelt Wait = 119 ∷ 97 ∷ 105 ∷ 116 ∷ []
@@ -23,6 +23,7 @@ spelt No = 110 ∷ 111 ∷ []
 spelt Wake = 119 ∷ 97 ∷ 107 ∷ 101 ∷ []
 spelt Orderly = 111 ∷ 114 ∷ 100 ∷ 101 ∷ 114 ∷ 108 ∷ 121 ∷ []
 spelt Knot = 107 ∷ 110 ∷ 111 ∷ 116 ∷ []
+spelt Dirty = 100 ∷ 105 ∷ 114 ∷ 116 ∷ 121 ∷ []
 
 -- a word in seven places, zeros after it, and its length
 abbrev pub spellingOf : Word → Spelling

@@ -18,6 +18,8 @@ pub enum Word {
     Orderly,
     // a verdict: there is a cycle of conflicts
     Knot,
+    // a verdict: what was read was taken back
+    Dirty,
 }
 
 // What parts fields.
@@ -64,6 +66,10 @@ pub fn spelled(w: Word) -> Spelling
         Word::Knot => Spelling {
             bytes: [b'k', b'n', b'o', b't', 0, 0, 0],
             len: 4,
+        },
+        Word::Dirty => Spelling {
+            bytes: [b'd', b'i', b'r', b't', b'y', 0, 0],
+            len: 5,
         },
     }
 }

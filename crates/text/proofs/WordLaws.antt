@@ -9,7 +9,7 @@ use native.Mathlib.Omega.{arith}
 use lib.ListN.{length, take, set, getD, replicate, length-set}
 use lib.Seq.{paste, paste-zero, paste-suc, take-at}
 use Rattle.terms.specs.declared.words.Word.{Word}
-use Rattle.terms.specs.declared.words.Word.the-variants.{Go, Wait, Back, No, Wake, Orderly, Knot}
+use Rattle.terms.specs.declared.words.Word.the-variants.{Go, Wait, Back, No, Wake, Orderly, Knot, Dirty}
 use Rattle.terms.specs.declared.words.Spelling.{Spelling}
 use Rattle.terms.specs.Words.{spelt, spellingOf}
 use Rattle.text_rules.specs.Wrote.{Wrote}
@@ -23,6 +23,7 @@ word-at-most-7 No = omega arith
 word-at-most-7 Wake = omega arith
 word-at-most-7 Orderly = omega arith
 word-at-most-7 Knot = omega arith
+word-at-most-7 Dirty = omega arith
 
 -- a spelling has seven places
 spelling-places : (w : Word) → length (spellingOf w .bytes) ≡ 7
@@ -33,6 +34,7 @@ spelling-places No = refl
 spelling-places Wake = refl
 spelling-places Orderly = refl
 spelling-places Knot = refl
+spelling-places Dirty = refl
 
 -- a spelling's length is the word's
 pub spelling-length : (s : Spelling) (w : Word) → s ≡ spellingOf w → s .len ≡ length (spelt w)

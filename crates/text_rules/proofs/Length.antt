@@ -11,7 +11,7 @@ use Rattle.terms.specs.declared.letters.Ask.the-variants.{Increment}
 use Rattle.terms.specs.declared.letters.Letter.{Letter}
 use Rattle.terms.specs.declared.letters.Letter.the-variants.{Asks}
 use Rattle.terms.specs.declared.words.Word.{Word}
-use Rattle.terms.specs.declared.words.Word.the-variants.{Go, Wait, Back, No, Wake, Orderly, Knot}
+use Rattle.terms.specs.declared.words.Word.the-variants.{Go, Wait, Back, No, Wake, Orderly, Knot, Dirty}
 use Rattle.terms.specs.Letters.{hasJob, hasCell}
 use Rattle.terms.specs.Words.{spelt}
 use Rattle.text_rules.specs.Decimal.{decimal, digitsIn}
@@ -41,6 +41,7 @@ answer-word-at-most-4 No e = omega arith
 answer-word-at-most-4 Wake e = omega arith
 answer-word-at-most-4 Orderly e = not-both e refl
 answer-word-at-most-4 Knot e = not-both e refl
+answer-word-at-most-4 Dirty e = not-both e refl
 
 -- no answer record of the desk programs is longer than 24 bytes (01, Lines)
 pub answer-at-most-24 : (line : ℕ) (word : Word) (number : ℕ) → line ≤ 1_000_000 → ofAnswers word ≡ true → number ≤ 4_294_967_295 →

@@ -1,9 +1,9 @@
--- The records and lines that go out, byte by byte: 9 is the tab, 10 the newline, and every word and letter stands in its bytes (01, Lines; 01, The judge's rules).
+-- The records and lines that go out, byte by byte: 9 is the tab, 10 the newline, and every word and letter stands in its bytes (01, Lines; 01, The judge's rules; 02, No. 2).
 -- Assumes nothing.
 use Prim.Native.Nat.{ℕ}
 use mathlib.Core.Path.{_≡_, refl, ap}
 use mathlib.Core.List.{List, [], _∷_, _++_, map, append-nil}
-use Rattle.terms.specs.declared.words.Word.the-variants.{Go, Wait, Back, No, Wake, Orderly, Knot}
+use Rattle.terms.specs.declared.words.Word.the-variants.{Go, Wait, Back, No, Wake, Orderly, Knot, Dirty}
 use Rattle.conflict.specs.declared.action.Kind.the-variants.{Read, Write, Increment}
 use Rattle.conflict.specs.declared.action.Mark.the-variants.{Commit as commits, GiveUp as gives-up, Back as goes-back}
 use Rattle.conflict.specs.declared.action.Event.the-variants.{Does, Ends}
@@ -88,6 +88,11 @@ orderly-bytes js = ap (λ t. 111 ∷ 114 ∷ 100 ∷ 101 ∷ 114 ∷ 108 ∷ 121
 pub knot-bytes : (js : List ℕ) → wordLine Knot js ≡ 107 ∷ 110 ∷ 111 ∷ 116 ∷ joined (map (λ j. 9 ∷ decimal j) js) ++ 10 ∷ []
 unfolding wordLine
 knot-bytes js = ap (λ t. 107 ∷ 110 ∷ 111 ∷ 116 ∷ t ++ 10 ∷ []) (tabbed-bytes js)
+
+-- dirty, a tab, the reader, a tab, the writer, and a newline (02, No. 2)
+pub dirty-bytes : (reader writer : ℕ) → wordLine Dirty (reader ∷ writer ∷ []) ≡ 100 ∷ 105 ∷ 114 ∷ 116 ∷ 121 ∷ 9 ∷ decimal reader ++ 9 ∷ decimal writer ++ 10 ∷ []
+unfolding wordLine tabbed
+dirty-bytes reader writer = ap (λ t. 100 ∷ 105 ∷ 114 ∷ 116 ∷ 121 ∷ 9 ∷ (decimal reader ++ 9 ∷ t) ++ 10 ∷ []) (append-nil (decimal writer))
 
 -- no, a tab, the line number, a tab, the refusal's number, and a newline
 pub refusal-bytes : (line number : ℕ) → wordLine No (line ∷ number ∷ []) ≡ 110 ∷ 111 ∷ 9 ∷ decimal line ++ 9 ∷ decimal number ++ 10 ∷ []

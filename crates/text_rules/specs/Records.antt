@@ -7,7 +7,7 @@ use lib.ListN.{length}
 use Rattle.laws.specs.Choice.{pick}
 use Rattle.terms.specs.declared.letters.Letter.{Letter}
 use Rattle.terms.specs.declared.words.Word.{Word}
-use Rattle.terms.specs.declared.words.Word.the-variants.{Go, Wait, Back, No, Wake, Orderly, Knot}
+use Rattle.terms.specs.declared.words.Word.the-variants.{Go, Wait, Back, No, Wake, Orderly, Knot, Dirty}
 use Rattle.terms.specs.declared.refusals.Refusal.the-variants.{NoRoom}
 use Rattle.terms.specs.Letters.{byteOf, hasJob, hasCell}
 use Rattle.terms.specs.Words.{tab, newline, spelt}
@@ -25,6 +25,7 @@ ofAnswers No = true
 ofAnswers Wake = true
 ofAnswers Orderly = false
 ofAnswers Knot = false
+ofAnswers Dirty = false
 
 -- answer record: request line number, word, number (01, Lines)
 unfoldable pub answerRecord : ℕ → Word → ℕ → List ℕ
@@ -47,7 +48,7 @@ unfoldable pub tabbed : List ℕ → List ℕ
 tabbed [] = []
 tabbed (n ∷ ns) = tab ∷ decimal n ++ tabbed ns
 
--- a line of a word and numbers: the verdict (01, The judge's rules)
+-- a line of a word and numbers: the verdict (01, The judge's rules; 02, No. 2)
 unfoldable pub wordLine : Word → List ℕ → List ℕ
 wordLine w ns = spelt w ++ tabbed ns ++ newline ∷ []
 

@@ -41,11 +41,11 @@ struct Case {
     spot: Spot,
 }
 
-// The answer of the entry that hands back a line: the verdict in three numbers.
+// The answer of the entry that hands back a line: the verdict in three numbers, the case first.
 struct Numbers {
     case: u32,
-    count: u32,
-    line: u32,
+    second: u32,
+    third: u32,
 }
 
 fn put_bytes(bytes: &[u8]) {
@@ -81,6 +81,10 @@ fn told_places(said: Verdict) -> usize {
     match said {
         Verdict::Orderly(n) => n,
         Verdict::Knot(n) => n,
+        Verdict::Dirty {
+            reader: _,
+            writer: _,
+        } => 2,
         Verdict::No { line: _, why: _ } => 0,
     }
 }
@@ -88,13 +92,26 @@ fn told_places(said: Verdict) -> usize {
 // Whether a verdict in numbers is the verdict.
 fn same_verdict(said: Verdict, numbers: Numbers) -> bool {
     match said {
-        Verdict::Orderly(n) => numbers.case == 0 && numbers.count as usize == n,
-        Verdict::Knot(n) => numbers.case == 1 && numbers.count as usize == n,
+        Verdict::Orderly(n) => numbers.case == 0 && numbers.second as usize == n,
+        Verdict::Knot(n) => numbers.case == 1 && numbers.second as usize == n,
+        Verdict::Dirty { reader, writer } => {
+            numbers.case == 3 && numbers.second == reader as u32 && numbers.third == writer as u32
+        }
         Verdict::No { line, why } => {
             numbers.case == 2
-                && numbers.count == number_of(why) as u32
-                && numbers.line as usize == line
+                && numbers.second == number_of(why) as u32
+                && numbers.third as usize == line
         }
+    }
+}
+
+// Whether reader and writer of a dirty read stand in the first two places.
+fn pair_stands(said: Verdict, order: &[u8; ORDER_PLACES]) -> bool {
+    match said {
+        Verdict::Orderly(_) => true,
+        Verdict::Knot(_) => true,
+        Verdict::Dirty { reader, writer } => order[0] == reader && order[1] == writer,
+        Verdict::No { line: _, why: _ } => true,
     }
 }
 
@@ -125,13 +142,15 @@ fn report(text: &[u8], places: usize)
     let line = judge(text, &mut again[0..places], &mut answer);
     let numbers = Numbers {
         case: answer[0],
-        count: answer[1],
-        line: answer[2],
+        second: answer[1],
+        third: answer[2],
     };
-    if numbers.line > 0 {
+    if numbers.case == 2 && numbers.third > 0 {
         put_line(line);
     }
-    if !(same_verdict(said, numbers) && rest_stays(&order, &again, told_places(said))) {
+    if !(same_verdict(said, numbers)
+        && pair_stands(said, &order)
+        && rest_stays(&order, &again, told_places(said))) {
         put_mark();
     }
 }

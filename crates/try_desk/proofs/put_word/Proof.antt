@@ -6,7 +6,7 @@ use lib.ListN.{length}
 use borrow.Author.Needs.{needs}
 use Rattle.terms.specs.Words.{spellingOf}
 use Rattle.terms.specs.declared.words.Word.{Word}
-use Rattle.terms.specs.declared.words.Word.the-variants.{Go, Wait, Back, No, Wake, Orderly, Knot}
+use Rattle.terms.specs.declared.words.Word.the-variants.{Go, Wait, Back, No, Wake, Orderly, Knot, Dirty}
 use Rattle.try_desk.proofs.put_word.Statement.{statement}
 use Rattle.try_desk.proofs.put_word.Tie as tie
 
@@ -19,6 +19,7 @@ within No = lit≤ tt
 within Wake = lit≤ tt
 within Orderly = lit≤ tt
 within Knot = lit≤ tt
+within Dirty = lit≤ tt
 
 spelled-requires : tie.Need-spelled-requires
 spelled-requires c κs = search needs

@@ -20,8 +20,8 @@ part-put-turned-end c = search needs
 put-turned-requires : tie.Need-put-turned-requires
 put-turned-requires c κs = knot-room _ _ _ _ (c .before .before .before .walk-back .ensures) _ (c .before .before .before .before .before .before .pre .1)
 
-sub-t15 : tie.Need-sub-t15
-sub-t15 c = search needs
+sub-t14 : tie.Need-sub-t14
+sub-t14 c = search needs
 
 same-length : tie.Need-same-length
 same-length c = search needs
@@ -31,4 +31,4 @@ returns c = (knot-said _ _ _ _ (c .before .before .before .before .before .befor
 
 pub knot-spec : {M : Type 1} → statement M
 knot-spec =
-    tie.close (tie.spec walk-back-requires sub-put-turned part-put-turned-start part-put-turned-end put-turned-requires sub-t15 same-length returns)
+    tie.close (tie.spec walk-back-requires sub-put-turned part-put-turned-start part-put-turned-end put-turned-requires sub-t14 same-length returns)

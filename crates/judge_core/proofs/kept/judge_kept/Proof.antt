@@ -17,8 +17,8 @@ first-fault-requires c κs = search needs
 enum-told : tie.Need-enum-told
 enum-told c = search needs
 
-decide-requires : tie.Need-decide-requires
-decide-requires c κs =
+judge-faultless-requires : tie.Need-judge-faultless-requires
+judge-faultless-requires c κs =
     let g = sym (c .before .enum-told .given .1) ∙ c .before .before .before .first-fault .ensures in
     ((lines-few _ _ _ _ g, omega arith), (lines-named _ _ _ _ g, lines-celled _ _ _ _ g))
 
@@ -31,11 +31,11 @@ same-length c = search needs
 returns-2 : tie.Need-returns-2
 returns-2 c =
     kept-said _ _ _ _ _ (omega arith) _ (c .before .before .before .before .before .before .first-fault .ensures) (c .before .before .before .before .enum-told .given .1) _ _
-    (c .before .before .decide .ensures .0) (c .before .before .decide .ensures .1)
+    (c .before .before .judge-faultless .ensures .0) (c .before .before .judge-faultless .ensures .1)
 
 returns-3 : tie.Need-returns-3
 returns-3 c = kept-faulty _ _ _ _ _ (omega arith) _ (c .before .before .before .first-fault .ensures) _ _ (c .before .line .given .1)
 
 pub judge-kept-spec : {M : Type 1} → statement M
 judge-kept-spec =
-    tie.close (tie.spec returns first-fault-requires enum-told decide-requires enum-known-line same-length returns-2 returns-3)
+    tie.close (tie.spec returns first-fault-requires enum-told judge-faultless-requires enum-known-line same-length returns-2 returns-3)

@@ -1,20 +1,18 @@
 -- `judge_core::knots::walk_back` meets its contract. The loop's invariant: the jobs that the walk came by stand on the trail, and it goes on as from the start.
 -- The measure is how many places of the trail are left. Assumes nothing.
 use native.Mathlib.Omega.{arith}
-use Rattle.judge_core.specs.Grouped.{edgesIn}
-use Rattle.judge_core.specs.Left.{leftOf}
 use Rattle.judge_core.proofs.Trail.{Walked, walked-none, walked-round, walked-more, walked-off, walked-out}
 use Rattle.judge_core.proofs.knots.walk_back.Statement.{statement}
 use Rattle.judge_core.proofs.knots.walk_back.Tie as tie
 
 abbrev Inv-loop : tie.InvT-loop
-Inv-loop table left start trail₀ at₀ j₀ trail at j = Walked (edgesIn table) (leftOf left) start trail at j
+Inv-loop predecessors start trail₀ at₀ j₀ trail at j = Walked predecessors start trail at j
 
 abbrev μ-loop : tie.MeasureT-loop
-μ-loop table left start trail₀ at₀ j₀ trail at j = at
+μ-loop predecessors start trail₀ at₀ j₀ trail at j = at
 
 loop-holds : tie.Need-loop-holds Inv-loop μ-loop
-loop-holds c = walked-none _ _ _ _ (c .pre .1) (c .pre .0)
+loop-holds c = walked-none _ _ _ (c .pre .1) (c .pre .0)
 
 cast-place-of : tie.Need-cast-place-of Inv-loop μ-loop
 cast-place-of c = omega (arith, (c .before .before .loop .inv) .small)
@@ -32,24 +30,27 @@ element-write-trail : tie.Need-element-write-trail Inv-loop μ-loop
 element-write-trail c = omega (arith, (c .before .before .before .loop .inv) .low)
 
 returns : tie.Need-returns Inv-loop μ-loop
-returns c = walked-round _ _ _ _ _ _ _ (omega arith) (c .before .before .before .before .loop .inv) (c .before .place-of .ensures) (c .if1 .taken)
+returns c = walked-round _ _ _ _ _ _ (omega arith) (c .before .before .before .before .loop .inv) (c .before .place-of .ensures) (c .if1 .taken)
 
-predecessor-requires : tie.Need-predecessor-requires Inv-loop μ-loop
-predecessor-requires c κs = (c .before .before .before .before .loop .inv) .small
+mul-j : tie.Need-mul-j Inv-loop μ-loop
+mul-j c = omega (arith, (c .before .before .before .before .loop .inv) .small)
+
+element-copy-out-j : tie.Need-element-copy-out-j Inv-loop μ-loop
+element-copy-out-j c = omega (arith, (c .before .before .before .before .loop .inv) .small)
 
 returns-2 : tie.Need-returns-2 Inv-loop μ-loop
-returns-2 c = walked-off _ _ _ _ _ _ _ (omega arith) (c .before .before .before .before .before .before .loop .inv) (c .before .before .before .place-of .ensures) (c .before .before .if1 .left) _ (c .before .predecessor .ensures) (c .if2 .taken) _
+returns-2 c = walked-off _ _ _ _ _ _ (omega arith) (c .before .before .before .before .before .before .loop .inv) (c .before .before .before .place-of .ensures) (c .before .before .if1 .left) (c .if2 .taken) _
 
 loop-less : tie.Need-loop-less Inv-loop μ-loop
 loop-less c = omega arith
 
 loop-again : tie.Need-loop-again Inv-loop μ-loop
-loop-again c = walked-more _ _ _ _ _ _ _ (omega arith) (c .before .before .before .before .before .before .loop .inv) (c .before .before .before .place-of .ensures) (c .before .before .if1 .left) _ (c .before .predecessor .ensures) (c .if2 .left)
+loop-again c = walked-more _ _ _ _ _ _ (omega arith) (c .before .before .before .before .before .before .loop .inv) (c .before .before .before .place-of .ensures) (c .before .before .if1 .left) (c .if2 .left)
 
 returns-3 : tie.Need-returns-3 Inv-loop μ-loop
-returns-3 c = walked-out _ _ _ _ _ _ (omega arith) (c .before .loop .inv)
+returns-3 c = walked-out _ _ _ _ _ (omega arith) (c .before .loop .inv)
 
 pub walk-back-spec : {M : Type 1} → statement M
 walk-back-spec =
-    let first = tie.spec Inv-loop μ-loop loop-holds cast-place-of place-of-requires sub-at cast-trail element-write-trail returns predecessor-requires in
+    let first = tie.spec Inv-loop μ-loop loop-holds cast-place-of place-of-requires sub-at cast-trail element-write-trail returns mul-j element-copy-out-j in
     tie.close (first returns-2 loop-less loop-again returns-3)

@@ -1,40 +1,46 @@
--- `judge_core::order::ready_job` meets its contract. The loop's invariant: the smallest job that is ready is the smallest of those from j on.
+-- `judge_core::order::ready_job` meets its contract. The loop's invariant: of the jobs before j none is ready, and their smallest predecessors are known.
 -- The measure is how many jobs are left. Assumes nothing.
-use Prim.Native.Nat.{_-_, _≤_}
-use mathlib.Core.Path.{_≡_}
-use mathlib.Core.Bool.{not}
+use Prim.Native.Nat.{_-_}
 use mathlib.Core.Logic.{⊎-elim}
 use native.Mathlib.Omega.{arith}
-use borrow.Author.Tests.{eqb-true, eqb-false}
-use Rattle.judge_rules.specs.Order.{first, preceded, ready}
-use Rattle.judge_core.specs.Grouped.{edgesIn}
-use Rattle.judge_core.specs.Left.{leftOf}
-use Rattle.judge_core.proofs.Seeking.{leftFrom, seek-start, seek-gone, seek-past, seek-found, seek-none}
-use Rattle.judge_core.proofs.Tallying.{none-counted, some-counted}
+use Rattle.judge_core.specs.Grouped.{edgeBy}
+use Rattle.judge_core.proofs.Seeking.{left-not-0}
+use Rattle.judge_core.proofs.Predecessors.{Passed, passed-none, passed-skip, passed-more, passed-ready, passed-all}
 use Rattle.judge_core.proofs.order.ready_job.Statement.{statement}
 use Rattle.judge_core.proofs.order.ready_job.Tie as tie
 
 abbrev Inv-loop : tie.InvT-loop
-Inv-loop table left counts j₀ j = (j ≤ 256) × (ready (edgesIn table) (leftOf left) ≡ first (λ k. not (preceded (edgesIn table) (leftOf left) k)) (leftFrom left j))
+Inv-loop codes jobs cells lines starts lasts sets left predecessors₀ j₀ predecessors j = Passed (edgeBy codes jobs cells lines starts) left predecessors j
 
 abbrev μ-loop : tie.MeasureT-loop
-μ-loop table left counts j₀ j = 256 - j
+μ-loop codes jobs cells lines starts lasts sets left predecessors₀ j₀ predecessors j = 256 - j
 
 loop-holds : tie.Need-loop-holds Inv-loop μ-loop
-unfolding ready
-loop-holds c = (omega arith, seek-start _ _)
+loop-holds c = passed-none _ _ _ (c .before .pre .1)
 
 element-copy-out-if1 : tie.Need-element-copy-out-if1 Inv-loop μ-loop
 element-copy-out-if1 c = omega arith
 
-mul-if2 : tie.Need-mul-if2 Inv-loop μ-loop
-mul-if2 c = omega arith
+mul-predecessor-from : tie.Need-mul-predecessor-from Inv-loop μ-loop
+mul-predecessor-from c = omega arith
 
-element-copy-out-if2 : tie.Need-element-copy-out-if2 Inv-loop μ-loop
-element-copy-out-if2 c = omega arith
+element-copy-out-predecessor-from : tie.Need-element-copy-out-predecessor-from Inv-loop μ-loop
+element-copy-out-predecessor-from c = omega arith
+
+predecessor-from-requires : tie.Need-predecessor-from-requires Inv-loop μ-loop
+predecessor-from-requires c κs =
+    let pre = c .before .before .before .before .before .before .pre in
+    let l = c .before .if1 .taken in
+    ((left-not-0 (c .before .before .before .before .before .before .args .left .now) _ (pre .0) l, omega arith, pre .2), (pre .0, c .before .before .before .before .loop .inv .kept .there _ l))
+
+mul-predecessors : tie.Need-mul-predecessors Inv-loop μ-loop
+mul-predecessors c = omega arith
+
+element-write-predecessors : tie.Need-element-write-predecessors Inv-loop μ-loop
+element-write-predecessors c = omega arith
 
 returns : tie.Need-returns Inv-loop μ-loop
-returns c = seek-found _ _ _ _ (omega arith) (c .before .before .if1 .taken) (none-counted _ _ _ (c .before .before .before .before .before .before .pre) _ (omega arith) (eqb-true _ _ (c .if2 .taken))) (c .before .before .before .before .before .loop .inv .1)
+returns c = passed-ready _ _ _ _ (omega arith) (c .before .before .before .before .before .before .loop .inv) _ (c .before .before .before .if1 .taken) (c .before .predecessor-from .ensures) (c .if2 .taken)
 
 add-j : tie.Need-add-j Inv-loop μ-loop
 add-j c = omega arith
@@ -43,17 +49,14 @@ loop-less : tie.Need-loop-less Inv-loop μ-loop
 loop-less c = omega arith
 
 loop-again : tie.Need-loop-again Inv-loop μ-loop
-loop-again c = (
-  omega arith,
-  ⊎-elim
-      (λ w. seek-past _ _ (c .before .before .before .loop .j) _ (omega arith) (some-counted _ _ _ (c .before .before .before .before .pre) _ (omega arith) (eqb-false _ _ (w .2 .left))) (c .before .before .before .loop .inv .1))
-      (λ w. seek-gone _ _ (c .before .before .before .loop .j) _ (omega arith) (w .left) (c .before .before .before .loop .inv .1))
-      (c .if1 .came),
-)
+loop-again c =
+    let inv = c .before .before .before .loop .inv in
+    ⊎-elim (λ w. rw (w .4) (passed-more _ _ _ _ (omega arith) inv _ (w .0 .taken) (w .2 .ensures) (w .3 .left))) (λ w. rw (w .1) (passed-skip _ _ _ _ (omega arith) inv (w .0 .left))) (c .if1 .came)
 
 returns-2 : tie.Need-returns-2 Inv-loop μ-loop
-returns-2 c = seek-none _ _ (c .before .loop .j) _ (omega arith) (c .before .loop .inv .1)
+returns-2 c = passed-all _ _ _ (c .before .loop .j) (omega arith) (c .before .loop .inv)
 
 pub ready-job-spec : {M : Type 1} → statement M
 ready-job-spec =
-    tie.close (tie.spec Inv-loop μ-loop loop-holds element-copy-out-if1 mul-if2 element-copy-out-if2 returns add-j loop-less loop-again returns-2)
+    let first = tie.spec Inv-loop μ-loop loop-holds element-copy-out-if1 mul-predecessor-from element-copy-out-predecessor-from predecessor-from-requires mul-predecessors element-write-predecessors in
+    tie.close (first returns add-j loop-less loop-again returns-2)

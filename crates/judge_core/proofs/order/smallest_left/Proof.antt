@@ -5,8 +5,8 @@ use mathlib.Core.Path.{_≡_, refl}
 use mathlib.Core.Bool.{true}
 use native.Mathlib.Omega.{arith}
 use Rattle.judge_rules.specs.Order.{first}
-use Rattle.judge_core.specs.Left.{leftOf}
-use Rattle.judge_core.proofs.Seeking.{leftFrom, seek-start, seek-gone, seek-found, seek-none}
+use Rattle.judge_core.specs.Left.{leftOf, leftFrom}
+use Rattle.judge_core.proofs.Seeking.{seek-start, seek-gone, seek-found, seek-none}
 use Rattle.judge_core.proofs.order.smallest_left.Statement.{statement}
 use Rattle.judge_core.proofs.order.smallest_left.Tie as tie
 

@@ -10,13 +10,13 @@ use Rattle.judge_core.proofs.sets.cells_of.Statement.{statement}
 use Rattle.judge_core.proofs.sets.cells_of.Tie as tie
 
 abbrev Inv-loop : tie.InvT-loop
-Inv-loop codes cells owners n kind sets₀ p₀ sets p = (p ≤ n) × Covered codes cells owners p kind sets
+Inv-loop codes cells owners n sets₀ p₀ sets p = (p ≤ n) × Covered codes cells owners p sets
 
 abbrev μ-loop : tie.MeasureT-loop
-μ-loop codes cells owners n kind sets₀ p₀ sets p = n - p
+μ-loop codes cells owners n sets₀ p₀ sets p = n - p
 
 loop-holds : tie.Need-loop-holds Inv-loop μ-loop
-loop-holds c = (omega arith, covered-none _ _ _ _)
+loop-holds c = (omega arith, covered-none _ _ _)
 
 element-copy-out-place : tie.Need-element-copy-out-place Inv-loop μ-loop
 element-copy-out-place c = omega arith
@@ -26,6 +26,12 @@ place-requires c κs = search needs
 
 element-copy-out-if1 : tie.Need-element-copy-out-if1 Inv-loop μ-loop
 element-copy-out-if1 c = omega arith
+
+element-copy-out-set-key : tie.Need-element-copy-out-set-key Inv-loop μ-loop
+element-copy-out-set-key c = omega arith
+
+set-key-requires : tie.Need-set-key-requires Inv-loop μ-loop
+set-key-requires c κs = search needs
 
 mul-with-cell : tie.Need-mul-with-cell Inv-loop μ-loop
 mul-with-cell c = omega arith
@@ -58,15 +64,15 @@ loop-again : tie.Need-loop-again Inv-loop μ-loop
 loop-again c = (
   omega arith,
   ⊎-elim
-      (λ w. rw (w .4) (covered-more _ _ _ _ _ _ (c .before .before .before .before .before .loop .inv .1) _ _ _ (c .before .before .place .ensures .0) (c .before .before .place .ensures .1) (w .2 .ensures) (w .3 .ensures)))
-      (λ w. rw (w .1) (covered-keep _ _ _ _ _ _ (c .before .before .before .before .before .loop .inv .1) (w .0 .left)))
+      (λ w. rw (w .6) (covered-more _ _ _ _ _ (c .before .before .before .before .before .loop .inv .1) _ _ _ _ (c .before .before .place .ensures .0) (w .2 .ensures .0) (w .2 .ensures .1) (w .4 .ensures) (w .5 .ensures)))
+      (λ w. rw (w .1) (covered-keep _ _ _ _ _ (c .before .before .before .before .before .loop .inv .1) (w .0 .left)))
       (c .if1 .came),
 )
 
 returns : tie.Need-returns Inv-loop μ-loop
-returns c = covered-all _ _ _ _ _ _ _ (omega arith) (c .before .loop .inv .1)
+returns c = covered-all _ _ _ _ _ _ (omega arith) (c .before .loop .inv .1)
 
 pub cells-of-spec : {M : Type 1} → statement M
 cells-of-spec =
-    let first = tie.spec Inv-loop μ-loop loop-holds element-copy-out-place place-requires element-copy-out-if1 mul-with-cell array-read-with-cell in
-    tie.close (first element-copy-out-wide wide-requires with-cell-requires mul-sets array-write-sets add-p loop-less loop-again returns)
+    let first = tie.spec Inv-loop μ-loop loop-holds element-copy-out-place place-requires element-copy-out-if1 element-copy-out-set-key set-key-requires mul-with-cell in
+    tie.close (first array-read-with-cell element-copy-out-wide wide-requires with-cell-requires mul-sets array-write-sets add-p loop-less loop-again returns)
