@@ -2,14 +2,14 @@
 -- Assumes nothing.
 use Prim.Native.Nat.{ℕ}
 use mathlib.Core.Path.{_≡_, refl}
-use mathlib.Core.Bool.{true, false, not, _&&_, _||_}
+use mathlib.Core.Bool.{true, false, _||_}
 use mathlib.Core.List.{[], _∷_}
 use lib.Dec.{eqb}
 use Rattle.terms.specs.declared.letters.Ask.the-variants.{Read as asks-read, Write as asks-write, Increment as asks-increment, Update as asks-update}
 use Rattle.conflict.specs.declared.action.Kind.the-variants.{Read, Write, Increment}
 use Rattle.conflict.specs.declared.action.Action.{Action}
 use Rattle.conflict.specs.Modes.{recorded}
-use Rattle.conflict.specs.Schedule.{Schedule, agree, conflicts, keep, touches, edge}
+use Rattle.conflict.specs.Schedule.{Schedule, conflicts, keep, touches, edge}
 
 -- of a read a history records a read
 pub records-read : recorded asks-read ≡ Read
@@ -40,11 +40,6 @@ keep-it a s = refl
 pub keep-not : (a : Action) (s : Schedule) → keep false a s ≡ s
 unfolding keep
 keep-not a s = refl
-
--- actions of two jobs on one cell conflict unless their kinds agree
-pub conflicts-by : (a b : Action) → conflicts a b ≡ (eqb (a .cell) (b .cell) && not (eqb (a .job) (b .job)) && not (agree (a .kind) (b .kind)))
-unfolding conflicts
-conflicts-by a b = refl
 
 -- nothing of an empty schedule conflicts with an action
 pub touches-none : (a : Action) (j : ℕ) → touches a j [] ≡ false

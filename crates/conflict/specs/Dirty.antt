@@ -1,4 +1,4 @@
--- Dirty histories: a read in a run that commits, of what a run that does not commit had written and had not yet ended over; as the request words it, and as it is looked for line by line (02, No. 2).
+-- Dirty histories: a run that commits has read what another run had written that does not commit and had not ended yet; as the request words it, and as it is looked for line by line (02, No. 2).
 use Prim.Native.Nat.{ℕ, _+_, _≤_}
 use mathlib.Core.Path.{_≡_}
 use mathlib.Core.Logic.{_≢_}

@@ -6,10 +6,10 @@ use mathlib.Core.List.{List, []}
 use mathlib.Core.Option.{Option, none, some}
 use native.Mathlib.Omega.{arith}
 use borrow.Author.Tests.{lt-ltb, le-ltb}
-use lib.ListN.{length, getD}
+use lib.ListN.{length}
 use Rattle.terms.specs.declared.refusals.Refusal.{Refusal}
 use Rattle.terms.specs.declared.refusals.Refusal.the-variants.{ShortOrder}
-use Rattle.terms.specs.Limits.{judgedJobs, judgedLines}
+use Rattle.terms.specs.Limits.{judgedJobs}
 use Rattle.text_rules.specs.Split.{part, joined}
 use Rattle.conflict.specs.History.{History}
 use Rattle.conflict.specs.Dirty.{ReadOf, dirtyOf}
@@ -79,15 +79,6 @@ judged-short text buffer h =
       starts = refl;
       place = rw e;
     }
-
-module _ (text codes jobs cells : List ℕ) (x : Scanned) (s : ScannedAs text codes jobs cells x) where
-  -- a faultless text has no more lines than are kept
-  pub clean-within : (n : ℕ) → x ≡ Faultless n → n ≤ judgedLines
-  clean-within n e = let c : Clean text codes jobs cells n = subst (ScannedAs text codes jobs cells) e s in c .within
-
-  -- no line of it is of job 0
-  pub clean-named : (n : ℕ) → x ≡ Faultless n → (p : ℕ) → p < n → getD jobs p 0 ≡ 0 → ⊥
-  clean-named n e = let c : Clean text codes jobs cells n = subst (ScannedAs text codes jobs cells) e s in c .named
 
 module _ (text codes jobs cells buffer : List ℕ) (x : Scanned) (h : judgedJobs ≤ length buffer) (s : ScannedAs text codes jobs cells x) where
   -- the judge decides a faultless text

@@ -30,7 +30,7 @@ pub mod KeptFaults
 pub mod Faultless
 pub mod Ending
 pub mod DirtyLines
-pub mod Opening
+pub mod DirtyPasses
 pub mod DirtyFirst
 pub mod DirtySaid
 pub mod KeptLaws

@@ -22,7 +22,7 @@ use Rattle.judge_rules.specs.declared.verdict.Verdict.the-variants.{Orde
 use Rattle.judge_rules.specs.HistoryText.{readingsOf, eventsIn}
 use Rattle.judge_rules.specs.Judgement.{judgementOf, inNumbers}
 use Rattle.judge_rules.specs.LineTable.{readingAt, linesBefore, Faultless, FirstFault, AllFaultless}
-use Rattle.judge_rules.specs.AsWorded.{SoundTo, SoundText, RefusedAs}
+use Rattle.judge_rules.specs.AsWorded.{SoundTo, SoundText, RefusesLine, Refused, Dirtied, Ordered, Knotted}
 use Rattle.judge_rules.specs.AsWorded.RefusedAs.{too-many}
 use Rattle.judge_rules.proofs.Readings.{readings-length}
 use Rattle.judge_rules.proofs.CleanLines.{clean-line}
@@ -31,13 +31,6 @@ use Rattle.judge_rules.proofs.Refusing.{short-exactly, line-0-short, re
 use Rattle.judge_rules.proofs.VerdictNumbers.{same-verdict}
 use Rattle.judge_rules.proofs.JudgedTexts.{dirty-said, orderly-said, knot-said, dirty-said-exactly, orderly-said-exactly, knot-said-exactly}
 use Rattle.judge_rules.proofs.WordedLines.{faultless-sound, sound-faultless, due-worded, worded-due}
-
--- what the paper asks of line n where it refuses it: the lines before it are faultless, it is there, and it has the fault of that number and none that is tested before
-pub record RefusesLine (text : List ℕ) (n number : ℕ) : Type 0 where
-  pub from : 1 ≤ n
-  pub to : n ≤ length (linesOf text)
-  pub before : SoundTo (linesOf text) (n - 1)
-  pub fault : RefusedAs (linesOf text) n number
 
 module _ (text : List ℕ) where
   -- line 4,097 is not faultless
@@ -158,31 +151,19 @@ module _ (text buffer : List ℕ) where
         (λ n e. absurd (faulty′ (orderly-as-worded .0 (n, e) .1))) (λ n e. absurd (faulty′ (knot-as-worded .0 (n, e) .1)))),
   )
 
-  -- what the four kinds of answer are given for: a refusal, dirty, orderly, a knot
-  abbrev pub Refused : Type 0
-  Refused = (length buffer < 255) ⊎ (SoundText text → ⊥)
-
-  abbrev pub Dirtied : Type 0
-  Dirtied = (255 ≤ length buffer) × SoundText text × IsDirty says
-
-  abbrev pub Ordered : Type 0
-  Ordered = (255 ≤ length buffer) × SoundText text × ConflictSerializable (committedPart says) × (IsDirty says → ⊥)
-
-  abbrev pub Knotted : Type 0
-  Knotted = (255 ≤ length buffer) × SoundText text × (ConflictSerializable (committedPart says) → ⊥) × (IsDirty says → ⊥)
-
   -- ALWAYS ONE: one of the four is so of every text and buffer
-  pub always-one : Refused ⊎ (Dirtied ⊎ (Ordered ⊎ Knotted))
+  pub always-one : Refused text buffer ⊎ (Dirtied text buffer ⊎ (Ordered text buffer ⊎ Knotted text buffer))
   always-one =
       by-said (judgementOf text buffer .said) refl (λ n why e. inl (no-as-worded .0 (n, why, e)))
       (λ i j e. let d = dirty-as-worded i j .0 e in inr (inl (d .0, d .1, first-is-dirty says i j (d .2))))
       (λ n e. inr (inr (inl (orderly-as-worded .0 (n, e))))) (λ n e. inr (inr (inr (knot-as-worded .0 (n, e)))))
 
   -- nothing is refused that has its places and no fault
-  unrefused : Refused → 255 ≤ length buffer → SoundText text → ⊥
+  unrefused : Refused text buffer → 255 ≤ length buffer → SoundText text → ⊥
   unrefused (inl h) room s = omega arith
   unrefused (inr f) room s = f s
 
   -- NEVER TWO: each excludes the others
-  pub never-two : (Refused → Dirtied → ⊥) × (Refused → Ordered → ⊥) × (Refused → Knotted → ⊥) × (Dirtied → Ordered → ⊥) × (Dirtied → Knotted → ⊥) × (Ordered → Knotted → ⊥)
+  pub never-two : (Refused text buffer → Dirtied text buffer → ⊥) × (Refused text buffer → Ordered text buffer → ⊥) × (Refused text buffer → Knotted text buffer → ⊥)
+      × (Dirtied text buffer → Ordered text buffer → ⊥) × (Dirtied text buffer → Knotted text buffer → ⊥) × (Ordered text buffer → Knotted text buffer → ⊥)
   never-two = (λ r d. unrefused r (d .0) (d .1), λ r o. unrefused r (o .0) (o .1), λ r k. unrefused r (k .0) (k .1), λ d o. o .3 (d .2), λ d k. k .3 (d .2), λ o k. k .2 (o .2))

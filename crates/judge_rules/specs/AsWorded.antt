@@ -1,6 +1,6 @@
--- What a faultless text is, and when a line gets which refusal, in the paper's words and numbers: by good lines and where they stand alone, with no test and no order of tests (01, Refusals by number; 01, Lines).
+-- What a faultless text is, when a line gets which refusal, and what each kind of answer is given for, in the paper's words and numbers: by good lines and where they stand alone, with no test and no order of tests (01, Refusals by number; 01, Lines; 02, No. 2).
 -- The numbers are written out, since these are the words of promises.
-use Prim.Native.Nat.{ℕ, _≤_, _<_}
+use Prim.Native.Nat.{ℕ, _-_, _≤_, _<_}
 use mathlib.Core.Path.{_≡_}
 use mathlib.Core.Logic.{_⊎_}
 use mathlib.Core.List.{List}
@@ -8,9 +8,12 @@ use lib.ListN.{length}
 use Rattle.terms.specs.declared.letters.Letter.{Letter}
 use Rattle.terms.specs.declared.letters.Letter.the-variants.{Commit, GiveUp}
 use Rattle.terms.specs.Letters.{ofHistories}
+use Rattle.conflict.specs.Schedule.{ConflictSerializable}
+use Rattle.conflict.specs.History.{committedPart}
+use Rattle.conflict.specs.Dirty.{IsDirty}
 use Rattle.text_rules.specs.GoodLine.{GoodLine}
 use Rattle.text_rules.specs.Split.{linesOf}
-use Rattle.judge_rules.specs.HistoryText.{lineAt}
+use Rattle.judge_rules.specs.HistoryText.{readingsOf, lineAt, eventsIn}
 
 -- line n is a good line of a history: this letter, this job and this cell, 0 where the letter has none, and its newline (01, Lines)
 abbrev pub LineIs : List (List ℕ) → ℕ → Letter → ℕ → ℕ → Type 0
@@ -51,3 +54,26 @@ pub data RefusedAs (ls : List (List ℕ)) (n : ℕ) : ℕ → Type 0 where
   outside : (l : Letter) (job cell : ℕ) → n ≤ 4_096 → LineIs ls n l job cell → (job ≡ 0) ⊎ (255 < job) → RefusedAs ls n 12
   above : (l : Letter) (job cell : ℕ) → n ≤ 4_096 → LineIs ls n l job cell → 1 ≤ job → job ≤ 255 → 63 < cell → RefusedAs ls n 2
   over : (l : Letter) (job cell : ℕ) → n ≤ 4_096 → LineIs ls n l job cell → 1 ≤ job → job ≤ 255 → cell ≤ 63 → OverBefore ls n job → RefusedAs ls n 13
+
+-- what the paper asks of line n where it refuses it: the lines before it are faultless, it is there, and it has the fault of that number and none that is tested before
+pub record RefusesLine (text : List ℕ) (n number : ℕ) : Type 0 where
+  pub from : 1 ≤ n
+  pub to : n ≤ length (linesOf text)
+  pub before : SoundTo (linesOf text) (n - 1)
+  pub fault : RefusedAs (linesOf text) n number
+
+-- what the four kinds of answer are given for. A refusal: the buffer has fewer than 255 places, or the text is not faultless
+abbrev pub Refused : List ℕ → List ℕ → Type 0
+Refused text buffer = (length buffer < 255) ⊎ (SoundText text → ⊥)
+
+-- dirty: neither is so, and the history that the text says is dirty (02, No. 2)
+abbrev pub Dirtied : List ℕ → List ℕ → Type 0
+Dirtied text buffer = (255 ≤ length buffer) × SoundText text × IsDirty (eventsIn (readingsOf text))
+
+-- orderly: it is not dirty, and its committed part is conflict-serializable (demand 2)
+abbrev pub Ordered : List ℕ → List ℕ → Type 0
+Ordered text buffer = (255 ≤ length buffer) × SoundText text × ConflictSerializable (committedPart (eventsIn (readingsOf text))) × (IsDirty (eventsIn (readingsOf text)) → ⊥)
+
+-- a knot: it is not dirty, and its committed part is not
+abbrev pub Knotted : List ℕ → List ℕ → Type 0
+Knotted text buffer = (255 ≤ length buffer) × SoundText text × (ConflictSerializable (committedPart (eventsIn (readingsOf text))) → ⊥) × (IsDirty (eventsIn (readingsOf text)) → ⊥)

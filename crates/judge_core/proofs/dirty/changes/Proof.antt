@@ -1,6 +1,6 @@
 -- `judge_core::dirty::changes` meets its contract, by the definition's own tests.
 -- Assumes nothing.
-use Rattle.judge_core.proofs.Opening.{change-write, change-increment}
+use Rattle.judge_core.proofs.DirtyPasses.{change-write, change-increment}
 use Rattle.judge_core.proofs.dirty.changes.Statement.{statement}
 use Rattle.judge_core.proofs.dirty.changes.Tie as tie
 

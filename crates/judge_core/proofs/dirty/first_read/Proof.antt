@@ -8,7 +8,7 @@ use borrow.Author.Needs.{needs}
 use borrow.Author.Count.{below-none, below-more}
 use Rattle.judge_core.specs.Lists.{valuesOf}
 use Rattle.judge_core.specs.RunEnds.{latestEnd, dirtyAt}
-use Rattle.judge_core.proofs.Opening.{latest-none, latest-more, dirty-by}
+use Rattle.judge_core.proofs.DirtyPasses.{latest-none, latest-more, dirty-by}
 use Rattle.judge_core.proofs.dirty.first_read.Statement.{statement}
 use Rattle.judge_core.proofs.dirty.first_read.Tie as tie
 

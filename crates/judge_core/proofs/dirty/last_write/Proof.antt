@@ -4,7 +4,7 @@ use Prim.Native.Nat.{_≤_}
 use mathlib.Core.Path.{sym, _∙_}
 use native.Mathlib.Omega.{arith}
 use borrow.Author.Needs.{needs}
-use Rattle.judge_core.proofs.Opening.{NoneFrom, back-none, back-past, back-found, back-all}
+use Rattle.judge_core.proofs.DirtyPasses.{NoneFrom, back-none, back-past, back-found, back-all}
 use Rattle.judge_core.proofs.dirty.last_write.Statement.{statement}
 use Rattle.judge_core.proofs.dirty.last_write.Tie as tie
 

@@ -3,7 +3,7 @@
 use native.Mathlib.Omega.{arith}
 use Rattle.laws.specs.Choice.{cases}
 use Rattle.judge_core.specs.RunEnds.{readsDirt}
-use Rattle.judge_core.proofs.Opening.{both}
+use Rattle.judge_core.proofs.DirtyPasses.{both}
 use Rattle.judge_core.proofs.dirty.reads_dirt.Statement.{statement}
 use Rattle.judge_core.proofs.dirty.reads_dirt.Tie as tie
 

@@ -6,7 +6,7 @@ use native.Mathlib.Omega.{arith}
 use borrow.Author.Needs.{needs}
 use Rattle.judge_core.specs.Lists.{valuesOf}
 use Rattle.judge_core.specs.RunEnds.{runEnd}
-use Rattle.judge_core.proofs.Opening.{EndsFrom, seen-none, ends-none, seen-more, ends-more, ends-all}
+use Rattle.judge_core.proofs.DirtyPasses.{EndsFrom, seen-none, ends-none, seen-more, ends-more, ends-all}
 use Rattle.judge_core.proofs.dirty.run_ends.Statement.{statement}
 use Rattle.judge_core.proofs.dirty.run_ends.Tie as tie
 

@@ -1,7 +1,7 @@
 -- `judge_core::dirty::spoils` meets its contract, by the definition's own tests.
 -- Assumes nothing.
 use borrow.Author.Needs.{needs}
-use Rattle.judge_core.proofs.Opening.{spoils-apart, spoils-by, spoils-not}
+use Rattle.judge_core.proofs.DirtyPasses.{spoils-apart, spoils-by, spoils-not}
 use Rattle.judge_core.proofs.dirty.spoils.Statement.{statement}
 use Rattle.judge_core.proofs.dirty.spoils.Tie as tie
 
