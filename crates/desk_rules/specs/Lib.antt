@@ -30,4 +30,6 @@ pub mod Wakes
 pub mod Recorded
 pub mod DeskLimits
 pub mod SerialHistory
+pub mod Chain
+pub mod AskedChain
 pub mod Examples

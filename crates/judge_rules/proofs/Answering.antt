@@ -19,7 +19,8 @@ use Rattle.judge_rules.specs.Judged.{Finding, orderly, knotted, jobsOf, 
 use Rattle.judge_rules.specs.Meant.{Knotted, Says}
 use Rattle.judge_rules.specs.Meant.Says.{says-order, says-cycle}
 use Rattle.judge_rules.specs.HistoryText.{readingsOf, Faulty, firstFaulty, eventsIn, Tells}
-use Rattle.judge_rules.specs.Judgement.{filled, sayFinding, sayHistory, sayLines, judgementOf}
+use Rattle.laws.specs.Lists.{filled}
+use Rattle.judge_rules.specs.Judgement.{sayFinding, sayHistory, sayLines, judgementOf}
 use Rattle.judge_rules.specs.LineTable.{AllFaultless}
 use Rattle.judge_rules.specs.Answers.{Fills, InOrder, InKnot, Answers}
 use Rattle.judge_rules.specs.Answers.Answers.{short, faulty, in-dirt, in-order, in-knot}

@@ -21,7 +21,8 @@ use Rattle.judge_rules.specs.declared.verdict.Verdict.the-variants.{Orde
 use Rattle.judge_rules.specs.Judged.{orderly, knotted, findingOf}
 use Rattle.judge_rules.specs.Meant.Says.{says-order, says-cycle}
 use Rattle.judge_rules.specs.HistoryText.{readingsOf, lineAt, Faulty, firstFaulty, eventsIn, bare, Tells}
-use Rattle.judge_rules.specs.Judgement.{Judgement, filled, sayFinding, sayHistory, sayLines, judgementOf}
+use Rattle.laws.specs.Lists.{filled}
+use Rattle.judge_rules.specs.Judgement.{Judgement, sayFinding, sayHistory, sayLines, judgementOf}
 use Rattle.judge_rules.specs.LineTable.{Faultless, Due, FirstFault, AllFaultless}
 use Rattle.judge_rules.specs.Answers.{Fills, Answers}
 use Rattle.judge_rules.specs.Answers.Answers.{short, faulty, in-dirt, in-order, in-knot}

@@ -2,7 +2,7 @@
 -- Assumes nothing.
 use mathlib.Core.Path.{_≡_, refl}
 use mathlib.Core.List.{map}
-use Rattle.laws.specs.Lists.{member, put}
+use Rattle.laws.specs.Lists.{member, put, filled}
 use Rattle.conflict.specs.Modes.{needed, recorded, covers, grants, asked, isFree}
 use Rattle.conflict.specs.Schedule.{agree, conflicts, keep, touches, edge}
 use Rattle.conflict.specs.History.{isCommit, isBack, marked, partOf, committedPart, commits, commitOrder}
@@ -20,7 +20,7 @@ use Rattle.judge_rules.specs.Order.{preceded, first, ready, without as order-wi
 use Rattle.judge_rules.specs.Knot.{predecessor, upTo, from, walk, least, turnTo, turn, knotIn}
 use Rattle.judge_rules.specs.Judged.{findingBy, judged, insert, sorted, jobsOf, findingOf}
 use Rattle.judge_rules.specs.HistoryText.{readingsOf, faultOfGood, faultOf, lineFault, endedAfter, orLater, firstFaulty, eventOf, eventsIn}
-use Rattle.judge_rules.specs.Judgement.{filled, sayFinding, sayHistory, sayLines, judgementOf}
+use Rattle.judge_rules.specs.Judgement.{sayFinding, sayHistory, sayLines, judgementOf}
 use Rattle.text_rules.specs.EventRecords.{askBy, markLetter, eventLine, textOf}
 use Rattle.desk_rules.specs.AnswerWords.{wordOf, numberBeside}
 use Rattle.program_rules.specs.OverLines.{answered, lineBy, runOf, wakeLines, answerLines, historyLines, written}
