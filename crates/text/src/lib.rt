@@ -9,4 +9,5 @@ pub use writer::write_answer;
 pub use writer::write_end;
 pub use writer::write_field;
 pub use writer::write_line;
+pub use writer::write_number;
 pub use writer::write_word;

@@ -202,6 +202,20 @@ pub fn write_word(buf: &mut [u8], at: usize, word: Word) -> Written
     }
 }
 
+// A number alone, in shortest decimal: what a line of jobs begins with.
+pub fn write_number(buf: &mut [u8], at: usize, n: u64) -> Written
+    ensures { λ r. ⌜ (r ≡ told (now (buf .entry)) at (decimal n)) × (now (buf .exit) ≡ left (now (buf .entry)) at (decimal n)) ⌝ }
+{
+    let len = width(n);
+    let room = buf.len();
+    if has_room(room, at, len) {
+        let k = put_number(&mut buf[at..], n, len);
+        Written::Next(at + k)
+    } else {
+        Written::Refused(Refusal::NoRoom)
+    }
+}
+
 // A further field alone: a tab and the number.
 pub fn write_field(buf: &mut [u8], at: usize, n: u64) -> Written
     ensures { λ r. ⌜ (r ≡ told (now (buf .entry)) at (tab ∷ decimal n)) × (now (buf .exit) ≡ left (now (buf .entry)) at (tab ∷ decimal n)) ⌝ }
