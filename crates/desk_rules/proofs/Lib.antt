@@ -72,3 +72,4 @@ pub mod StillShut
 pub mod UpdateLocks
 pub mod Promised
 pub mod Examples
+pub mod Younger
