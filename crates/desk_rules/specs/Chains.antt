@@ -17,7 +17,7 @@ use Rattle.desk_rules.specs.Table.{isWaiting}
 use Rattle.desk_rules.specs.Requests.{Rising}
 use Rattle.desk_rules.specs.Waiting.{IsWaiting}
 use Rattle.desk_rules.specs.Chain.{youngerThan, chainOf, Next, IsChain, waitingBelow}
-use Rattle.desk_rules.specs.AskedChain.{askChain}
+use Rattle.desk_rules.specs.AskedChain.{ChainTold, askChain}
 
 -- one job and the next after it: the first waits, and the next is in its way and the youngest of those
 pub record Followed (d : Desk) (i k : ℕ) : Type 0 where
@@ -38,19 +38,19 @@ pub record ChainOf (d : Desk) (j : ℕ) (js : List ℕ) : Type 0 where
   pub once : distinct js ≡ true
   pub at-most-32 : length js ≤ 32
 
--- of who asks for the chain of job j with a list lent for it
-pub record AsksChain (d : Desk) (j : ℕ) (list : List ℕ) : Type 0 where
+-- of what is told to who asks for the chain of job j with a list lent for it
+pub record AsksChain (d : Desk) (j : ℕ) (list : List ℕ) (t : ChainTold) : Type 0 where
   -- 3 exactly where the job is not open; 5 exactly where it was sent back; 18 exactly where it runs or waits and fewer than 32 places are lent; and no other refusal
-  pub not-open : (askChain d j list .said ≡ No NotOpen) ↔ (isOpen (d .stat j) ≡ false)
-  pub was-sent-back : (askChain d j list .said ≡ No SentBack) ↔ (d .stat j ≡ sentback)
-  pub short-list : (askChain d j list .said ≡ No ShortList) ↔ ((isLive (d .stat j) ≡ true) × (length list < 32))
-  pub no-other : (why : Refusal) → askChain d j list .said ≡ No why → (numberOf why ≡ 3) ⊎ ((numberOf why ≡ 5) ⊎ (numberOf why ≡ 18))
+  pub not-open : (t .said ≡ No NotOpen) ↔ (isOpen (d .stat j) ≡ false)
+  pub was-sent-back : (t .said ≡ No SentBack) ↔ (d .stat j ≡ sentback)
+  pub short-list : (t .said ≡ No ShortList) ↔ ((isLive (d .stat j) ≡ true) × (length list < 32))
+  pub no-other : (why : Refusal) → t .said ≡ No why → (numberOf why ≡ 3) ⊎ ((numberOf why ≡ 5) ⊎ (numberOf why ≡ 18))
   -- a refusal leaves the list as it was
-  pub refusal-leaves : (why : Refusal) → askChain d j list .said ≡ No why → askChain d j list .list ≡ list
+  pub refusal-leaves : (why : Refusal) → t .said ≡ No why → t .list ≡ list
   -- else the answer is how many jobs the chain has, and it stands in the first places of the list
-  pub answered : isLive (d .stat j) ≡ true → 32 ≤ length list → (askChain d j list .said ≡ Jobs (length (chainOf d j))) × (take (length (chainOf d j)) (askChain d j list .list) ≡ chainOf d j)
+  pub answered : isLive (d .stat j) ≡ true → 32 ≤ length list → (t .said ≡ Jobs (length (chainOf d j))) × (take (length (chainOf d j)) (t .list) ≡ chainOf d j)
   -- the unused places stay
-  pub unused-stay : (n : ℕ) → askChain d j list .said ≡ Jobs n → (drop n (askChain d j list .list) ≡ drop n list) × (length (askChain d j list .list) ≡ length list)
+  pub unused-stay : (n : ℕ) → t .said ≡ Jobs n → (drop n (t .list) ≡ drop n list) × (length (t .list) ≡ length list)
 
 pub record Chains (d : Desk) : Type 0 where
   -- the chain of a live job is a chain in the request's words, and there is no other; that of a running job is itself
@@ -62,7 +62,7 @@ pub record Chains (d : Desk) : Type 0 where
   pub someone-next : (c : ℕ) (w : Waiter) → IsWaiting d c w → (i : ℕ) × Next d c w i
   pub next-holds : (c : ℕ) (w : Waiter) → IsWaiting d c w → (i : ℕ) → Next d c w i → (i ≢ w .job) × (isFree (d .row c .held i) ≡ false)
   pub fewer-younger : (c : ℕ) (w : Waiter) → IsWaiting d c w → (i : ℕ) → Next d c w i → youngerThan i (d .jobs) < youngerThan (w .job) (d .jobs)
-  pub asks : (j : ℕ) (list : List ℕ) → AsksChain d j list
+  pub asks : (j : ℕ) (list : List ℕ) → AsksChain d j list (askChain d j list)
   -- the waiting jobs are listed, and nobody else, in ascending order
   pub waiting-listed : (j : ℕ) → member j (waitingBelow (d .stat) (d .next)) ≡ isWaiting (d .stat j)
   pub ascending : Rising (waitingBelow (d .stat) (d .next))
