@@ -1,6 +1,5 @@
 -- Who asks for a job's chain lends a list: when that is refused, what is answered, and what the list then holds (02, No. 3).
 use Prim.Native.Nat.{ℕ}
-use mathlib.Core.Path.{_≡_}
 use mathlib.Core.Bool.{Bool, false}
 use mathlib.Core.List.{List, [], _∷_}
 use mathlib.Core.Option.{Option, none, some}

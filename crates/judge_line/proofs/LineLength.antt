@@ -9,10 +9,10 @@ use native.Mathlib.Nat.{zero-add}
 use native.Mathlib.Omega.{arith}
 use borrow.Author.Tests.{le-leb, le-ltb}
 use lib.Dec.{ltb}
-use lib.ListN.{length, take, drop, replicate, length-append, length-replicate}
-use lib.Seq.{take-append-seam}
+use lib.ListN.{length, take, replicate, length-append, length-replicate}
 use Rattle.laws.specs.Choice.{by-test}
-use Rattle.laws.specs.Lists.{member, distinct, filled}
+use Rattle.laws.specs.Lists.{member, distinct}
+use Rattle.laws.proofs.Filled.{filled-first}
 use Rattle.laws.proofs.Lists.{member-first, member-more}
 use Rattle.terms.specs.declared.refusals.Refusal.{Refusal}
 use Rattle.terms.specs.declared.refusals.Refusal.the-variants.{TooLong}
@@ -68,11 +68,6 @@ no-at-most : (n : ℕ) (why : Refusal) → n ≤ suc judgedLines → length (wor
 no-at-most n why h =
     let r = within-table why in
     omega (arith, two-numbers-length word.the-variants.No n (numberOf why), digits-at-most 3 n (omega arith), digits-at-most 1 (numberOf why) (omega arith))
-
--- the jobs that fill the first places of a buffer stand there
-filled-first : (js buffer : List ℕ) → take (length js) (filled js buffer) ≡ js
-unfolding filled
-filled-first js buffer = take-append-seam js (drop (length js) buffer)
 
 module _ (ls : List Reading) (e : firstFaulty 1 [] ls ≡ none) (buffer : List ℕ) where
   -- no line has a fault

@@ -1,5 +1,5 @@
 -- The judge whole: what it says of a text and an order buffer, and what it leaves in the buffer (01, The judge's rules; 01, Refusals by number).
-use Prim.Native.Nat.{ℕ, _+_}
+use Prim.Native.Nat.{ℕ}
 use mathlib.Core.List.{List, [], _∷_}
 use mathlib.Core.Option.{Option, none, some}
 use lib.Dec.{ltb}

@@ -65,6 +65,15 @@ pub member-more : (k : ℕ) (ks : List ℕ) (j : ℕ) → member j ks ≡ true �
 unfolding member
 member-more k ks j h = by-test (eqb k j) (λ t. rw t) (λ f. rw f h)
 
+-- who is in a list is its first or in the rest
+pub member-split : {P : Type 0} (k : ℕ) (ks : List ℕ) (i : ℕ) → member i (k ∷ ks) ≡ true → (k ≡ i → P) → (member i ks ≡ true → P) → P
+member-split k ks i h f g = by-test (eqb k i) (λ t. f (eqb-true k i t)) (λ n. g (sym (member-later k ks i n) ∙ h))
+
+-- nobody is in an empty list
+pub member-none : {P : Type 0} (i : ℕ) → member i [] ≡ true → P
+unfolding member
+member-none i h = not-both h refl
+
 -- a list that names none twice does not name its first again
 pub once-first : (k : ℕ) (ks : List ℕ) → distinct (k ∷ ks) ≡ true → member k ks ≡ false
 unfolding distinct
