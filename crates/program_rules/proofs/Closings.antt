@@ -27,7 +27,7 @@ line-room Chains = omega arith
 
 module _ (view : View) (c : Clerk) (out : List ℕ) (at : ℕ) (h : at + programRoom view ≤ length out) where
   -- so there is room for the record at the end of the input
-  roomy-at : roomy out at ≡ true
+  pub roomy-at : roomy out at ≡ true
   unfolding roomy
   roomy-at = le-leb (at + lineRoom) (length out) (omega (arith, line-room view))
 

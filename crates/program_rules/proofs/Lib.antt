@@ -14,6 +14,7 @@ pub mod WholeProgram
 pub mod ArraysArePaper
 pub mod EarlyStop
 pub mod ChainsWritten
+pub mod Endings
 pub mod Programs
 pub mod SameShown
 pub mod StartedHistory
