@@ -80,3 +80,4 @@ pub mod WaitingList
 pub mod ChainsKept
 pub mod Promised
 pub mod Examples
+pub mod ChainExamples
