@@ -80,4 +80,3 @@ pub mod WaitingList
 pub mod ChainsKept
 pub mod Promised
 pub mod Examples
-pub mod ChainExamples

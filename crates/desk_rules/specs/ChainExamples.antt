@@ -1,5 +1,5 @@
 -- Requests by numbers, and then who asks for a chain: what is answered and what the list then holds (02, No. 3).
-use Prim.Native.Nat.{ℕ, zero, suc}
+use Prim.Native.Nat.{ℕ}
 use mathlib.Core.List.{List, [], _∷_, _++_}
 use lib.ListN.{take, replicate}
 use Rattle.desk_rules.specs.Desk.{Request, freshDesk}
