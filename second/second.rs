@@ -3,9 +3,10 @@
 //! where they leave a point open, from docs/DECISIONS.md alone. It is the yardstick for
 //! random runs, so it is simple rather than clever.
 //!
-//! This file has the command line. Each subject has a file: words, lines, desk, judge,
-//! commands, make with its five, demands with its two; and tests with a file for each of these.
+//! This file has the command line. Each subject has a file: words, lines, desk, chain, judge,
+//! commands, make with its six, demands with its three; and tests with a file for each of these.
 
+mod chain;
 mod commands;
 mod demands;
 mod desk;
@@ -16,12 +17,12 @@ mod make;
 mod tests;
 mod words;
 
-use commands::{answers, cases, history, lines, mix, steps, verdict};
+use commands::{answers, cases, chain, history, lines, mix, steps, verdict};
 use demands::demands;
 use make::{make_cases, make_histories, make_lines, make_requests, make_steps};
 use std::io::{self, ErrorKind, Read, Write};
 
-const USAGE: &str = "usage: second answers | history | verdict | lines | cases | steps FIRST | mix COUNT
+const USAGE: &str = "usage: second answers | history | chain | verdict | lines | cases | steps FIRST | mix COUNT
        second make requests|histories|lines SEED LINES
        second make cases SEED COUNT
        second make steps SEED COUNT [FIRST]
@@ -46,6 +47,7 @@ fn run(words: &[&str], input: impl Read, output: &mut impl Write) -> io::Result<
     match *words {
         ["answers"] => answers(input, output)?,
         ["history"] => history(input, output)?,
+        ["chain"] => chain(input, output)?,
         ["verdict"] => verdict(input, output)?,
         ["lines"] => lines(input, output)?,
         ["cases"] => cases(input, output)?,
@@ -54,7 +56,7 @@ fn run(words: &[&str], input: impl Read, output: &mut impl Write) -> io::Result<
                 return usage();
             };
             if !steps(first, input, output)? {
-                eprintln!("second: a step is three numbers, kind job cell, parted by one blank");
+                eprintln!("second: a step is three numbers, kind job cell (or 256 job places), parted by one blank");
                 return Ok(2);
             }
         }

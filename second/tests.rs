@@ -1,5 +1,6 @@
 //! Tests: what they share, and the samples of document 01.
 
+mod chain;
 mod demands;
 mod desk;
 mod dirty;
