@@ -119,7 +119,7 @@ fn a_chain_of_32() {
 }
 
 /// A desk after so many begins and the requests.
-fn desk_after(begins: usize, requests: &str) -> Desk {
+pub fn desk_after(begins: usize, requests: &str) -> Desk {
     let mut desk = Desk::start(1).unwrap();
     for _ in 0..begins {
         desk.step(Line { letter: BEGIN, job: 0, cell: 0 });
