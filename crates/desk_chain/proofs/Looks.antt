@@ -51,11 +51,17 @@ younger-below (k ∷ ks) (suc p) h =
     let r : youngerThan (getD ks p 0) ks < length ks = younger-below ks p (omega arith) in
     by-test (ltb (getD ks p 0) k) (λ t. rw t (omega arith)) (λ f. rw f (omega arith))
 
--- what is above a number stands within the list, so there any default reads the same
-getD-inside : (l : List ℕ) (q x y : ℕ) → y < getD l q 0 → getD l q x ≡ getD l q 0
-getD-inside [] q x y h = absurd (omega arith)
-getD-inside (k ∷ ks) zero x y h = refl
-getD-inside (k ∷ ks) (suc q) x y h = getD-inside ks q x y h
+-- within a list any default reads the same
+pub any-default : (l : List ℕ) (q x y : ℕ) → q < length l → getD l q x ≡ getD l q y
+any-default [] q x y h = absurd (omega arith)
+any-default (k ∷ ks) zero x y h = refl
+any-default (k ∷ ks) (suc q) x y h = any-default ks q x y (omega arith)
+
+-- what is above a number stands within the list
+above-within : (l : List ℕ) (q y : ℕ) → y < getD l q 0 → q < length l
+above-within [] q y h = absurd (omega arith)
+above-within (k ∷ ks) zero y h = omega arith
+above-within (k ∷ ks) (suc q) y h = omega (arith, above-within ks q y h)
 
 module _ (number held : List ℕ) (c job : ℕ) where
   -- what holds of a place that is found anew, and of who was found before, holds of who is found
@@ -73,7 +79,7 @@ module _ (number held : List ℕ) (c job : ℕ) where
   found-least e zero = rw (List·getD-eq-default number job {n = places} (omega arith)) (omega arith)
   found-least e (suc n) =
       let r = found-least e n in
-      by-found (λ q. job ≤ getD number q job) n (λ h. rw (getD-inside number n job (getD number (holderAbove number held c job n) job) h) (omega arith)) r
+      by-found (λ q. job ≤ getD number q job) n (λ h. rw (any-default number n job 0 (above-within number n (getD number (holderAbove number held c job n) job) h)) (omega arith)) r
 
   -- who is found is younger than the job
   pub found-younger : length number ≡ places → (n : ℕ) → holderAbove number held c job n < places → job < getD number (holderAbove number held c job n) 0

@@ -1,0 +1,75 @@
+// The chain of a job: the youngest that is in its way, the youngest that is in that one's way, and so on until a job that is running (02, No. 3).
+use conflict::modes::mode_is_free;
+use conflict::modes::mode_of;
+use desk_arrays::codes::WAITING;
+use desk_arrays::state::ROWS;
+use desk_arrays::state::SPOTS;
+use terms::limits::PLACES;
+ghost use Prim.Native.Nat.{_<_};
+ghost use mathlib.Core.Path.{_≡_};
+ghost use lib.ListN.{length};
+ghost use Rattle.terms.specs.Limits.{cells, places};
+ghost use Rattle.desk_chain.specs.Chains.{holdsAbove, holderAbove, nextAt};
+
+// Whether a place holds the cell, under a number above the one given.
+fn holds_above<'a>(
+    number: &'a [u32; PLACES],
+    held: &'a [u8; SPOTS],
+    c: usize,
+    age: u32,
+    q: usize,
+) -> bool
+    requires { ⌜ (c < cells) × (q < places) ⌝ }
+    ensures { λ r. ⌜ r ≡ holdsAbove (now (number .entry)) (now (held .entry)) c age q ⌝ }
+{
+    if mode_is_free(mode_of(held[c * PLACES + q])) {
+        return false;
+    }
+    age < number[q]
+}
+
+// The place of the youngest that holds the cell, of those younger than the job, or 32; the job's own hold is thereby left out.
+fn holder_above<'a>(number: &'a [u32; PLACES], held: &'a [u8; SPOTS], c: usize, job: u32) -> usize
+    requires { ⌜ (c < cells) × (length (now number) ≡ places) ⌝ }
+    ensures { λ r. ⌜ r ≡ holderAbove (now (number .entry)) (now (held .entry)) c job places ⌝ }
+{
+    let mut best: usize = PLACES;
+    let mut age: u32 = job;
+    let mut q: usize = 0;
+    while q < PLACES {
+        if holds_above(number, held, c, age, q) {
+            best = q;
+            age = number[q];
+        }
+        q += 1;
+    }
+    best
+}
+
+// A byte as an index.
+fn wide(byte: u8) -> usize
+    ensures { λ r. ⌜ r ≡ byte ⌝ }
+{
+    byte as usize
+}
+
+// The place of who is next after the job at a place, or 32: nobody where it does not wait for a cell that there is.
+fn next_at<'a>(
+    number: &'a [u32; PLACES],
+    status: &'a [u8; PLACES],
+    cell: &'a [u8; PLACES],
+    held: &'a [u8; SPOTS],
+    p: usize,
+) -> usize
+    requires { ⌜ (p < places) × (length (now number) ≡ places) ⌝ }
+    ensures { λ r. ⌜ r ≡ nextAt (now (number .entry)) (now (status .entry)) (now (cell .entry)) (now (held .entry)) p ⌝ }
+{
+    if status[p] != WAITING {
+        return PLACES;
+    }
+    let c = wide(cell[p]);
+    if c < ROWS {
+        return holder_above(number, held, c, number[p]);
+    }
+    PLACES
+}
