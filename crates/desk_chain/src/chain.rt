@@ -7,9 +7,11 @@ use desk_arrays::state::SPOTS;
 use terms::limits::PLACES;
 ghost use Prim.Native.Nat.{_<_};
 ghost use mathlib.Core.Path.{_≡_};
-ghost use lib.ListN.{length};
+ghost use lib.ListN.{length, getD};
+ghost use Rattle.laws.specs.Lists.{filled};
 ghost use Rattle.terms.specs.Limits.{cells, places};
-ghost use Rattle.desk_chain.specs.Chains.{holdsAbove, holderAbove, nextAt};
+ghost use Rattle.desk_rules.specs.Chain.{youngerThan};
+ghost use Rattle.desk_chain.specs.Chains.{holdsAbove, holderAbove, nextAt, chainFrom};
 
 // Whether a place holds the cell, under a number above the one given.
 fn holds_above<'a>(
@@ -72,4 +74,26 @@ fn next_at<'a>(
         return holder_above(number, held, c, number[p]);
     }
     PLACES
+}
+
+// Puts the chain of the job at a place into the first places of the list, and tells how many jobs it has. It calls itself for who is next, over the later places:
+// numbers rise along a chain, so each further look has fewer younger jobs left, and so it ends.
+fn follow<'a>(
+    number: &'a [u32; PLACES],
+    status: &'a [u8; PLACES],
+    cell: &'a [u8; PLACES],
+    held: &'a [u8; SPOTS],
+    p: usize,
+    list: &mut [u32],
+) -> usize
+    requires { ⌜ (p < places) × (length (now number) ≡ places) ⌝ }
+    requires { ⌜ youngerThan (getD (now number) p 0) (now number) < length (now list) ⌝ }
+    ensures { λ r. ⌜ (r ≡ length (chainFrom (now (number .entry)) (now (status .entry)) (now (cell .entry)) (now (held .entry)) p)) × (now (list .exit) ≡ filled (chainFrom (now (number .entry)) (now (status .entry)) (now (cell .entry)) (now (held .entry)) p) (now (list .entry))) ⌝ }
+{
+    list[0] = number[p];
+    let q = next_at(number, status, cell, held, p);
+    if q < PLACES {
+        return 1 + follow(number, status, cell, held, q, &mut list[1..]);
+    }
+    1
 }
