@@ -1,3 +1,4 @@
+pub mod Answering
 pub mod Filling
 pub mod Finding
 pub mod Looks

@@ -51,6 +51,10 @@ younger-below (k ∷ ks) (suc p) h =
     let r : youngerThan (getD ks p 0) ks < length ks = younger-below ks p (omega arith) in
     by-test (ltb (getD ks p 0) k) (λ t. rw t (omega arith)) (λ f. rw f (omega arith))
 
+-- so a list of as many places as there are has room for every chain
+pub places-enough : (number list : List ℕ) (p : ℕ) → length number ≡ places → places ≤ length list → p < places → youngerThan (getD number p 0) number < length list
+places-enough number list p n l h = omega (arith, younger-below number p (omega arith))
+
 -- within a list any default reads the same
 pub any-default : (l : List ℕ) (q x y : ℕ) → q < length l → getD l q x ≡ getD l q y
 any-default [] q x y h = absurd (omega arith)

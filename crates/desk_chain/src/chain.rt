@@ -1,17 +1,23 @@
 // The chain of a job: the youngest that is in its way, the youngest that is in that one's way, and so on until a job that is running (02, No. 3).
 use conflict::modes::mode_is_free;
 use conflict::modes::mode_of;
+use desk_arrays::codes::FREE;
+use desk_arrays::codes::SENT_BACK;
 use desk_arrays::codes::WAITING;
+use desk_arrays::state::Desk;
 use desk_arrays::state::ROWS;
 use desk_arrays::state::SPOTS;
+use desk_plan::plan::find;
+use desk_rules::Chained;
 use terms::limits::PLACES;
+use terms::refusals::Refusal;
 ghost use Prim.Native.Nat.{_<_};
 ghost use mathlib.Core.Path.{_≡_};
 ghost use lib.ListN.{length, getD};
 ghost use Rattle.laws.specs.Lists.{filled};
 ghost use Rattle.terms.specs.Limits.{cells, places};
 ghost use Rattle.desk_rules.specs.Chain.{youngerThan};
-ghost use Rattle.desk_chain.specs.Chains.{holdsAbove, holderAbove, nextAt, chainFrom};
+ghost use Rattle.desk_chain.specs.Chains.{holdsAbove, holderAbove, nextAt, chainFrom, askedOn};
 
 // Whether a place holds the cell, under a number above the one given.
 fn holds_above<'a>(
@@ -96,4 +102,30 @@ fn follow<'a>(
         return 1 + follow(number, status, cell, held, q, &mut list[1..]);
     }
     1
+}
+
+// Numbers and statuses of as many places as there are: what the arrays do not say of themselves.
+fn sized(number: [u32; PLACES], status: [u8; PLACES]) -> bool
+    ensures { λ r. ⌜ (length number ≡ places) × (length status ≡ places) ⌝ }
+{
+    true
+}
+
+// Who asks a desk for the chain of a job, with a list lent for it: 3, then 5, then 18, and the list is as it was;
+// else the chain stands in the list's first places, the answer is how many jobs it has, and the unused places stay.
+pub fn chain(d: Desk, job: u32, list: &mut [u32]) -> Chained
+    ensures { λ r. ⌜ (r ≡ askedOn d job (now (list .entry)) .said) × (now (list .exit) ≡ askedOn d job (now (list .entry)) .list) ⌝ }
+{
+    sized(d.number, d.status);
+    let f = find(&d.number, &d.status, job);
+    if f.code == FREE {
+        return Chained::No(Refusal::NotOpen);
+    }
+    if f.code == SENT_BACK {
+        return Chained::No(Refusal::SentBack);
+    }
+    if list.len() < PLACES {
+        return Chained::No(Refusal::ShortList);
+    }
+    Chained::Jobs(follow(&d.number, &d.status, &d.cell, &d.held, f.place, list))
 }
