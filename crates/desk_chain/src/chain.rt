@@ -9,6 +9,7 @@ use desk_arrays::state::ROWS;
 use desk_arrays::state::SPOTS;
 use desk_plan::plan::find;
 use desk_rules::Chained;
+use terms::limits::LAST_NUMBER;
 use terms::limits::PLACES;
 use terms::refusals::Refusal;
 ghost use Prim.Native.Nat.{_<_};
@@ -17,7 +18,7 @@ ghost use lib.ListN.{length, getD};
 ghost use Rattle.laws.specs.Lists.{filled};
 ghost use Rattle.terms.specs.Limits.{cells, places};
 ghost use Rattle.desk_rules.specs.Chain.{youngerThan};
-ghost use Rattle.desk_chain.specs.Chains.{holdsAbove, holderAbove, nextAt, chainFrom, askedOn};
+ghost use Rattle.desk_chain.specs.Chains.{holdsAbove, holderAbove, nextAt, chainFrom, askedOn, waitsWithin, waiterAbove, nextChain};
 
 // Whether a place holds the cell, under a number above the one given.
 fn holds_above<'a>(
@@ -128,4 +129,63 @@ pub fn chain(d: Desk, job: u32, list: &mut [u32]) -> Chained
         return Chained::No(Refusal::ShortList);
     }
     Chained::Jobs(follow(&d.number, &d.status, &d.cell, &d.held, f.place, list))
+}
+
+// A job's number, beside which there is room for one above all.
+fn long(job: u32) -> u64
+    ensures { λ r. ⌜ r ≡ job ⌝ }
+{
+    job as u64
+}
+
+// Whether a place waits, under a number above `last` and below `least`.
+fn waits_within<'a>(
+    number: &'a [u32; PLACES],
+    status: &'a [u8; PLACES],
+    last: u32,
+    least: u64,
+    q: usize,
+) -> bool
+    requires { ⌜ q < places ⌝ }
+    ensures { λ r. ⌜ r ≡ waitsWithin (now (number .entry)) (now (status .entry)) last least q ⌝ }
+{
+    let job = number[q];
+    if status[q] != WAITING {
+        return false;
+    }
+    if last < job {
+        return long(job) < least;
+    }
+    false
+}
+
+// The place of the waiter with the smallest number above `last`, or 32.
+fn waiter_above<'a>(number: &'a [u32; PLACES], status: &'a [u8; PLACES], last: u32) -> usize
+    requires { ⌜ length (now number) ≡ places ⌝ }
+    ensures { λ r. ⌜ r ≡ waiterAbove (now (number .entry)) (now (status .entry)) last places ⌝ }
+{
+    let mut best: usize = PLACES;
+    let mut least: u64 = LAST_NUMBER as u64 + 1;
+    let mut q: usize = 0;
+    while q < PLACES {
+        if waits_within(number, status, last, least, q) {
+            best = q;
+            least = long(number[q]);
+        }
+        q += 1;
+    }
+    best
+}
+
+// The chain of the first waiting job with a number above `last` goes into the first places of the list; told is how many jobs it has, 0 where nobody is left.
+// Who begins with 0, and goes on with the first job of the chain told last, gets the chains of all waiting jobs, in ascending order.
+pub fn next_chain(d: Desk, last: u32, list: &mut [u32; PLACES]) -> usize
+    ensures { λ r. ⌜ (r ≡ length (nextChain d last)) × (now (list .exit) ≡ filled (nextChain d last) (now (list .entry))) ⌝ }
+{
+    sized(d.number, d.status);
+    let p = waiter_above(&d.number, &d.status, last);
+    if p < PLACES {
+        return follow(&d.number, &d.status, &d.cell, &d.held, p, list);
+    }
+    0
 }
