@@ -25,7 +25,7 @@ use Rattle.desk_arrays.specs.Moves.{statusOf, foundAt}
 use Rattle.desk_arrays.specs.Stands.{isSeated, byNumber, statusFor, statusAt, statusBy}
 use Rattle.desk_arrays.proofs.Seats.{pos-end}
 use Rattle.desk_plan.proofs.Open.{nowhere-free, open-inside}
-use Rattle.desk_chain.specs.Chains.{chainFrom, askedOn}
+use Rattle.desk_chain.specs.Chains.{chainFrom, askedOn, waiterAbove, nextChain}
 
 -- what a job is doing, by the code that it was found with
 status-found : (d : Desk) (job : ℕ) → length (d .status) ≤ length (d .number) →
@@ -88,3 +88,15 @@ module _ (d : Desk) (job : ℕ) (list : List ℕ) (n : length (d .number) ≡ pl
         let a = asked-by in
         let due : dueBy (f .code) (length list) ≡ none = rw (ne-eqb (f .code) freeCode c, ne-eqb (f .code) sentBackCode b, le-ltb (length list) places h) in
         (rw (a, due) (ap Jobs (t .0)), rw (a, due) (t .1))
+
+module _ (d : Desk) (last : ℕ) (list : List ℕ) {p : ℕ} (e : p ≡ waiterAbove (d .number) (d .status) last places) where
+  -- the chain of the waiter that was found
+  pub next-told : {r : ℕ} {m : List ℕ} → p < places → (r ≡ length (chainFrom (d .number) (d .status) (d .cell) (d .held) p)) × (m ≡ filled (chainFrom (d .number) (d .status) (d .cell) (d .held) p) list) →
+      (r ≡ length (nextChain d last)) × (m ≡ filled (nextChain d last) list)
+  unfolding nextChain
+  next-told h t = rw (← e, lt-ltb p places h) t
+
+  -- none where none was found
+  pub next-nobody : places ≤ p → (0 ≡ length (nextChain d last)) × (list ≡ filled (nextChain d last) list)
+  unfolding nextChain filled
+  next-nobody h = rw (← e, le-ltb p places h) (refl, refl)
