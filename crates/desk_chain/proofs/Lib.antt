@@ -1,3 +1,7 @@
+pub mod Looks
+pub mod Filling
+pub mod Finding
+pub mod Answering
 pub mod Best
 pub mod NextTied
 pub mod ChainTied

@@ -34,3 +34,4 @@ pub mod Recorded
 pub mod DeskLimits
 pub mod SerialHistory
 pub mod Examples
+pub mod ChainExamples
