@@ -13,12 +13,15 @@ use Rattle.desk_chain.proofs.chain.next_chain.Tie as tie
 waiter-above-requires : tie.Need-waiter-above-requires
 waiter-above-requires c κs = search needs
 
+-- the numbers have as many places as there are
+numbers : (c : tie.Start) → length (c .args .t1 .number) ≡ places
+numbers c = search needs
+
 follow-requires : tie.Need-follow-requires
 follow-requires c κs =
     let l = c .before .before .before .before .before .before in
     let s = l .before .before .before .before .before in
-    let n : length (s .args .t1 .number) ≡ places = search needs in
-    ((l .if1 .taken, n), places-enough (s .args .t1 .number) (s .args .list .now) _ n (omega (arith, s .good)) (l .if1 .taken))
+    ((l .if1 .taken, numbers s), places-enough (s .args .t1 .number) (s .args .list .now) _ (numbers s) (omega arith) (l .if1 .taken))
 
 returns : tie.Need-returns
 returns c =
