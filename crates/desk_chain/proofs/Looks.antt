@@ -7,7 +7,7 @@ use mathlib.Core.List.{List, [], _∷_}
 use native.Mathlib.Omega.{arith}
 use lib.Dec.{eqb, ltb}
 use lib.ListN.{length, getD, List·getD-eq-default}
-use borrow.Author.Tests.{ltb-true, lt-ltb, le-ltb}
+use borrow.Author.Tests.{ltb-true}
 use Rattle.laws.specs.Choice.{pick, by-test}
 use Rattle.laws.proofs.Parts.{and-second}
 use Rattle.terms.specs.Limits.{places, cells}
@@ -20,12 +20,16 @@ use Rattle.desk_arrays.proofs.Seats.{at-member}
 use Rattle.desk_chain.specs.Chains.{holdsAbove, holderAbove, nextAt, chainFromBy, chainFrom}
 
 -- a job of the list that is younger than job j has fewer younger ones than j
-pub younger-falls : (is : List ℕ) (q j : ℕ) → q < length is → j < getD is q 0 → youngerThan (getD is q 0) is < youngerThan j is
+younger-falls : (is : List ℕ) (q j : ℕ) → q < length is → j < getD is q 0 → youngerThan (getD is q 0) is < youngerThan j is
 younger-falls is q j l h = younger-less (getD is q 0) j is h (at-member is q l)
 
 -- the job at a place is not younger than itself, so fewer are younger than it than there are places
-pub younger-below : (is : List ℕ) (p : ℕ) → p < length is → youngerThan (getD is p 0) is < length is
+younger-below : (is : List ℕ) (p : ℕ) → p < length is → youngerThan (getD is p 0) is < length is
 younger-below is p h = younger-short (getD is p 0) is (at-member is p h)
+
+-- so a list of as many places as there are has room for every chain
+pub places-enough : (number list : List ℕ) (p : ℕ) → length number ≡ places → places ≤ length list → p < places → youngerThan (getD number p 0) number < length list
+places-enough number list p n l h = omega (arith, younger-below number p (omega arith))
 
 -- within a list any default reads the same
 pub any-default : (l : List ℕ) (q x y : ℕ) → q < length l → getD l q x ≡ getD l q y

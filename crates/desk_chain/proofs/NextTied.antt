@@ -1,13 +1,13 @@
 -- Who is next after a waiting place, over the arrays, is the place of who is next after the waiter: the youngest in its way holds its cell and is younger (02, No. 3).
 -- Assumes nothing.
-use Prim.Native.Nat.{ℕ, zero, suc, _<_, _≤_}
+use Prim.Native.Nat.{ℕ, _<_, _≤_}
 use mathlib.Core.Path.{_≡_, refl, sym, ap, subst, _∙_}
 use mathlib.Core.Logic.{_≢_, _⊎_, inl, inr, ⊎-elim}
 use mathlib.Core.Bool.{true, false, not, _&&_}
-use mathlib.Core.List.{List, [], _∷_}
+use mathlib.Core.List.{List}
 use native.Mathlib.Omega.{arith}
 use lib.Dec.{ltb}
-use lib.ListN.{length, getD, List·getD-eq-default}
+use lib.ListN.{getD, List·getD-eq-default}
 use borrow.Author.Tests.{ltb-true, lt-ltb, not-true}
 use Rattle.laws.specs.Choice.{by-test, not-both}
 use Rattle.laws.specs.Lists.{pos}
