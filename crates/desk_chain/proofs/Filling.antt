@@ -1,11 +1,11 @@
 -- A chain goes into a lent list job by job: the first place, and then the rest into the part behind it.
 -- Assumes nothing.
-use Prim.Native.Nat.{ℕ, zero, suc, _+_, _-_, _≤_, _<_}
+use Prim.Native.Nat.{ℕ, suc, _+_, _-_, _≤_, _<_}
 use mathlib.Core.Path.{_≡_, refl, sym, ap, subst, _∙_}
 use mathlib.Core.List.{List, [], _∷_, _++_, append-nil}
 use native.Mathlib.Omega.{arith}
 use borrow.Author.Tests.{lt-ltb, le-ltb}
-use borrow.Rule.Slice.PartMut.{midOf, postOf, putMid, post-is, same-len-mid}
+use borrow.Rule.Slice.PartMut.{midOf, putMid, post-is, same-len-mid}
 use borrow.Rule.Slice.PartAt.{part-to-end}
 use lib.ListN.{length, getD, drop, set, length-set}
 use lib.Seq.{drop-length}

@@ -7,3 +7,4 @@ pub mod NextTied
 pub mod ChainTied
 pub mod WaiterFound
 pub mod ChainsTied
+pub mod Unique

@@ -2,54 +2,30 @@
 -- Assumes nothing.
 use Prim.Native.Nat.{ℕ, zero, suc, _≤_, _<_}
 use mathlib.Core.Path.{_≡_, refl, ap, _∙_}
-use mathlib.Core.Bool.{true, false, not, _&&_}
+use mathlib.Core.Bool.{not, _&&_}
 use mathlib.Core.List.{List, [], _∷_}
 use native.Mathlib.Omega.{arith}
 use lib.Dec.{eqb, ltb}
 use lib.ListN.{length, getD, List·getD-eq-default}
-use borrow.Author.Tests.{ltb-true, ltb-false, lt-ltb, le-ltb}
+use borrow.Author.Tests.{ltb-true}
 use Rattle.laws.specs.Choice.{pick, by-test}
 use Rattle.laws.proofs.Parts.{and-second}
 use Rattle.terms.specs.Limits.{places, cells}
 use Rattle.conflict.specs.Modes.{isFree}
 use Rattle.desk_rules.specs.Chain.{youngerThan}
+use Rattle.desk_rules.proofs.Younger.{younger-less, younger-short}
 use Rattle.desk_arrays.specs.Codes.{waitingCode}
 use Rattle.desk_arrays.specs.Places.{modeAt}
+use Rattle.desk_arrays.proofs.Seats.{at-member}
 use Rattle.desk_chain.specs.Chains.{holdsAbove, holderAbove, nextAt, chainFromBy, chainFrom}
 
--- no more jobs are younger than the younger of two than are younger than the older
-pub younger-fewer : (i j : ℕ) (is : List ℕ) → j ≤ i → youngerThan i is ≤ youngerThan j is
-unfolding youngerThan
-younger-fewer i j [] h = omega arith
-younger-fewer i j (k ∷ ks) h =
-    let r : youngerThan i ks ≤ youngerThan j ks = younger-fewer i j ks h in
-    by-test (ltb i k) (λ t. rw (t, lt-ltb j k (omega (arith, ltb-true i k t))) (omega arith))
-    (λ f. rw f (by-test (ltb j k) (λ t. rw t (omega arith)) (λ g. rw g (omega arith))))
-
 -- a job of the list that is younger than job j has fewer younger ones than j
-pub younger-falls : (is : List ℕ) (q j : ℕ) → q < length is → j < getD is q 0 → youngerThan (getD is q 0) is < youngerThan j is
-unfolding youngerThan
-younger-falls [] q j l h = absurd (omega arith)
-younger-falls (k ∷ ks) zero j l h = rw (le-ltb k k (omega arith), lt-ltb j k h) (omega (arith, younger-fewer k j ks (omega arith)))
-younger-falls (k ∷ ks) (suc q) j l h =
-    let r : youngerThan (getD ks q 0) ks < youngerThan j ks = younger-falls ks q j (omega arith) h in
-    by-test (ltb (getD ks q 0) k) (λ t. rw (t, lt-ltb j k (omega (arith, ltb-true (getD ks q 0) k t))) (omega arith))
-    (λ f. rw f (by-test (ltb j k) (λ t. rw t (omega arith)) (λ g. rw g (omega arith))))
-
--- no more are younger than there are
-younger-most : (j : ℕ) (is : List ℕ) → youngerThan j is ≤ length is
-unfolding youngerThan
-younger-most j [] = omega arith
-younger-most j (k ∷ ks) = by-test (ltb j k) (λ t. rw t (omega (arith, younger-most j ks))) (λ f. rw f (omega (arith, younger-most j ks)))
+younger-falls : (is : List ℕ) (q j : ℕ) → q < length is → j < getD is q 0 → youngerThan (getD is q 0) is < youngerThan j is
+younger-falls is q j l h = younger-less (getD is q 0) j is h (at-member is q l)
 
 -- the job at a place is not younger than itself, so fewer are younger than it than there are places
-pub younger-below : (is : List ℕ) (p : ℕ) → p < length is → youngerThan (getD is p 0) is < length is
-unfolding youngerThan
-younger-below [] p h = absurd (omega arith)
-younger-below (k ∷ ks) zero h = rw (le-ltb k k (omega arith)) (omega (arith, younger-most k ks))
-younger-below (k ∷ ks) (suc p) h =
-    let r : youngerThan (getD ks p 0) ks < length ks = younger-below ks p (omega arith) in
-    by-test (ltb (getD ks p 0) k) (λ t. rw t (omega arith)) (λ f. rw f (omega arith))
+younger-below : (is : List ℕ) (p : ℕ) → p < length is → youngerThan (getD is p 0) is < length is
+younger-below is p h = younger-short (getD is p 0) is (at-member is p h)
 
 -- so a list of as many places as there are has room for every chain
 pub places-enough : (number list : List ℕ) (p : ℕ) → length number ≡ places → places ≤ length list → p < places → youngerThan (getD number p 0) number < length list
@@ -62,7 +38,7 @@ any-default (k ∷ ks) zero x y h = refl
 any-default (k ∷ ks) (suc q) x y h = any-default ks q x y (omega arith)
 
 -- what is above a number stands within the list
-above-within : (l : List ℕ) (q y : ℕ) → y < getD l q 0 → q < length l
+pub above-within : (l : List ℕ) (q y : ℕ) → y < getD l q 0 → q < length l
 above-within [] q y h = absurd (omega arith)
 above-within (k ∷ ks) zero y h = omega arith
 above-within (k ∷ ks) (suc q) y h = omega (arith, above-within ks q y h)

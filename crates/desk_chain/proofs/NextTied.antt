@@ -1,13 +1,13 @@
 -- Who is next after a waiting place, over the arrays, is the place of who is next after the waiter: the youngest in its way holds its cell and is younger (02, No. 3).
 -- Assumes nothing.
-use Prim.Native.Nat.{ℕ, zero, suc, _<_, _≤_}
+use Prim.Native.Nat.{ℕ, _<_, _≤_}
 use mathlib.Core.Path.{_≡_, refl, sym, ap, subst, _∙_}
 use mathlib.Core.Logic.{_≢_, _⊎_, inl, inr, ⊎-elim}
 use mathlib.Core.Bool.{true, false, not, _&&_}
-use mathlib.Core.List.{List, [], _∷_}
+use mathlib.Core.List.{List}
 use native.Mathlib.Omega.{arith}
 use lib.Dec.{ltb}
-use lib.ListN.{length, getD, List·getD-eq-default}
+use lib.ListN.{getD, List·getD-eq-default}
 use borrow.Author.Tests.{ltb-true, lt-ltb, not-true}
 use Rattle.laws.specs.Choice.{by-test, not-both}
 use Rattle.laws.specs.Lists.{pos}
@@ -31,19 +31,8 @@ use Rattle.desk_arrays.proofs.Cases.{by-below}
 use Rattle.desk_arrays.proofs.Seats.{Seat, seat-of, seat-only, seat-below, member-seated}
 use Rattle.desk_arrays.proofs.ByNumber.{place-has}
 use Rattle.desk_chain.specs.Chains.{holdsAbove, holderAbove}
+use Rattle.desk_chain.proofs.Looks.{any-default, above-within}
 use Rattle.desk_chain.proofs.Best.{best-found}
-
--- within a list any default reads the same
-pub any-default : (l : List ℕ) (q x y : ℕ) → q < length l → getD l q x ≡ getD l q y
-any-default [] q x y h = absurd (omega arith)
-any-default (k ∷ ks) zero x y h = refl
-any-default (k ∷ ks) (suc q) x y h = any-default ks q x y (omega arith)
-
--- what is above a number stands within the list
-pub above-within : (l : List ℕ) (q y : ℕ) → y < getD l q 0 → q < length l
-above-within [] q y h = absurd (omega arith)
-above-within (k ∷ ks) zero y h = omega arith
-above-within (k ∷ ks) (suc q) y h = omega (arith, above-within ks q y h)
 
 module _ {d : Desk} (v : Inv (view d)) (pl : Plain d) where
   -- an open job has a place

@@ -28,7 +28,8 @@ use Rattle.desk_arrays.proofs.Seats.{Seat, seat-at, seat-below, seat-only}
 use Rattle.desk_arrays.proofs.StatusCodes.{waits-status, status-waits}
 use Rattle.desk_chain.specs.Chains.{waitsWithin, waiterAbove}
 use Rattle.desk_chain.proofs.Best.{best-found, none-found}
-use Rattle.desk_chain.proofs.NextTied.{open-seat, any-default}
+use Rattle.desk_chain.proofs.Looks.{any-default}
+use Rattle.desk_chain.proofs.NextTied.{open-seat}
 use Rattle.desk_chain.proofs.ChainTied.{place-status}
 
 -- who waits, waits for a cell with what it asked

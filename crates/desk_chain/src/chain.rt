@@ -105,19 +105,11 @@ fn follow<'a>(
     1
 }
 
-// Numbers and statuses of as many places as there are: what the arrays do not say of themselves.
-fn sized(number: [u32; PLACES], status: [u8; PLACES]) -> bool
-    ensures { λ r. ⌜ (length number ≡ places) × (length status ≡ places) ⌝ }
-{
-    true
-}
-
 // Who asks a desk for the chain of a job, with a list lent for it: 3, then 5, then 18, and the list is as it was;
 // else the chain stands in the list's first places, the answer is how many jobs it has, and the unused places stay.
 pub fn chain(d: Desk, job: u32, list: &mut [u32]) -> Chained
     ensures { λ r. ⌜ (r ≡ askedOn d job (now (list .entry)) .said) × (now (list .exit) ≡ askedOn d job (now (list .entry)) .list) ⌝ }
 {
-    sized(d.number, d.status);
     let f = find(&d.number, &d.status, job);
     if f.code == FREE {
         return Chained::No(Refusal::NotOpen);
@@ -182,7 +174,6 @@ fn waiter_above<'a>(number: &'a [u32; PLACES], status: &'a [u8; PLACES], last: u
 pub fn next_chain(d: Desk, last: u32, list: &mut [u32; PLACES]) -> usize
     ensures { λ r. ⌜ (r ≡ length (nextChain d last)) × (now (list .exit) ≡ filled (nextChain d last) (now (list .entry))) ⌝ }
 {
-    sized(d.number, d.status);
     let p = waiter_above(&d.number, &d.status, last);
     if p < PLACES {
         return follow(&d.number, &d.status, &d.cell, &d.held, p, list);

@@ -1,7 +1,7 @@
 -- `desk_chain::chain::next_at` meets its contract: the place does not wait, or waits for a cell that there is, or for none.
 -- Assumes nothing.
 use Prim.Native.Nat.{ℕ, _≤_, _<_}
-use mathlib.Core.Path.{_≡_, sym, ap, _∙_}
+use mathlib.Core.Path.{_≡_}
 use mathlib.Core.List.{List}
 use lib.ListN.{getD}
 use borrow.Author.Needs.{needs}
