@@ -20,6 +20,10 @@ use Rattle.text_rules.specs.EventRecords.{askBy, eventLine, textOf}
 use Rattle.desk_rules.specs.AnswerWords.{wordOf, numberBeside}
 use Rattle.program_rules.specs.OverLines.{answerLines, historyLines, wakeLines}
 use Rattle.program_rules.specs.Work.{viewed, unended}
+use Rattle.program_rules.specs.declared.Clerk.{Clerk}
+use Rattle.program_rules.specs.Chains.{chainText}
+use Rattle.program_rules.specs.Closing.{closing}
+use Rattle.desk_chain.specs.Chains.{chainsOn}
 use Rattle.clerk.specs.declared.records.Noted.{Noted}
 use Rattle.clerk.specs.declared.records.Noted.the-variants.{Nothing, Line}
 use Rattle.clerk.specs.Parts.{asking, notedBytes, firstRecord, wakeRecord}
@@ -79,3 +83,18 @@ bad-noted view line e = rw e
 pub bad-chains : (view : View) (line : ℕ) → view ≡ Chains → [] ≡ viewed view (unended line)
 unfolding viewed
 bad-chains view line e = rw e
+
+-- nothing is written last of the answers
+pub last-answers : (view : View) (c : Clerk) → view ≡ Answers → [] ≡ closing view c
+unfolding closing
+last-answers view c e = rw e
+
+-- nor of the history
+pub last-history : (view : View) (c : Clerk) → view ≡ History → [] ≡ closing view c
+unfolding closing
+last-history view c e = rw e
+
+-- the chains are
+pub last-chains : (view : View) (c : Clerk) → view ≡ Chains → chainText (chainsOn (c .desk)) ≡ closing view c
+unfolding closing
+last-chains view c e = rw e

@@ -8,3 +8,4 @@ pub mod Answering
 pub mod Going
 pub mod Unique
 pub mod Listing
+pub mod Chaining

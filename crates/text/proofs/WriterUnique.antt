@@ -5,6 +5,8 @@ use denote.Ref.{now}
 use Rattle.laws.specs.Unique.{Unique, UniqueLent}
 use Rattle.text.proofs.writer.width.Reads as width
 use Rattle.text.proofs.writer.width.Kinds as widthK
+use Rattle.text.proofs.writer.has_room.Reads as has-room
+use Rattle.text.proofs.writer.has_room.Kinds as has-roomK
 use Rattle.text.proofs.writer.write_answer.Reads as write-answer
 use Rattle.text.proofs.writer.write_answer.Kinds as write-answerK
 use Rattle.text.proofs.writer.write_line.Reads as write-line
@@ -21,6 +23,10 @@ use Rattle.text.proofs.writer.write_end.Kinds as write-endK
 -- how many digits a number has
 pub width-unique : Unique widthK.ps widthK.r width.Post
 width-unique κs a x y e f p q = p ∙ sym q
+
+-- whether so many bytes fit from a place on
+pub has-room-unique : Unique has-roomK.ps has-roomK.r has-room.Post
+has-room-unique κs a x y e f p q = p ∙ sym q
 
 -- what writing an answer record tells, and what the buffer then holds
 pub write-answer-unique : UniqueLent write-answerK.ps write-answerK.r write-answer.Post (λ κs e. now (e .0))

@@ -43,7 +43,7 @@ fn field_width(there: bool, n: u64) -> usize
 }
 
 // Whether so many bytes fit from a place on; no sum is made that could wrap.
-fn has_room(room: usize, at: usize, len: usize) -> bool
+pub fn has_room(room: usize, at: usize, len: usize) -> bool
     ensures { λ r. ⌜ r ≡ leb (at + len) room ⌝ }
 {
     if at <= room { len <= room - at } else { false }
