@@ -27,7 +27,7 @@ line-room Chains = omega arith
 
 module _ (view : View) (c : Clerk) (out : List ℕ) (at : ℕ) (h : at + programRoom view ≤ length out) where
   -- so there is room for the record at the end of the input
-  pub roomy-at : roomy out at ≡ true
+  roomy-at : roomy out at ≡ true
   unfolding roomy
   roomy-at = le-leb (at + lineRoom) (length out) (omega (arith, line-room view))
 
@@ -48,12 +48,21 @@ closing-room Answers c out at h = omega (arith, finish-within Answers c out at h
 closing-room History c out at h = omega (arith, finish-within History c out at h)
 closing-room Chains c out at h = omega (arith, finish-none c out at, finish-within Chains c out at h)
 
--- what is written last stands behind what stood in the buffer
+-- what is written last ends within the buffer
+pub close-within : (view : View) (c : Clerk) (out : List ℕ) (at : ℕ) → at + closingRoom view ≤ length out → closeOf view c out at .finished .at ≤ length (closeOf view c out at .out)
+unfolding closeOf
+close-within view c out at h = rw (le-leb (at + closingRoom view) (length out) h) (put-length out at (closing view c) (omega arith) .0)
+
+-- and stands behind what stood in it
 pub close-take : (view : View) (c : Clerk) (out : List ℕ) (at : ℕ) → at + closingRoom view ≤ length out → take (closeOf view c out at .finished .at) (closeOf view c out at .out) ≡ take at out ++ closing view c
 unfolding closeOf
 close-take view c out at h = rw (le-leb (at + closingRoom view) (length out) h) (put-take out at (closing view c) (omega arith))
 
 module _ (view : View) (c : Clerk) (out : List ℕ) (at : ℕ) (h : at + programRoom view ≤ length out) where
+  -- the end of the input ends within the buffer
+  pub ends-within : endOf view c out at .finished .at ≤ length (endOf view c out at .out)
+  ends-within = let f = finishOf view c out at in close-within view c (f .out) (f .finished .at) (closing-room view c out at h)
+
   -- behind what stood in the buffer stand the record of a last line that lacks its newline, and what is written last
   pub ends-take : take (endOf view c out at .finished .at) (endOf view c out at .out) ≡ (take at out ++ owed view (c .splitter)) ++ closing view c
   ends-take =

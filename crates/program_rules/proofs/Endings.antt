@@ -3,18 +3,18 @@
 use Prim.Native.Nat.{ℕ, _≤_}
 use mathlib.Core.Path.{_≡_, sym, ap, ap₂, _∙_}
 use mathlib.Core.Bool.{true}
-use mathlib.Core.List.{List, [], _++_, append-assoc, append-nil}
+use mathlib.Core.List.{List, _++_, append-assoc}
 use native.Mathlib.Omega.{arith}
 use lib.ListN.{length, take}
 use Rattle.program_rules.specs.declared.Clerk.{Clerk}
 use Rattle.program_rules.specs.declared.View.{View}
 use Rattle.program_rules.specs.Programs.{programOf}
-use Rattle.program_rules.specs.Work.{startedClerk, allRead, finishOf}
+use Rattle.program_rules.specs.Work.{startedClerk, allRead}
 use Rattle.program_rules.specs.Closing.{closing, closingRoom, programRoom, closeOf, endOf}
 use Rattle.program_rules.specs.Tellings.{clerkAfter, recordsIn}
-use Rattle.program_rules.proofs.AnyCourse.{owed, last-records, seen-splitter, finish-take}
+use Rattle.program_rules.proofs.AnyCourse.{owed, last-records, seen-splitter}
 use Rattle.program_rules.proofs.EarlyStop.{more-written}
-use Rattle.program_rules.proofs.Closings.{roomy-at, close-take, ends-take}
+use Rattle.program_rules.proofs.Closings.{close-take, ends-take}
 use Rattle.program_rules.proofs.ChainsWritten.{program-is, closing-stays}
 
 module _ (view : View) (c : Clerk) (text : List ℕ) (e : c ≡ clerkAfter startedClerk text) where
@@ -29,14 +29,6 @@ module _ (view : View) (c : Clerk) (text : List ℕ) (e : c ≡ clerkAfter start
     ended-all h =
         ap (λ l. recordsIn view startedClerk text ++ l) (ends-take view c out 0 (omega arith))
         ∙ sym (append-assoc (recordsIn view startedClerk text) (owed view (c .splitter)) (closing view c))
-        ∙ all-parts
-
-    -- where nothing is written last, the record of the last line makes it all
-    pub finished-all : closing view c ≡ [] → programRoom view ≤ length out → recordsIn view startedClerk text ++ take (finishOf view c out 0 .finished .at) (finishOf view c out 0 .out) ≡ programOf view text
-    finished-all n h =
-        ap (λ l. recordsIn view startedClerk text ++ l) (finish-take view c out 0 (omega arith) (roomy-at view c out 0 (omega arith)))
-        ∙ sym (append-nil (recordsIn view startedClerk text ++ owed view (c .splitter)))
-        ∙ ap (λ l. (recordsIn view startedClerk text ++ owed view (c .splitter)) ++ l) (sym n)
         ∙ all-parts
 
     -- every line has been read: what is written last makes it all, whatever would follow
