@@ -7,4 +7,5 @@ pub mod NextTied
 pub mod ChainTied
 pub mod WaiterFound
 pub mod ChainsTied
+pub mod DeskChains
 pub mod Unique
