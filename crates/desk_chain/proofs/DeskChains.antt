@@ -1,7 +1,7 @@
 -- WHO ASKS A DESK THAT RUNS FOR A CHAIN: refused exactly where that is due, and else told the chain, of every started desk, for every job number and every list (02, No. 3).
 -- Assumes nothing.
 use Prim.Native.Nat.{ℕ, _≤_}
-use mathlib.Core.Path.{_≡_, sym, ap, subst, _∙_}
+use mathlib.Core.Path.{_≡_, sym, subst}
 use mathlib.Core.Bool.{true}
 use mathlib.Core.List.{List}
 use lib.ListN.{length}

@@ -2,7 +2,6 @@ pub mod Looks
 pub mod Filling
 pub mod Finding
 pub mod Answering
-pub mod Best
 pub mod NextTied
 pub mod ChainTied
 pub mod WaiterFound
