@@ -1,7 +1,7 @@
--- THE CHAINS OVER THE ARRAYS ARE THE PAPER'S: of every started desk that runs, those of all waiting jobs in ascending order; and the promises of chains, of what it answers (02, No. 3).
+-- THE CHAINS OVER THE ARRAYS ARE THE PAPER'S: of every started desk that runs, those of all waiting jobs in ascending order (02, No. 3).
 -- Assumes nothing.
 use Prim.Native.Nat.{ℕ, zero, suc, _<_, _≤_}
-use mathlib.Core.Path.{_≡_, refl, sym, ap, subst, _∙_}
+use mathlib.Core.Path.{_≡_, refl, sym, ap, _∙_}
 use mathlib.Core.Bool.{true}
 use mathlib.Core.List.{List, [], _∷_, map}
 use native.Mathlib.Omega.{arith}
@@ -18,7 +18,6 @@ use Rattle.desk_rules.specs.Requests.{Rising}
 use Rattle.desk_rules.specs.Invariant.{Inv}
 use Rattle.desk_rules.specs.Chain.{chainOf, waitingBelow, allChains}
 use Rattle.desk_rules.specs.AskedChain.{askChain}
-use Rattle.desk_rules.specs.Chains.{AsksChain}
 use Rattle.desk_rules.proofs.Statuses.{waiting-live}
 use Rattle.desk_rules.proofs.Numbers.{rising-distinct}
 use Rattle.desk_rules.proofs.Pigeonhole.{no-longer}
@@ -102,10 +101,6 @@ module _ {d : Desk} {h : History} (s : Started d h) where
   -- who asks a started desk that runs for a chain is told what the paper says
   pub asked-tied : (j : ℕ) (list : List ℕ) → askedOn d j list ≡ askChain (view d) j list
   asked-tied = asked-is (started-view s .0) (started-view s .1)
-
-  -- so what it tells keeps every promise: refusals exactly, the chain in the first places, the rest as it was
-  pub desk-asks : (j : ℕ) (list : List ℕ) → AsksChain (view d) j list (askedOn d j list)
-  desk-asks j list = subst (AsksChain (view d) j list) (sym (asked-tied j list)) (desk-promises s .chains .asks j list)
 
   -- and its chains are those of all waiting jobs
   pub chains-tied : chainsOn d ≡ allChains (view d)

@@ -2,9 +2,9 @@ pub mod Looks
 pub mod Filling
 pub mod Finding
 pub mod Answering
-pub mod Best
 pub mod NextTied
 pub mod ChainTied
 pub mod WaiterFound
 pub mod ChainsTied
+pub mod DeskChains
 pub mod Unique

@@ -10,6 +10,7 @@ use lib.ListN.{length, getD, List·getD-eq-default}
 use borrow.Author.Tests.{ltb-true}
 use Rattle.laws.specs.Choice.{pick, by-test}
 use Rattle.laws.proofs.Parts.{and-second}
+use Rattle.laws.proofs.Lists.{any-default, above-within}
 use Rattle.terms.specs.Limits.{places, cells}
 use Rattle.conflict.specs.Modes.{isFree}
 use Rattle.desk_rules.specs.Chain.{youngerThan}
@@ -30,18 +31,6 @@ younger-below is p h = younger-short (getD is p 0) is (at-member is p h)
 -- so a list of as many places as there are has room for every chain
 pub places-enough : (number list : List ℕ) (p : ℕ) → length number ≡ places → places ≤ length list → p < places → youngerThan (getD number p 0) number < length list
 places-enough number list p n l h = omega (arith, younger-below number p (omega arith))
-
--- within a list any default reads the same
-pub any-default : (l : List ℕ) (q x y : ℕ) → q < length l → getD l q x ≡ getD l q y
-any-default [] q x y h = absurd (omega arith)
-any-default (k ∷ ks) zero x y h = refl
-any-default (k ∷ ks) (suc q) x y h = any-default ks q x y (omega arith)
-
--- what is above a number stands within the list
-pub above-within : (l : List ℕ) (q y : ℕ) → y < getD l q 0 → q < length l
-above-within [] q y h = absurd (omega arith)
-above-within (k ∷ ks) zero y h = omega arith
-above-within (k ∷ ks) (suc q) y h = omega (arith, above-within ks q y h)
 
 module _ (number held : List ℕ) (c job : ℕ) where
   -- what holds of a place that is found anew, and of who was found before, holds of who is found

@@ -12,6 +12,7 @@ use borrow.Author.Tests.{ltb-true, lt-ltb, not-true}
 use Rattle.laws.specs.Choice.{by-test, not-both}
 use Rattle.laws.specs.Lists.{pos}
 use Rattle.laws.proofs.Parts.{and-first, and-second, and-both}
+use Rattle.laws.proofs.Lists.{any-default, above-within}
 use Rattle.terms.specs.declared.letters.Ask.{Ask}
 use Rattle.terms.specs.Limits.{places}
 use Rattle.conflict.specs.declared.modes.Mode.the-variants.{Free}
@@ -27,12 +28,11 @@ use Rattle.desk_arrays.specs.declared.state.Desk.{Desk}
 use Rattle.desk_arrays.specs.Places.{modeAt}
 use Rattle.desk_arrays.specs.Stands.{Plain, modeBy}
 use Rattle.desk_arrays.specs.Seen.{view}
+use Rattle.desk_arrays.proofs.Best.{best-found}
 use Rattle.desk_arrays.proofs.Cases.{by-below}
 use Rattle.desk_arrays.proofs.Seats.{Seat, seat-of, seat-only, seat-below, member-seated}
 use Rattle.desk_arrays.proofs.ByNumber.{place-has}
 use Rattle.desk_chain.specs.Chains.{holdsAbove, holderAbove}
-use Rattle.desk_chain.proofs.Looks.{any-default, above-within}
-use Rattle.desk_chain.proofs.Best.{best-found}
 
 module _ {d : Desk} (v : Inv (view d)) (pl : Plain d) where
   -- an open job has a place

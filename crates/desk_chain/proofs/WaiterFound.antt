@@ -12,6 +12,7 @@ use borrow.Author.Tests.{eqb-true, eq-eqb, ltb-true, lt-ltb}
 use Rattle.laws.specs.Choice.{by-test, not-both}
 use Rattle.laws.specs.Lists.{pos}
 use Rattle.laws.proofs.Parts.{and-first, and-second}
+use Rattle.laws.proofs.Lists.{any-default}
 use Rattle.terms.specs.declared.letters.Ask.{Ask}
 use Rattle.terms.specs.Limits.{places, lastNumber}
 use Rattle.desk_rules.specs.Desk.{Status, closed, running, waiting, sentback, isOpen}
@@ -23,12 +24,11 @@ use Rattle.desk_arrays.specs.Codes.{waitingCode}
 use Rattle.desk_arrays.specs.Places.{waitsAt}
 use Rattle.desk_arrays.specs.Stands.{Plain}
 use Rattle.desk_arrays.specs.Seen.{view}
+use Rattle.desk_arrays.proofs.Best.{best-found, none-found}
 use Rattle.desk_arrays.proofs.Cases.{by-below}
 use Rattle.desk_arrays.proofs.Seats.{Seat, seat-at, seat-below, seat-only}
 use Rattle.desk_arrays.proofs.StatusCodes.{waits-status, status-waits}
 use Rattle.desk_chain.specs.Chains.{waitsWithin, waiterAbove}
-use Rattle.desk_chain.proofs.Best.{best-found, none-found}
-use Rattle.desk_chain.proofs.Looks.{any-default}
 use Rattle.desk_chain.proofs.NextTied.{open-seat}
 use Rattle.desk_chain.proofs.ChainTied.{place-status}
 

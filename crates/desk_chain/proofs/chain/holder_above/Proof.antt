@@ -5,8 +5,9 @@ use mathlib.Core.Path.{ap, _∙_}
 use mathlib.Core.Logic.{⊎-elim}
 use native.Mathlib.Omega.{arith}
 use borrow.Author.Needs.{needs}
+use Rattle.desk_plan.proofs.Finding.{Best, best-none, best-newer, best-same}
 use Rattle.desk_chain.specs.Chains.{holdsAbove, holderAbove}
-use Rattle.desk_chain.proofs.Finding.{Best, best-none, best-newer, best-same, holder-more, holder-none}
+use Rattle.desk_chain.proofs.Finding.{holder-more, holder-none}
 use Rattle.desk_chain.proofs.chain.holder_above.Statement.{statement}
 use Rattle.desk_chain.proofs.chain.holder_above.Tie as tie
 

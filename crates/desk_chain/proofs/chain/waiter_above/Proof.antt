@@ -6,8 +6,9 @@ use mathlib.Core.Logic.{⊎-elim}
 use native.Mathlib.Omega.{arith}
 use borrow.Author.Needs.{needs}
 use Rattle.terms.specs.Limits.{lastNumber}
+use Rattle.desk_plan.proofs.Finding.{Best, best-none, best-newer, best-same}
 use Rattle.desk_chain.specs.Chains.{waitsWithin, waiterAbove}
-use Rattle.desk_chain.proofs.Finding.{Best, best-none, best-newer, best-same, waiter-more, waiter-none}
+use Rattle.desk_chain.proofs.Finding.{waiter-more, waiter-none}
 use Rattle.desk_chain.proofs.chain.waiter_above.Statement.{statement}
 use Rattle.desk_chain.proofs.chain.waiter_above.Tie as tie
 
