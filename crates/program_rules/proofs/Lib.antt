@@ -25,3 +25,4 @@ pub mod BadLines
 pub mod FromOne
 pub mod MillionLines
 pub mod AnswerBytes
+pub mod ChainBytes
