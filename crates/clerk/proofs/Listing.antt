@@ -1,10 +1,9 @@
 -- The jobs of a chain, one after another, on a line: each has at most ten digits, and a tab or the newline beside them.
 -- Assumes nothing.
 use Prim.Native.Nat.{ℕ, _+_, _*_, _≤_, _<_}
-use mathlib.Core.Path.{_≡_, sym, ap, _∙_}
-use mathlib.Core.List.{List, [], _∷_, _++_}
+use mathlib.Core.List.{List, [], _∷_}
 use native.Mathlib.Omega.{arith}
-use lib.ListN.{length, take, getD, length-append}
+use lib.ListN.{length, take, getD}
 use Rattle.terms.specs.Limits.{lastNumber}
 use Rattle.terms.specs.Words.{tab, newline}
 use Rattle.text_rules.specs.Decimal.{decimal}

@@ -16,16 +16,15 @@ use Rattle.program_rules.specs.declared.View.{View}
 use Rattle.program_rules.specs.declared.View.the-variants.{Answers, History, Chains}
 use Rattle.program_rules.specs.OverLines.{Told, written}
 use Rattle.program_rules.specs.Chains.{chainText}
-use Rattle.program_rules.specs.Programs.{firstNumber, runOn, arraysRun, answersOf, historyOf, chainsOf, programOf}
+use Rattle.program_rules.specs.Programs.{firstNumber, arraysRun, answersOf, historyOf, chainsOf, programOf}
 use Rattle.program_rules.specs.Work.{startedClerk, viewed, allRead}
 use Rattle.program_rules.specs.Closing.{closing}
-use Rattle.program_rules.specs.Tellings.{clerkAfter, recordsIn}
+use Rattle.program_rules.specs.Tellings.{clerkAfter}
 use Rattle.program_rules.proofs.Records.{clerk-append}
-use Rattle.program_rules.proofs.AnyCourse.{owed, last-records}
 use Rattle.program_rules.proofs.StartedHistory.{run-started}
 use Rattle.program_rules.proofs.DeskOver.{clerk-desk}
 use Rattle.program_rules.proofs.ArraysArePaper.{text-run, text-desk}
-use Rattle.program_rules.proofs.EarlyStop.{more-written, desk-stays}
+use Rattle.program_rules.proofs.EarlyStop.{desk-stays}
 
 -- THE CHAINS OF A TEXT: what stands on the desk of a clerk who has seen it is what the paper says of its lines
 pub chains-closing : (text : List ℕ) → closing Chains (clerkAfter startedClerk text) ≡ chainsOf text

@@ -1,9 +1,9 @@
 -- What a program writes at the end stands behind all else: so every course, brought to its end, has written out the records of the run and what is written last.
 -- Assumes nothing.
 use Prim.Native.Nat.{ℕ, _+_, _≤_}
-use mathlib.Core.Path.{_≡_, refl, sym, ap, _∙_}
+use mathlib.Core.Path.{_≡_, sym, ap, _∙_}
 use mathlib.Core.Bool.{true}
-use mathlib.Core.List.{List, [], _++_, append-assoc}
+use mathlib.Core.List.{List, _++_, append-assoc}
 use native.Mathlib.Omega.{arith}
 use borrow.Author.Tests.{le-leb}
 use lib.ListN.{length, take}
@@ -17,7 +17,7 @@ use Rattle.program_rules.specs.Work.{viewed, lineRoom, roomy, unended, o
 use Rattle.program_rules.specs.Closing.{closing, closingRoom, programRoom, closeOf, endOf}
 use Rattle.program_rules.specs.Callers.{Course}
 use Rattle.program_rules.proofs.OneCall.{put-take, put-length}
-use Rattle.program_rules.proofs.AnyCourse.{owed, finish-take, course-stands, course-finishes}
+use Rattle.program_rules.proofs.AnyCourse.{owed, finish-take, course-finishes}
 
 -- a program has room for the records of a line
 pub line-room : (view : View) → lineRoom ≤ programRoom view
