@@ -57,7 +57,7 @@ none-and [] rest h = refl
 none-and (j ∷ js) rest h = absurd (omega arith)
 
 -- so many chains have been written: with what is left from here they are all
-pub record Chained (d : Desk) (at next last i : ℕ) (before after : List ℕ) : Type 0 where
+pub record ChainsPut (d : Desk) (at next last i : ℕ) (before after : List ℕ) : Type 0 where
   pub turns : ℕ
   pub count : i + turns ≡ places
   pub few : next ≤ at + chainRoom * i
@@ -66,13 +66,13 @@ pub record Chained (d : Desk) (at next last i : ℕ) (before after : List ℕ) :
   pub same : bytes ++ chainText (chainsBy turns d last) ≡ chainText (chainsOn d)
 
 -- before the first
-pub chained-none : (d : Desk) {at : ℕ} {b : List ℕ} → at ≤ length b → Chained d at at 0 0 b b
+pub chained-none : (d : Desk) {at : ℕ} {b : List ℕ} → at ≤ length b → ChainsPut d at at 0 0 b b
 unfolding chainsOn
 chained-none d h = record { turns = places; count = omega arith; few = omega arith; bytes = []; wrote = wrote-none h; same = refl }
 
 -- one more
-chained-next : {d : Desk} {at next to last i : ℕ} {b m p : List ℕ} → Chained d at next last i b m → i < places → 0 < length (nextChain d last) → length (nextChain d last) ≤ places →
-    Added (jobRoom * length (nextChain d last)) next to (jobsLine (nextChain d last)) m p → Chained d at to (firstJob (nextChain d last)) (i + 1) b p
+chained-next : {d : Desk} {at next to last i : ℕ} {b m p : List ℕ} → ChainsPut d at next last i b m → i < places → 0 < length (nextChain d last) → length (nextChain d last) ≤ places →
+    Added (jobRoom * length (nextChain d last)) next to (jobsLine (nextChain d last)) m p → ChainsPut d at to (firstJob (nextChain d last)) (i + 1) b p
 chained-next {d} {at} {next} {to} {last} {i} {b} {m} {p} c h some fits a = go (c .turns) (c .count) (c .same)
   where
     js : List ℕ
@@ -81,7 +81,7 @@ chained-next {d} {at} {next} {to} {last} {i} {b} {m} {p} c h some fits a = go (c
     more : (t : ℕ) → chainText (chainsBy (suc t) d last) ≡ jobsLine js ++ chainText (chainsBy t d (firstJob js))
     more t = unfold chainsBy in chain-and js (chainsBy t d (firstJob js)) some
 
-    go : (turns : ℕ) → i + turns ≡ places → c .bytes ++ chainText (chainsBy turns d last) ≡ chainText (chainsOn d) → Chained d at to (firstJob js) (i + 1) b p
+    go : (turns : ℕ) → i + turns ≡ places → c .bytes ++ chainText (chainsBy turns d last) ≡ chainText (chainsOn d) → ChainsPut d at to (firstJob js) (i + 1) b p
     go zero e s = absurd (omega arith)
     go (suc t) e s =
         let f = c .few in
@@ -96,7 +96,7 @@ chained-next {d} {at} {next} {to} {last} {i} {b} {m} {p} c h some fits a = go (c
           same = append-assoc (c .bytes) (jobsLine js) (chainText (chainsBy t d (firstJob js))) ∙ ap (λ l. c .bytes ++ l) (sym (more t)) ∙ s;
         }
 
-module _ {d : Desk} {at next last i n : ℕ} {b m list : List ℕ} (before : List ℕ) (c : Chained d at next last i b m) (h : i < places) (size : length (d .number) ≡ places) (e : n ≡ length (nextChain d last)) (f : list ≡ filled (nextChain d last) before) (some : n ≡ 0 → ⊥) where
+module _ {d : Desk} {at next last i n : ℕ} {b m list : List ℕ} (before : List ℕ) (c : ChainsPut d at next last i b m) (h : i < places) (size : length (d .number) ≡ places) (e : n ≡ length (nextChain d last)) (f : list ≡ filled (nextChain d last) before) (some : n ≡ 0 → ⊥) where
   -- there is room for the chain that the list tells
   pub room-for-chain : at + chainsRoom ≤ length b → (0 < length (take (n - 0) list)) × (next + jobRoom * length (take (n - 0) list) ≤ length m)
   room-for-chain r =
@@ -107,14 +107,14 @@ module _ {d : Desk} {at next last i n : ℕ} {b m list : List ℕ} (before : Lis
       (omega arith, omega arith)
 
   -- and once it is written, one more has been
-  pub chained-more : {to : ℕ} {p : List ℕ} → Added (jobRoom * length (take (n - 0) list)) next to (jobsLine (take (n - 0) list)) m p → Chained d at to (getD list 0 0) (i + 1) b p
+  pub chained-more : {to : ℕ} {p : List ℕ} → Added (jobRoom * length (take (n - 0) list)) next to (jobsLine (take (n - 0) list)) m p → ChainsPut d at to (getD list 0 0) (i + 1) b p
   chained-more {to} {p} a =
       let s : 0 < length (nextChain d last) = omega arith in
-      subst (λ k. Chained d at to k (i + 1) b p) (sym (chain-head (nextChain d last) before f s))
+      subst (λ k. ChainsPut d at to k (i + 1) b p) (sym (chain-head (nextChain d last) before f s))
       (chained-next c h s (chain-few d last size) (subst (λ js. Added (jobRoom * length js) next to (jobsLine js) m p) (chain-there (nextChain d last) before e f) a))
 
 -- where nobody is left who waits, they are all
-pub chained-over : {d : Desk} {at next last i : ℕ} {b m : List ℕ} → Chained d at next last i b m → length (nextChain d last) ≤ 0 → Wrote at next (chainText (chainsOn d)) b m
+pub chained-over : {d : Desk} {at next last i : ℕ} {b m : List ℕ} → ChainsPut d at next last i b m → length (nextChain d last) ≤ 0 → Wrote at next (chainText (chainsOn d)) b m
 chained-over {d} {last = last} c h = wrote-as (c .wrote) (sym (append-nil (c .bytes)) ∙ ap (λ l. c .bytes ++ l) (sym (none-left (c .turns))) ∙ c .same)
   where
     none-left : (turns : ℕ) → chainText (chainsBy turns d last) ≡ []
@@ -122,7 +122,7 @@ chained-over {d} {last = last} c h = wrote-as (c .wrote) (sym (append-nil (c .by
     none-left (suc t) = unfold chainsBy in none-and (nextChain d last) (chainsBy t d (firstJob (nextChain d last))) h
 
 -- and so they are after as many as there are places
-pub chained-all : {d : Desk} {at next last i : ℕ} {b m : List ℕ} → Chained d at next last i b m → places ≤ i → Wrote at next (chainText (chainsOn d)) b m
+pub chained-all : {d : Desk} {at next last i : ℕ} {b m : List ℕ} → ChainsPut d at next last i b m → places ≤ i → Wrote at next (chainText (chainsOn d)) b m
 chained-all {d} {last = last} c h = wrote-as (c .wrote) (sym (append-nil (c .bytes)) ∙ ap (λ l. c .bytes ++ l) (sym (none-left (c .turns) (omega (arith, c .count)))) ∙ c .same)
   where
     none-left : (turns : ℕ) → turns ≤ 0 → chainText (chainsBy turns d last) ≡ []

@@ -6,12 +6,12 @@ use native.Mathlib.Omega.{arith}
 use borrow.Author.Needs.{needs}
 use lib.ListN.{length}
 use Rattle.text_rules.proofs.WroteLaws.{wrote-length}
-use Rattle.clerk.proofs.Chaining.{chain-fits, Chained, chained-none, room-for-chain, chained-more, chained-over, chained-all}
+use Rattle.clerk.proofs.Chaining.{chain-fits, ChainsPut, chained-none, room-for-chain, chained-more, chained-over, chained-all}
 use Rattle.clerk.proofs.chains.put_chains.Statement.{statement}
 use Rattle.clerk.proofs.chains.put_chains.Tie as tie
 
 abbrev Inv-loop : tie.InvT-loop
-Inv-loop out₀ at d list₀ next₀ last₀ i₀ out list next last i = Chained d at next last i out₀ out
+Inv-loop out₀ at d list₀ next₀ last₀ i₀ out list next last i = ChainsPut d at next last i out₀ out
 
 abbrev μ-loop : tie.MeasureT-loop
 μ-loop out₀ at d list₀ next₀ last₀ i₀ out list next last i = 32 - i
