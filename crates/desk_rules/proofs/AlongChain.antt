@@ -14,7 +14,7 @@ use Rattle.desk_rules.specs.Desk.{running, waiting, Desk}
 use Rattle.desk_rules.specs.Requests.{Rising}
 use Rattle.desk_rules.specs.Invariant.{Inv}
 use Rattle.desk_rules.specs.Chain.{youngerThan, Next, IsChain, runs, waits}
-use Rattle.desk_rules.specs.Chains.{Followed, ChainOf}
+use Rattle.desk_rules.specs.Chains.{Followed, Along}
 use Rattle.desk_rules.proofs.Statuses.{live-open}
 use Rattle.desk_rules.proofs.Numbers.{rising-distinct}
 use Rattle.desk_rules.proofs.InTheWay.{way-younger}
@@ -80,7 +80,7 @@ module _ {d : Desk} (v : Inv d) where
       omega arith
 
   -- all that is promised along a chain
-  pub along-chain : {j : ℕ} {js : List ℕ} → IsChain d j js → ChainOf d j js
+  pub along-chain : {j : ℕ} {js : List ℕ} → IsChain d j js → Along d j js
   along-chain {j} {js} k =
       record {
         begins = chain-begins k;

@@ -37,10 +37,11 @@ told job n js = record { job = job; places = 32; numbers = 0 ∷ n ∷ []; list 
 abbrev pub refusedWith : ℕ → ℕ → ℕ → Question
 refusedWith job places why = record { job = job; places = places; numbers = why ∷ 0 ∷ []; list = take 5 (replicate places 7) }
 
--- r, w and c by numbers
+-- a job asks to read a cell
 abbrev pub reads : ℕ → ℕ → Request
 reads = request 114
 
+-- a job asks to write it
 abbrev pub writes : ℕ → ℕ → Request
 writes = request 119
 

@@ -27,7 +27,7 @@ pub record Followed (d : Desk) (i k : ℕ) : Type 0 where
   pub next : Next d cell (record { job = i; ask = ask }) k
 
 -- of the chain of a live job
-pub record ChainOf (d : Desk) (j : ℕ) (js : List ℕ) : Type 0 where
+pub record Along (d : Desk) (j : ℕ) (js : List ℕ) : Type 0 where
   -- it begins with the job and ends with a running one
   pub begins : (rest : List ℕ) × (js ≡ j ∷ rest)
   pub ends : (before : List ℕ) × (i : ℕ) × (js ≡ before ++ i ∷ []) × (d .stat i ≡ running)
@@ -57,7 +57,7 @@ pub record Chains (d : Desk) : Type 0 where
   pub is-chain : (j : ℕ) → isLive (d .stat j) ≡ true → IsChain d j (chainOf d j)
   pub only-chain : (j : ℕ) (js : List ℕ) → IsChain d j js → js ≡ chainOf d j
   pub running-alone : (j : ℕ) → d .stat j ≡ running → chainOf d j ≡ j ∷ []
-  pub along : (j : ℕ) → isLive (d .stat j) ≡ true → ChainOf d j (chainOf d j)
+  pub along : (j : ℕ) → isLive (d .stat j) ≡ true → Along d j (chainOf d j)
   -- after every waiter somebody is next, who holds its cell; and each further look has fewer younger jobs left
   pub someone-next : (c : ℕ) (w : Waiter) → IsWaiting d c w → (i : ℕ) × Next d c w i
   pub next-holds : (c : ℕ) (w : Waiter) → IsWaiting d c w → (i : ℕ) → Next d c w i → (i ≢ w .job) × (isFree (d .row c .held i) ≡ false)
