@@ -16,15 +16,12 @@ use Rattle.terms.specs.declared.refusals.Refusal.{Refusal}
 use Rattle.terms.specs.declared.refusals.Refusal.the-variants.{NotOpen, SentBack, ShortList}
 use Rattle.terms.specs.Limits.{places}
 use Rattle.terms.specs.Refusals.{numberOf}
-use Rattle.terms.proofs.Numbers.{same-number, within-table}
-use Rattle.laws.proofs.Filled.{fills, fills-only}
-use Rattle.laws.proofs.Joined.{head-same, tail-same}
-use Rattle.desk_rules.specs.declared.Chained.{Chained}
+use Rattle.laws.proofs.Filled.{fills}
 use Rattle.desk_rules.specs.declared.Chained.the-variants.{Jobs, No}
 use Rattle.desk_rules.specs.Desk.{Status, closed, running, waiting, sentback, Desk, isOpen, isLive}
 use Rattle.desk_rules.specs.Invariant.{Inv}
 use Rattle.desk_rules.specs.Chain.{chainOf}
-use Rattle.desk_rules.specs.AskedChain.{chainHolds, chainOrder, chainDue, ChainTold, chainTold, askChain, chainNumbers}
+use Rattle.desk_rules.specs.AskedChain.{chainHolds, chainOrder, chainDue, chainTold, askChain}
 use Rattle.desk_rules.specs.Chains.{AsksChain}
 use Rattle.desk_rules.proofs.Statuses.{running-live, waiting-live, sentback-open, live-open}
 use Rattle.desk_rules.proofs.ChainIs.{is-chain}
@@ -85,10 +82,6 @@ other-status e = let z : _≡_ {A = ℕ} 0 1 = cc in absurd (omega arith)
 -- so many jobs are so many
 same-jobs : {n m : ℕ} → Jobs n ≡ Jobs m → n ≡ m
 same-jobs e = cc
-
--- what is told, by its two parts
-told-path : (t : ChainTold) (x : Chained) (l : List ℕ) → t .said ≡ x → t .list ≡ l → t ≡ record { said = x; list = l }
-told-path t x l e f = λ i. record { said = e i; list = f i }
 
 module _ {d : Desk} (v : Inv d) (j : ℕ) (list : List ℕ) where
   -- what the answer to a refused question is like
@@ -155,34 +148,3 @@ module _ {d : Desk} (v : Inv d) (j : ℕ) (list : List ℕ) where
   -- what is promised of who asks
   pub asks-chain : AsksChain d j list (askChain d j list)
   asks-chain = asks-by (by-way d j list)
-
--- nothing else that is told keeps these promises
-module _ {d : Desk} (j : ℕ) (list : List ℕ) (t : ChainTold) (k : AsksChain d j list t) where
-  -- a refusal, with the list as it was
-  refused-so : (why : Refusal) → t .said ≡ No why → t ≡ record { said = No why; list = list }
-  refused-so why e = told-path t (No why) list e (k .refusal-leaves why e)
-
-  -- an answer, with the chain in the first places and the rest as it was
-  answered-so : isLive (d .stat j) ≡ true → 32 ≤ length list → t ≡ record { said = Jobs (length (chainOf d j)); list = filled (chainOf d j) list }
-  answered-so h l =
-      let (e, f) = k .answered h l in
-      let (r, z) = k .unused-stay (length (chainOf d j)) e in
-      told-path t (Jobs (length (chainOf d j))) (filled (chainOf d j) list) e (fills-only (chainOf d j) list (t .list) (record { first = f; rest = r; size = z }))
-
-  -- so it is what the definition tells
-  pub only-told : t ≡ askChain d j list
-  only-told = go (by-way d j list)
-    where
-      go : Way d j list → t ≡ askChain d j list
-      go (not-there s e) = refused-so NotOpen (k .not-open .1 (unfold isOpen in rw s)) ∙ sym e
-      go (went-back s e) = refused-so SentBack (k .was-sent-back .1 s) ∙ sym e
-      go (too-short s l e) = refused-so ShortList (k .short-list .1 (s, l)) ∙ sym e
-      go (told s l e) = answered-so s l ∙ sym e
-
--- the answers' numbers tell them apart
-pub same-chained : (a b : Chained) → chainNumbers a ≡ chainNumbers b → a ≡ b
-unfolding chainNumbers
-same-chained (Jobs n) (Jobs m) e = ap Jobs (head-same (tail-same e))
-same-chained (Jobs n) (No y) e = let h = head-same e in let w = within-table y in absurd (omega arith)
-same-chained (No x) (Jobs m) e = let h = head-same e in let w = within-table x in absurd (omega arith)
-same-chained (No x) (No y) e = ap No (same-number x y (head-same e))

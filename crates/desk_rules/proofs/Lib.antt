@@ -76,6 +76,7 @@ pub mod YoungestHolds
 pub mod ChainIs
 pub mod AlongChain
 pub mod AskingChain
+pub mod OnlyTold
 pub mod WaitingList
 pub mod ChainsKept
 pub mod Promised
