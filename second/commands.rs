@@ -1,5 +1,6 @@
 //! The commands that read standard input, and the steps drawn for the bench.
 
+use crate::chain::{put_chains, put_question, QUESTION};
 use crate::desk::{history_of, Answer, Desk, Outcome};
 use crate::judge::{judge, Verdict};
 use crate::lines::{put_event, put_field, put_outcome, put_record, read_history, read_request, words_of};
@@ -81,12 +82,12 @@ pub fn each_line(
 }
 
 /// 01, What is delivered: the desk programs, started at 1, which read 1,000,000 lines and
-/// stop. `put` puts the records of one step.
+/// stop. `put` puts the records of one step; handed back is the desk as it is at the end.
 pub fn desk_program(
     input: impl Read,
     output: &mut impl Write,
     put: impl Fn(&mut Vec<u8>, u64, Line, &Outcome),
-) -> io::Result<()> {
+) -> io::Result<Desk> {
     let mut desk = Desk::start(1).expect("1 is a number to start at");
     let mut number = 0;
     each_line(input, output, |line, out| {
@@ -99,12 +100,13 @@ pub fn desk_program(
             }
         }
         number < DESK_LINES
-    })
+    })?;
+    Ok(desk)
 }
 
 /// The program that prints the desk's answers.
 pub fn answers(input: impl Read, output: &mut impl Write) -> io::Result<()> {
-    desk_program(input, output, |out, number, _, outcome| put_outcome(out, number, outcome))
+    desk_program(input, output, |out, number, _, outcome| put_outcome(out, number, outcome)).map(drop)
 }
 
 /// The program that prints the desk's history.
@@ -114,6 +116,39 @@ pub fn history(input: impl Read, output: &mut impl Write) -> io::Result<()> {
             put_event(out, event);
         }
     })
+    .map(drop)
+}
+
+/// A reader that remembers the failure which ended it.
+pub struct Remember<R> {
+    pub input: R,
+    pub failed: Option<String>,
+}
+
+impl<R: Read> Read for Remember<R> {
+    fn read(&mut self, buffer: &mut [u8]) -> io::Result<usize> {
+        let read = self.input.read(buffer);
+        if let Err(error) = &read {
+            if error.kind() != ErrorKind::Interrupted {
+                self.failed = Some(error.to_string());
+            }
+        }
+        read
+    }
+}
+
+/// 02, No. 3: the program that prints the chains of the jobs that wait when its input is at an end, or
+/// its 1,000,000 lines are; and nothing before. After a read that failed it prints nothing at all.
+pub fn chain(input: impl Read, output: &mut impl Write) -> io::Result<()> {
+    let mut input = Remember { input, failed: None };
+    let desk = desk_program(&mut input, output, |_, _, _, _| {})?;
+    if let Some(failure) = input.failed {
+        eprintln!("second: the input could not be read to its end: {failure}");
+        return Ok(());
+    }
+    let mut out = Vec::new();
+    put_chains(&mut out, &desk);
+    write_out(output, &mut out)
 }
 
 /// 01, The judge's rules, last paragraph: the verdict program. docs/DECISIONS.md, "A read or
@@ -237,8 +272,8 @@ pub fn put_history_reading(out: &mut Vec<u8>, number: u64, line: &[u8]) {
     }
 }
 
-/// For tests of the desk by numbers: one step a line, `kind job cell`. True if every line
-/// was such a step; the first that was not ends it.
+/// For tests of the desk by numbers: one step a line, `kind job cell`, or a question after a chain,
+/// `256 job places`. True if every line was one of these; the first that was not ends it.
 pub fn steps(first: u32, input: impl Read, output: &mut impl Write) -> io::Result<bool> {
     let mut desk = match Desk::start(first) {
         Ok(desk) => desk,
@@ -252,26 +287,41 @@ pub fn steps(first: u32, input: impl Read, output: &mut impl Write) -> io::Resul
     };
     let mut all_steps = true;
     each_line(input, output, |line, out| {
-        let Some(asked) = read_step(line) else {
+        if let Some(asked) = read_step(line) {
+            put_step(out, &desk.step(asked));
+        } else if let Some((job, places)) = read_question(line) {
+            put_question(out, &desk, job, places);
+        } else {
             all_steps = false;
-            return false;
-        };
-        put_step(out, &desk.step(asked));
-        true
+        }
+        all_steps
     })?;
     Ok(all_steps)
 }
 
-pub fn read_step(line: &[u8]) -> Option<Line> {
+/// Three numbers parted by one blank.
+pub fn read_three(line: &[u8]) -> Option<(u16, u32, u32)> {
     let line = std::str::from_utf8(line.strip_suffix(b"\n").unwrap_or(line)).ok()?;
     let mut numbers = line.split(' ');
-    let letter = numbers.next()?.parse().ok()?;
+    let kind = numbers.next()?.parse().ok()?;
     let job = numbers.next()?.parse().ok()?;
-    let cell = numbers.next()?.parse().ok()?;
+    let third = numbers.next()?.parse().ok()?;
     match numbers.next() {
         Some(_) => None,
-        None => Some(Line { letter, job, cell }),
+        None => Some((kind, job, third)),
     }
+}
+
+/// A step: its kind is a byte.
+pub fn read_step(line: &[u8]) -> Option<Line> {
+    let (kind, job, cell) = read_three(line)?;
+    Some(Line { letter: u8::try_from(kind).ok()?, job, cell })
+}
+
+/// A question after a chain: its job, and the places lent for the list.
+pub fn read_question(line: &[u8]) -> Option<(u32, u32)> {
+    let (kind, job, places) = read_three(line)?;
+    (kind == QUESTION).then_some((job, places))
 }
 
 pub fn put_step(out: &mut Vec<u8>, outcome: &Outcome) {

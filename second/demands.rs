@@ -1,11 +1,14 @@
 //! The demands, held against a random run of the desk by brute force. They read with the larger
-//! matrix of 02, No. 1; what that request promises of its own stands in `demands/update.rs`, and
-//! what is demanded of the history in `demands/history.rs`.
+//! matrix of 02, No. 1; what that request promises of its own stands in `demands/update.rs`, what is
+//! demanded of the history in `demands/history.rs`, and what No. 3 promises of chains in
+//! `demands/chain.rs`.
 
 use crate::desk::{history_of, Answer, Cell, Desk, Holder, Outcome, Status};
+use crate::make::chains::Shaper;
 use crate::make::requests::Maker;
 use crate::make::Chance;
 use crate::words::*;
+use chain::chains;
 use std::collections::{BTreeMap, BTreeSet};
 use update::{enough, grown, lets, together, update, Holds};
 
@@ -18,6 +21,7 @@ macro_rules! demand {
     };
 }
 
+pub mod chain;
 pub mod history;
 pub mod update;
 
@@ -101,7 +105,8 @@ impl Watch {
         let events = history_of(seen.asked, seen.outcome);
         self.events(seen, &events)?;
         update(seen, &events)?;
-        self.holds.see(seen)
+        self.holds.see(seen)?;
+        chains(seen.after)
     }
 
     /// g: the table of refusals, all rows looked at, the first that applies counts.
@@ -336,7 +341,8 @@ pub fn places_and_queues(desk: &Desk) -> Result<(), String> {
     Ok(())
 }
 
-/// A random run of a desk under watch; the first violation with its step.
+/// A random run of a desk under watch; the first violation with its step. Two of three seeds draw their
+/// steps as `make steps` does, and the third has the shapes of `make asked`.
 pub fn demands(seed: u64, count: u64) -> Result<(), String> {
     let few = (count / 10 + 1).min(1_000) as u32;
     let first = match seed % 8 {
@@ -345,13 +351,13 @@ pub fn demands(seed: u64, count: u64) -> Result<(), String> {
         7 => LAST_NUMBER - 31 - Chance(seed).below(4) as u32,
         _ => 1,
     };
-    let mut maker = Maker::new(seed, first, LAST_NUMBER, seed % 2 == 0);
+    let mut shaper = Shaper::over(Maker::new(seed, first, LAST_NUMBER, seed % 2 == 0));
     let mut watch = Watch::default();
     for number in 1..=count {
-        let asked = maker.choose_step();
-        let before = maker.desk.clone();
-        let outcome = maker.desk.step(asked);
-        let seen = Seen { before: &before, asked, outcome: &outcome, after: &maker.desk };
+        let asked = if seed % 3 == 2 { shaper.step() } else { shaper.maker.choose_step() };
+        let before = shaper.maker.desk.clone();
+        let outcome = shaper.maker.desk.step(asked);
+        let seen = Seen { before: &before, asked, outcome: &outcome, after: &shaper.maker.desk };
         watch.see(&seen).map_err(|text| format!("step {number}, {asked:?}: {text}"))?;
         if number % 100 == 0 {
             watch.nowhere_dirty().map_err(|text| format!("after step {number}: {text}"))?;

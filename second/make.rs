@@ -1,15 +1,18 @@
 //! The making of texts: the same seed gives the same bytes for ever.
 
 pub mod cases;
+pub mod chains;
 pub mod dirt;
 pub mod histories;
 pub mod lines;
+pub mod plans;
 pub mod requests;
 
 use crate::commands::{write_out, WRITE_AT_ONCE};
 use crate::lines::read_request;
 use crate::words::LAST_NUMBER;
 use cases::case_text;
+use chains::Shaper;
 use histories::history_lines;
 use lines::odd_line;
 use requests::Maker;
@@ -100,6 +103,17 @@ pub fn make_steps(seed: u64, count: u64, first: u32, output: &mut impl Write) ->
         maker.desk.step(asked);
         format!("{} {} {}", asked.letter, asked.job, asked.cell).into_bytes()
     })
+}
+
+pub fn make_chains(seed: u64, count: u64, output: &mut impl Write) -> io::Result<()> {
+    let mut shaper = Shaper::new(seed, 1);
+    let torn = shaper.maker.chance.percent(10);
+    put_lines(output, count, torn, || shaper.line())
+}
+
+pub fn make_asked(seed: u64, count: u64, first: u32, output: &mut impl Write) -> io::Result<()> {
+    let mut shaper = Shaper::new(seed, first);
+    put_lines(output, count, false, || shaper.asked())
 }
 
 /// The last case lacks its last newline if the seed is odd.

@@ -3,9 +3,10 @@
 //! where they leave a point open, from docs/DECISIONS.md alone. It is the yardstick for
 //! random runs, so it is simple rather than clever.
 //!
-//! This file has the command line. Each subject has a file: words, lines, desk, judge,
-//! commands, make with its five, demands with its two; and tests with a file for each of these.
+//! This file has the command line. Each subject has a file: words, lines, desk, chain, judge,
+//! commands, make with its seven, demands with its three; and tests with a file for each of these.
 
+mod chain;
 mod commands;
 mod demands;
 mod desk;
@@ -16,15 +17,15 @@ mod make;
 mod tests;
 mod words;
 
-use commands::{answers, cases, history, lines, mix, steps, verdict};
+use commands::{answers, cases, chain, history, lines, mix, steps, verdict};
 use demands::demands;
-use make::{make_cases, make_histories, make_lines, make_requests, make_steps};
+use make::{make_asked, make_cases, make_chains, make_histories, make_lines, make_requests, make_steps};
 use std::io::{self, ErrorKind, Read, Write};
 
-const USAGE: &str = "usage: second answers | history | verdict | lines | cases | steps FIRST | mix COUNT
-       second make requests|histories|lines SEED LINES
+const USAGE: &str = "usage: second answers | history | chain | verdict | lines | cases | steps FIRST | mix COUNT
+       second make requests|chains|histories|lines SEED LINES
        second make cases SEED COUNT
-       second make steps SEED COUNT [FIRST]
+       second make steps|asked SEED COUNT [FIRST]
        second demands SEED STEPS";
 
 fn main() {
@@ -46,6 +47,7 @@ fn run(words: &[&str], input: impl Read, output: &mut impl Write) -> io::Result<
     match *words {
         ["answers"] => answers(input, output)?,
         ["history"] => history(input, output)?,
+        ["chain"] => chain(input, output)?,
         ["verdict"] => verdict(input, output)?,
         ["lines"] => lines(input, output)?,
         ["cases"] => cases(input, output)?,
@@ -54,7 +56,7 @@ fn run(words: &[&str], input: impl Read, output: &mut impl Write) -> io::Result<
                 return usage();
             };
             if !steps(first, input, output)? {
-                eprintln!("second: a step is three numbers, kind job cell, parted by one blank");
+                eprintln!("second: a step is three numbers, kind job cell (or 256 job places), parted by one blank");
                 return Ok(2);
             }
         }
@@ -66,38 +68,49 @@ fn run(words: &[&str], input: impl Read, output: &mut impl Write) -> io::Result<
             output.write_all(format!("{go}\t{wait}\t{back}\t{no}\t{wakes}\n").as_bytes())?;
             output.flush()?;
         }
-        ["make", what, seed, count] => {
-            let (Ok(seed), Ok(count)) = (seed.parse(), count.parse()) else {
-                return usage();
-            };
-            match what {
-                "requests" => make_requests(seed, count, output)?,
-                "histories" => make_histories(seed, count, output)?,
-                "lines" => make_lines(seed, count, output)?,
-                "cases" => make_cases(seed, count, output)?,
-                "steps" => make_steps(seed, count, 1, output)?,
-                _ => return usage(),
-            }
-        }
-        ["make", "steps", seed, count, first] => {
-            let (Ok(seed), Ok(count), Ok(first)) = (seed.parse(), count.parse(), first.parse()) else {
-                return usage();
-            };
-            make_steps(seed, count, first, output)?;
-        }
-        ["demands", seed, count] => {
-            let (Ok(seed), Ok(count)) = (seed.parse(), count.parse()) else {
-                return usage();
-            };
-            let found = demands(seed, count);
-            let text = found.as_ref().map_or_else(String::as_str, |()| "ok");
-            output.write_all(format!("demands: {seed} {text}\n").as_bytes())?;
-            output.flush()?;
-            return Ok(i32::from(found.is_err()));
-        }
+        ["make", what, seed, count] => return make(what, seed, count, None, output),
+        ["make", what, seed, count, first] => return make(what, seed, count, Some(first), output),
+        ["demands", seed, count] => return watch(seed, count, output),
         _ => return usage(),
     }
     Ok(0)
+}
+
+/// Runs one maker. Only steps have a first number, which is 1 if not given.
+fn make(
+    what: &str,
+    seed: &str,
+    count: &str,
+    first: Option<&str>,
+    output: &mut impl Write,
+) -> io::Result<i32> {
+    let numbers = (seed.parse(), count.parse(), first.unwrap_or("1").parse());
+    let (Ok(seed), Ok(count), Ok(number)) = numbers else {
+        return usage();
+    };
+    match (what, first) {
+        ("requests", None) => make_requests(seed, count, output)?,
+        ("chains", None) => make_chains(seed, count, output)?,
+        ("histories", None) => make_histories(seed, count, output)?,
+        ("lines", None) => make_lines(seed, count, output)?,
+        ("cases", None) => make_cases(seed, count, output)?,
+        ("steps", _) => make_steps(seed, count, number, output)?,
+        ("asked", _) => make_asked(seed, count, number, output)?,
+        _ => return usage(),
+    }
+    Ok(0)
+}
+
+/// Holds a random run against the demands.
+fn watch(seed: &str, count: &str, output: &mut impl Write) -> io::Result<i32> {
+    let (Ok(seed), Ok(count)) = (seed.parse(), count.parse()) else {
+        return usage();
+    };
+    let found = demands(seed, count);
+    let text = found.as_ref().map_or_else(String::as_str, |()| "ok");
+    output.write_all(format!("demands: {seed} {text}\n").as_bytes())?;
+    output.flush()?;
+    Ok(i32::from(found.is_err()))
 }
 
 fn usage() -> io::Result<i32> {

@@ -1,5 +1,8 @@
 //! Tests: what they share, and the samples of document 01.
 
+mod chain;
+mod chain_demands;
+mod chain_makers;
 mod demands;
 mod desk;
 mod dirty;

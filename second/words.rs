@@ -26,7 +26,8 @@ pub const HISTORY_LINES: usize = 4_096;
 pub const HISTORY_JOBS: usize = 255;
 pub const HISTORY_BYTES: usize = 65_536;
 
-/// 01, Refusals by number (15 belongs to buffers of fixed size, which this program has not).
+/// 01, Refusals by number (15 belongs to buffers of fixed size, which this program has not), and 18 of
+/// 02, No. 3.
 pub const NO_SUCH_KIND: u8 = 1;
 pub const NO_SUCH_CELL: u8 = 2;
 pub const JOB_NOT_OPEN: u8 = 3;
@@ -42,6 +43,7 @@ pub const JOB_OUTSIDE: u8 = 12;
 pub const JOB_ENDED: u8 = 13;
 pub const BUFFER_SHORT: u8 = 14;
 pub const TEXT_LONG: u8 = 16;
+pub const LIST_SHORT: u8 = 18;
 
 /// A request, a wake or a history event: its letter and, where the letter has them,
 /// its job and its cell (01, Lines).

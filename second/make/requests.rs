@@ -310,13 +310,18 @@ impl Maker {
         if self.chance.percent(self.spoil) {
             self.spoil_step(&mut asked);
         }
+        self.fill_unused(&mut asked);
+        asked
+    }
+
+    /// Anything in the fields that the kind does not use.
+    pub fn fill_unused(&mut self, asked: &mut Line) {
         if !has_cell(asked.letter) {
             asked.cell = self.chance.of(&[0, 5, 63, 64, LAST_NUMBER]);
         }
         if !has_job(asked.letter) {
             asked.job = self.chance.of(&[0, 1, asked.job, LAST_NUMBER]);
         }
-        asked
     }
 
     pub fn spoil_step(&mut self, asked: &mut Line) {

@@ -28,7 +28,7 @@ fn begin_tests_7_before_6() {
 #[test]
 fn steps_started_at_0_and_misused() {
     assert_eq!(printed(&["steps", "0"], b"98 0 0\n"), (b"no\t10\n".to_vec(), 0));
-    for bad in ["98 0", "98 0 0 0", "256 0 0", "98  0 0", "98 4294967296 0", "x 0 0", ""] {
+    for bad in ["98 0", "98 0 0 0", "257 0 0", "354 0 0", "98  0 0", "98 4294967296 0", "x 0 0", ""] {
         let input = format!("98 0 0\n{bad}\n98 0 0\n");
         assert_eq!(printed(&["steps", "5"], input.as_bytes()), (b"go\t5\n".to_vec(), 2), "{bad}");
     }

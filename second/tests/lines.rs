@@ -58,7 +58,7 @@ fn lines_report_both_readings() {
 }
 
 /// A reader that hands out a few bytes at a time.
-struct Dribble<'a>(&'a [u8], usize);
+pub struct Dribble<'a>(pub &'a [u8], pub usize);
 
 impl Read for Dribble<'_> {
     fn read(&mut self, buffer: &mut [u8]) -> io::Result<usize> {
@@ -161,7 +161,7 @@ fn desk_programs_stop_after_a_million_lines() {
 }
 
 /// A reader that fails once its bytes are read.
-struct Torn<'a>(Dribble<'a>);
+pub struct Torn<'a>(pub Dribble<'a>);
 
 impl Read for Torn<'_> {
     fn read(&mut self, buffer: &mut [u8]) -> io::Result<usize> {

@@ -8,7 +8,7 @@ use crate::words::*;
 use std::collections::{BTreeMap, BTreeSet};
 
 /// Fowler, Noll and Vo's hash.
-fn hash(bytes: &[u8]) -> u64 {
+pub fn hash(bytes: &[u8]) -> u64 {
     bytes.iter().fold(0xcbf2_9ce4_8422_2325, |hash, &byte| {
         (hash ^ u64::from(byte)).wrapping_mul(0x0100_0000_01b3)
     })

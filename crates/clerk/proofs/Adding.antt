@@ -1,4 +1,4 @@
--- A record for which there is room is written, and has at most 24 bytes; records written one after another.
+-- A record for which there is room is written, and has at most so many bytes; records written one after another.
 -- Assumes nothing.
 use Prim.Native.Nat.{ℕ, _+_, _≤_}
 use mathlib.Core.Path.{_≡_, subst}
@@ -24,12 +24,12 @@ line-at-most-24 l job cell h g =
     omega (arith, line-length l job cell, field-at-most 9 (hasJob l) job (omega arith), field-at-most 9 (hasCell l) cell (omega arith))
 
 -- a record whose place was told was written
-pub added-next : {w : Written} {at n : ℕ} {bs b m : List ℕ} → w ≡ told b at bs → w ≡ Next n → m ≡ left b at bs → length bs ≤ longestRecord → Added longestRecord at n bs b m
+pub added-next : {w : Written} {most at n : ℕ} {bs b m : List ℕ} → w ≡ told b at bs → w ≡ Next n → m ≡ left b at bs → length bs ≤ most → Added most at n bs b m
 added-next e f g h = record { wrote = next-wrote e f g; few = h }
 
 -- a record for which there is room is never refused
-pub never-refused : {P : Type 0} {w : Written} {why : Refusal} (b : List ℕ) (at : ℕ) (bs : List ℕ) → w ≡ told b at bs → w ≡ Refused why → length bs ≤ longestRecord → at + longestRecord ≤ length b → P
-never-refused b at bs e f h r = not-refused b at bs e f (omega arith)
+pub never-refused : {P : Type 0} {w : Written} {why : Refusal} (b : List ℕ) (at : ℕ) (bs : List ℕ) (most : ℕ) → w ≡ told b at bs → w ≡ Refused why → length bs ≤ most → at + most ≤ length b → P
+never-refused b at bs most e f h r = not-refused b at bs e f (omega arith)
 
 -- nothing was written
 pub added-none : {most at : ℕ} {b : List ℕ} → at ≤ length b → Added most at at [] b b

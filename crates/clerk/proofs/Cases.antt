@@ -14,12 +14,16 @@ use Rattle.conflict.specs.declared.action.Action.{Action}
 use Rattle.text_rules.specs.Records.{answerRecord, lineRecord}
 use Rattle.desk_rules.specs.declared.Answer.{Answer}
 use Rattle.program_rules.specs.declared.View.{View}
-use Rattle.program_rules.specs.declared.View.the-variants.{Answers, History}
+use Rattle.program_rules.specs.declared.View.the-variants.{Answers, History, Chains}
 use Rattle.desk_rules.specs.Step.{recordsOf, ownRecords, wakeRecords}
 use Rattle.text_rules.specs.EventRecords.{askBy, eventLine, textOf}
 use Rattle.desk_rules.specs.AnswerWords.{wordOf, numberBeside}
 use Rattle.program_rules.specs.OverLines.{answerLines, historyLines, wakeLines}
 use Rattle.program_rules.specs.Work.{viewed, unended}
+use Rattle.program_rules.specs.declared.Clerk.{Clerk}
+use Rattle.program_rules.specs.Chains.{chainText}
+use Rattle.program_rules.specs.Closing.{closing}
+use Rattle.desk_chain.specs.Chains.{chainsOn}
 use Rattle.clerk.specs.declared.records.Noted.{Noted}
 use Rattle.clerk.specs.declared.records.Noted.the-variants.{Nothing, Line}
 use Rattle.clerk.specs.Parts.{asking, notedBytes, firstRecord, wakeRecord}
@@ -45,6 +49,11 @@ pub first-noted : (view : View) (line : ℕ) (l : Letter) (cell : ℕ) (a : Answ
 unfolding firstRecord
 first-noted view line l cell a n e f = f ∙ rw e
 
+-- no first record for the chains
+pub first-chains : (view : View) (line : ℕ) (l : Letter) (cell : ℕ) (a : Answer) → view ≡ Chains → [] ≡ firstRecord view line l cell a
+unfolding firstRecord
+first-chains view line l cell a e = rw e
+
 -- a wake among the answers
 pub wake-answer : (view : View) (line : ℕ) (a : Action) → view ≡ Answers → answerRecord line Wake (a .job) ≡ wakeRecord view line a
 unfolding wakeRecord
@@ -55,6 +64,11 @@ pub wake-noted : (view : View) (line : ℕ) (a : Action) (k : Ask) → view ≡ 
 unfolding wakeRecord eventLine
 wake-noted view line a k e f = rw (e, f)
 
+-- no record of a wake for the chains
+pub wake-chains : (view : View) (line : ℕ) (a : Action) → view ≡ Chains → [] ≡ wakeRecord view line a
+unfolding wakeRecord
+wake-chains view line a e = rw e
+
 -- a bad line among the answers
 pub bad-answer : (view : View) (line n : ℕ) → view ≡ Answers → n ≡ numberOf BadLine → answerRecord line No n ≡ viewed view (unended line)
 unfolding viewed unended answerLines wordOf numberBeside wakeLines
@@ -64,3 +78,23 @@ bad-answer view line n e f = rw (e, f) (sym (append-nil _))
 pub bad-noted : (view : View) (line : ℕ) → view ≡ History → [] ≡ viewed view (unended line)
 unfolding viewed unended historyLines recordsOf ownRecords wakeRecords textOf
 bad-noted view line e = rw e
+
+-- nor the chains
+pub bad-chains : (view : View) (line : ℕ) → view ≡ Chains → [] ≡ viewed view (unended line)
+unfolding viewed
+bad-chains view line e = rw e
+
+-- nothing is written last of the answers
+pub last-answers : (view : View) (c : Clerk) → view ≡ Answers → [] ≡ closing view c
+unfolding closing
+last-answers view c e = rw e
+
+-- nor of the history
+pub last-history : (view : View) (c : Clerk) → view ≡ History → [] ≡ closing view c
+unfolding closing
+last-history view c e = rw e
+
+-- the chains are
+pub last-chains : (view : View) (c : Clerk) → view ≡ Chains → chainText (chainsOn (c .desk)) ≡ closing view c
+unfolding closing
+last-chains view c e = rw e

@@ -7,3 +7,5 @@ pub mod Holding
 pub mod Answering
 pub mod Going
 pub mod Unique
+pub mod Listing
+pub mod Chaining

@@ -19,7 +19,7 @@ use Rattle.desk_rules.specs.Step as step
 use Rattle.text_rules.specs.EventRecords.{textOf}
 use Rattle.text_rules.proofs.RecordLines.{text-append}
 use Rattle.program_rules.specs.declared.View.{View}
-use Rattle.program_rules.specs.declared.View.the-variants.{Answers, History as TheHistory}
+use Rattle.program_rules.specs.declared.View.the-variants.{Answers, History as TheHistory, Chains}
 use Rattle.program_rules.specs.OverLines.{wakeLines, answerLines, historyLines}
 use Rattle.program_rules.specs.Work.{viewed}
 use Rattle.clerk.specs.Parts.{asking, firstRecord, wakeRecord, wakeRecords, lineRecords}
@@ -55,6 +55,12 @@ unfolding wakeRecords wakeRecord step.wakeRecords textOf
 wakes-noted line [] = refl
 wakes-noted line (a ∷ ws) = ap (λ l. wakeRecord TheHistory line a ++ l) (wakes-noted line ws)
 
+-- no wakes for the chains
+wakes-untold : (line : ℕ) (ws : List Action) → wakeRecords Chains line ws ≡ []
+unfolding wakeRecords wakeRecord
+wakes-untold line [] = refl
+wakes-untold line (a ∷ ws) = wakes-untold line ws
+
 -- all records of a line whose request is good are those of what is told of it
 pub records-told : (view : View) (line : ℕ) (l : Letter) (job cell : ℕ) (a : Answer) (ws : List Action) →
     lineRecords view line l cell a ws ≡ viewed view (record { line = line; request = record { kind = byteOf l; job = job; cell = cell }; said = a; wakes = ws })
@@ -63,3 +69,4 @@ records-told Answers line l job cell a ws = ap (λ r. firstRecord Answers line l
 records-told TheHistory line l job cell a ws =
     ap₂ (λ h k. h ++ k) (ap textOf (own-of l job cell a)) (wakes-noted line ws)
     ∙ sym (text-append (ownRecords (record { kind = byteOf l; job = job; cell = cell }) a) (step.wakeRecords ws))
+records-told Chains line l job cell a ws = wakes-untold line ws

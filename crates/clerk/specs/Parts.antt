@@ -12,7 +12,7 @@ use Rattle.text_rules.specs.Records.{answerRecord, lineRecord}
 use Rattle.text_rules.specs.Wrote.{Wrote}
 use Rattle.desk_rules.specs.declared.Answer.{Answer}
 use Rattle.program_rules.specs.declared.View.{View}
-use Rattle.program_rules.specs.declared.View.the-variants.{Answers, History}
+use Rattle.program_rules.specs.declared.View.the-variants.{Answers, History, Chains}
 use Rattle.desk_rules.specs.AnswerWords.{wordOf, numberBeside}
 use Rattle.desk_rules.specs.Desk.{Request}
 use Rattle.desk_rules.specs.Step.{ownRecords}
@@ -37,11 +37,13 @@ notedBytes (Line l job cell) = lineRecord l job cell
 unfoldable pub firstRecord : View → ℕ → Letter → ℕ → Answer → List ℕ
 firstRecord Answers line l cell a = answerRecord line (wordOf a) (numberBeside a)
 firstRecord History line l cell a = textOf (ownRecords (asking l cell) a)
+firstRecord Chains line l cell a = []
 
 -- the record of a wake in a view
 unfoldable pub wakeRecord : View → ℕ → Action → List ℕ
 wakeRecord Answers line a = answerRecord line Wake (a .job)
 wakeRecord History line a = eventLine (Does a)
+wakeRecord Chains line a = []
 
 -- one for each wake
 unfoldable pub wakeRecords : View → ℕ → List Action → List ℕ

@@ -1,4 +1,4 @@
-// The records of one line in either view: the answer or what the history notes of it, and then the wakes (01, Lines).
+// The records of one line in each view: the answer or what the history notes of it, and then the wakes; for the chains none (01, Lines; 02, No. 3).
 use conflict::action::Action;
 use conflict::action::Kind;
 use conflict::modes::recorded_kind;
@@ -162,6 +162,7 @@ fn put_first(
     match view {
         View::Answers => put_answer(out, at, line, word_of(a), number_beside(a)),
         View::History => put_noted(out, at, noted_of(letter, cell, a)),
+        View::Chains => at,
     }
 }
 
@@ -176,6 +177,7 @@ fn put_wake(view: View, out: &mut [u8], at: usize, line: u64, a: Action) -> usiz
             let kind = a.kind;
             put_line(out, at, Letter::Asks(ask_by(kind)), a.job, a.cell)
         }
+        View::Chains => at,
     }
 }
 
@@ -232,7 +234,7 @@ pub fn put_records<'a>(
     put_wakes(view, out, next, line, number, cells, ask, woken, count)
 }
 
-// The record of a bad line: refusal 9 among the answers, and none in the history.
+// The record of a bad line: refusal 9 among the answers, and none in the history and for the chains.
 pub fn put_bad(view: View, out: &mut [u8], at: usize, line: u64) -> usize
     requires { ⌜ (line ≤ requestLines) × (at + lineRoom ≤ length (now out)) ⌝ }
     ensures { λ r. ⌜ Wrote at r (viewed view (unended line)) (now (out .entry)) (now (out .exit)) ⌝ }
@@ -240,5 +242,6 @@ pub fn put_bad(view: View, out: &mut [u8], at: usize, line: u64) -> usize
     match view {
         View::Answers => put_answer(out, at, line, Word::No, number_of(Refusal::BadLine) as u64),
         View::History => at,
+        View::Chains => at,
     }
 }

@@ -11,13 +11,13 @@ use program_rules::Worked;
 use terms::limits::PLACES;
 use terms::limits::REQUEST_LINES;
 use text::reader::read_request;
+use text::writer::has_room;
 use text_rules::Reading;
 use text_rules::splitter::KEPT;
 use text_rules::splitter::Splitter;
 ghost use mathlib.Core.Path.{_≡_};
 ghost use mathlib.Core.Bool.{true};
 ghost use Prim.Native.Nat.{_+_, _≤_};
-ghost use lib.Dec.{leb};
 ghost use lib.ListN.{length};
 ghost use Rattle.terms.specs.Letters.{ofRequests};
 ghost use Rattle.text_rules.specs.Lines.{readLine};
@@ -29,17 +29,6 @@ ghost use Rattle.program_rules.specs.Work.{lineRoom, due, turning, owing, workO
 const LONGEST_RECORD: usize = 24;
 // No line has more bytes of records: its own record, and one for each wake.
 pub const LINE_ROOM: usize = LONGEST_RECORD + LONGEST_RECORD * PLACES;
-
-// Whether there is room for the records of any line from a place on.
-fn has_room(room: usize, at: usize) -> bool
-    ensures { λ r. ⌜ r ≡ leb (at + lineRoom) room ⌝ }
-{
-    if at <= room {
-        LINE_ROOM <= room - at
-    } else {
-        false
-    }
-}
 
 // What the line in the splitter says.
 fn reading_of(s: Splitter) -> Reading
@@ -143,7 +132,7 @@ pub fn work(view: View, c: Clerk, chunk: &[u8], from: usize, out: &mut [u8], at:
     let mut place = at;
     let mut full = false;
     while next < chunk.len() {
-        if !has_room(out.len(), place) {
+        if !has_room(out.len(), place, LINE_ROOM) {
             full = true;
             break;
         }
@@ -191,7 +180,7 @@ pub fn finish(view: View, c: Clerk, out: &mut [u8], at: usize) -> Finished
     if !is_owing(s) {
         return Finished { at, full: false };
     }
-    if !has_room(out.len(), at) {
+    if !has_room(out.len(), at, LINE_ROOM) {
         return Finished { at, full: true };
     }
     let next = put_bad(view, out, at, s.line);

@@ -12,6 +12,7 @@ pub mod EveryPlace
 pub mod HolderTests
 pub mod StatusCodes
 pub mod Spots
+pub mod Best
 pub mod Front
 pub mod EveryGrant
 pub mod Queues

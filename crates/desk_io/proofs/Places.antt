@@ -5,18 +5,16 @@ use mathlib.Core.Path.{_≡_, refl, sym, ap, _∙_}
 use mathlib.Core.Bool.{true, false, not}
 use mathlib.Core.List.{List, [], _++_}
 use native.Mathlib.Omega.{arith}
-use lib.ListN.{length, take, length-append, length-take}
+use lib.ListN.{length, take}
 use lib.Seq.{take-add, take-all}
 use borrow.Author.Tests.{le-leb}
 use Rattle.laws.specs.Choice.{by-test, not-both}
 use Rattle.program_rules.specs.declared.Clerk.{Clerk}
 use Rattle.program_rules.specs.declared.View.{View}
 use Rattle.program_rules.specs.declared.Worked.{Worked}
-use Rattle.program_rules.specs.declared.Finished.{Finished}
-use Rattle.program_rules.specs.Work.{startedClerk, lineRoom, viewed, unended, roomy, owing, workOf, finishOf}
+use Rattle.program_rules.specs.Work.{startedClerk, lineRoom, roomy, workOf}
 use Rattle.program_rules.specs.Tellings.{clerkAfter}
 use Rattle.text_rules.specs.Split.{part}
-use Rattle.text_rules.specs.Wrote.{putFrom}
 use Rattle.program_rules.proofs.Records.{clerk-append, clerk-none}
 use Rattle.program_rules.proofs.Progress.{call-used, call-moved}
 use Rattle.program_rules.proofs.AnyCourse.{call-did}
@@ -66,15 +64,3 @@ saw-chunk {chunk = chunk} {s} w t e = by-test (s .taken) (λ y. saw-on w chunk (
 
 pub saw-part : {c : Clerk} {chunk : List ℕ} {s : Served} → Saw c → Serves c chunk s → Saw (s .clerk)
 saw-part {chunk = chunk} {s} w t = saw-on w (take (s .seen) chunk) (t .some)
-
--- bytes that are put into a buffer end within it
-put-within : (out bytes : List ℕ) (at : ℕ) → at ≤ length out → at + length bytes ≤ length (putFrom out at bytes)
-put-within out bytes at h = simp (length-append, length-take) (omega arith)
-
--- the record that the end of the input has written ends within the buffer
-pub last-within : (view : View) (c : Clerk) (out : List ℕ) (f : Finished) (after : List ℕ) → f ≡ finishOf view c out 0 .finished → after ≡ finishOf view c out 0 .out → f .at ≤ length after
-unfolding finishOf
-last-within view c out f after e g =
-    by-test (owing (c .splitter))
-    (λ o. by-test (roomy out 0) (λ r. rw (e, g, o, r) (put-within out (viewed view (unended (c .splitter .line))) 0 (omega arith))) (λ r. rw (e, g, o, r) (omega arith)))
-    (λ o. rw (e, g, o) (omega arith))

@@ -1,13 +1,15 @@
--- What the front of both desk programs does with the bytes that it reads (01, What is delivered; 01, Lines).
+-- What the front of the desk programs does with the bytes that it reads, and what it writes once it reads no more (01, What is delivered; 01, Lines; 02, No. 3).
 use Prim.Native.Nat.{ℕ, _≤_, _<_}
 use mathlib.Core.Path.{_≡_}
 use mathlib.Core.Bool.{true}
-use mathlib.Core.List.{List}
+use mathlib.Core.List.{List, [], _++_}
 use lib.ListN.{length, take}
 use Rattle.text_rules.specs.declared.splitter.Splitter.{Splitter}
 use Rattle.program_rules.specs.declared.Clerk.{Clerk}
 use Rattle.program_rules.specs.declared.View.{View}
+use Rattle.program_rules.specs.declared.View.the-variants.{Answers, History, Chains}
 use Rattle.program_rules.specs.declared.Worked.{Worked}
+use Rattle.program_rules.specs.Programs.{programOf}
 use Rattle.program_rules.specs.Work.{startedClerk, allRead}
 use Rattle.program_rules.specs.Tellings.{clerkAfter, recordsIn}
 use Rattle.text_rules.specs.Split.{part}
@@ -43,3 +45,25 @@ pub record Saw (c : Clerk) : Type 0 where
 -- the input: the clerk has seen what was read, and more is not read only for a reason
 abbrev pub Halts : Halted → Type 0
 Halts h = (Saw (h .clerk)) × (Over (h .why) (h .clerk .splitter))
+
+-- behind the records of the lines that have ended, these bytes make all that the program writes of the text
+abbrev pub MakesAll : View → List ℕ → List ℕ → Type 0
+MakesAll view text rest = recordsIn view startedClerk text ++ rest ≡ programOf view text
+
+-- after a read that failed answers and history end as after the end of the input; chains are not told, since half a text has none
+abbrev pub MakesUnread : View → List ℕ → List ℕ → Type 0
+MakesUnread Answers text rest = MakesAll Answers text rest
+MakesUnread History text rest = MakesAll History text rest
+MakesUnread Chains text rest = rest ≡ []
+
+-- what these bytes are to make, by why no more is read: after line 1,000,000 all that the program writes of the text with whatever would follow, and after a write that failed nothing
+abbrev pub Makes : View → Halt → List ℕ → List ℕ → Type 0
+Makes view Ended text rest = MakesAll view text rest
+Makes view NotRead text rest = MakesUnread view text rest
+Makes view AllRead text rest = (more : List ℕ) → recordsIn view startedClerk text ++ rest ≡ programOf view (text ++ more)
+Makes view NotTaken text rest = rest ≡ []
+
+-- once no more is read: what stands in the buffer to be written out last makes that, for whatever text the clerk has seen
+pub record Rests (view : View) (h : Halted) (at : ℕ) (out : List ℕ) : Type 0 where
+  pub within : at ≤ length out
+  pub rest : (text : List ℕ) → h .clerk ≡ clerkAfter startedClerk text → Makes view (h .why) text (take at out)

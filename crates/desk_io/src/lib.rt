@@ -1,4 +1,5 @@
-// The front of both desk programs: chunk after chunk of standard input to the clerk, and the records to standard output (01, What is delivered).
+// The front of the desk programs: chunk after chunk of standard input to the clerk, and the records, or at the end the chains, to standard output (01, What is delivered; 02, No. 3).
+use clerk::chains::close;
 use clerk::work::finish;
 use clerk::work::work;
 use libc::STDIN_FILENO;
@@ -12,7 +13,9 @@ ghost use mathlib.Core.Path.{_≡_};
 ghost use Prim.Native.Nat.{_≤_, _<_};
 ghost use lib.ListN.{length};
 ghost use Rattle.program_rules.specs.Work.{lineRoom, allRead};
-ghost use Rattle.desk_io.specs.Serving.{Turned, Serves, Halts};
+ghost use Rattle.program_rules.specs.Closing.{programRoom, endOf};
+ghost use Rattle.desk_io.specs.declared.Halt.the-variants.{NotRead};
+ghost use Rattle.desk_io.specs.Serving.{Turned, Serves, Halts, Rests};
 
 // The clerk after so many bytes of a chunk, and whether all output was taken.
 struct Served {
@@ -132,6 +135,7 @@ fn say_unread(view: View) {
     match view {
         View::Answers => os::fail(b"answers: cannot read"),
         View::History => os::fail(b"history: cannot read"),
+        View::Chains => os::fail(b"chain: cannot read"),
     }
 }
 
@@ -140,31 +144,69 @@ fn say_untaken(view: View) {
     match view {
         View::Answers => os::fail(b"answers: cannot write"),
         View::History => os::fail(b"history: cannot write"),
+        View::Chains => os::fail(b"chain: cannot write"),
     }
 }
 
-// The end of the input: the record of a last line that lacks its newline.
-fn serve_end(view: View, last: Clerk, out: &mut [u8]) {
+// Says on standard error why no more is read, where something failed.
+fn say_halt(view: View, why: Halt) {
+    match why {
+        Halt::Ended => {}
+        Halt::NotRead => say_unread(view),
+        Halt::AllRead => {}
+        Halt::NotTaken => say_untaken(view),
+    }
+}
+
+// The input has ended: the record of a last line that lacks its newline, and behind it what the program writes last, from the buffer's first byte on.
+fn put_ended(view: View, last: Clerk, out: &mut [u8]) -> usize
+    ensures { λ r. ⌜ (r ≡ endOf view last (now (out .entry)) 0 .finished .at) × (now (out .exit) ≡ endOf view last (now (out .entry)) 0 .out) ⌝ }
+{
     let finished = finish(view, last, out, 0);
-    if !put_out(out, finished.at) {
-        say_untaken(view);
+    let closed = close(view, last, out, finished.at);
+    closed.at
+}
+
+// A read failed: answers and history end as they do at the end of the input, and no chain is told of half a text.
+fn put_unread(view: View, last: Clerk, out: &mut [u8]) -> usize
+    requires { ⌜ programRoom view ≤ length (now out) ⌝ }
+    ensures { λ r. ⌜ Rests view (record { clerk = last; why = NotRead }) r (now (out .exit)) ⌝ }
+{
+    match view {
+        View::Answers => put_ended(view, last, out),
+        View::History => put_ended(view, last, out),
+        View::Chains => 0,
     }
 }
 
-// All of the input, and what is to be said at its end.
+// What is still to be written once no more is read, from the buffer's first byte on.
+fn put_rest(view: View, halted: Halted, out: &mut [u8]) -> usize
+    requires { ⌜ (programRoom view ≤ length (now out)) × (Halts halted) ⌝ }
+    ensures { λ r. ⌜ Rests view halted r (now (out .exit)) ⌝ }
+{
+    let last = halted.clerk;
+    let why = halted.why;
+    match why {
+        Halt::Ended => put_ended(view, last, out),
+        Halt::NotRead => put_unread(view, last, out),
+        Halt::AllRead => {
+            let closed = close(view, last, out, 0);
+            closed.at
+        }
+        Halt::NotTaken => 0,
+    }
+}
+
+// All of the input, and what is to be written and said at its end.
 fn serve_input(view: View, input: &mut [u8], out: &mut [u8])
-    requires { ⌜ lineRoom ≤ length (now out) ⌝ }
+    requires { ⌜ programRoom view ≤ length (now out) ⌝ }
 {
     let halted = serve_all(view, input, out);
     let why = halted.why;
-    match why {
-        Halt::Ended => serve_end(view, halted.clerk, out),
-        Halt::NotRead => {
-            say_unread(view);
-            serve_end(view, halted.clerk, out);
-        }
-        Halt::AllRead => {}
-        Halt::NotTaken => say_untaken(view),
+    say_halt(view, why);
+    let at = put_rest(view, halted, out);
+    if !put_out(out, at) {
+        say_untaken(view);
     }
 }
 

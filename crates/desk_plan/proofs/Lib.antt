@@ -1,7 +1,7 @@
 pub mod Decides
 pub mod Every
 pub mod Fitting
-pub mod Front
+pub mod Finding
 pub mod Granting
 pub mod Open
 pub mod Tests

@@ -1,4 +1,4 @@
--- No second result meets the contracts of the plan, of whether nobody waits, of the cells that somebody waits for and of the next grant.
+-- No second result meets the contracts of the plan, of where a job stands, of whether nobody waits, of the cells that somebody waits for and of the next grant.
 -- Assumes nothing.
 use mathlib.Core.Path.{sym, _∙_}
 use Rattle.laws.specs.Unique.{Unique}
@@ -8,6 +8,8 @@ use Rattle.desk_plan.proofs.grants.none_waits.Reads as none-waits
 use Rattle.desk_plan.proofs.grants.none_waits.Kinds as none-waitsK
 use Rattle.desk_plan.proofs.grants.wanted_cells.Reads as wanted-cells
 use Rattle.desk_plan.proofs.grants.wanted_cells.Kinds as wanted-cellsK
+use Rattle.desk_plan.proofs.plan.find.Reads as find
+use Rattle.desk_plan.proofs.plan.find.Kinds as findK
 use Rattle.desk_plan.proofs.plan.plan_for.Reads as plan-for
 use Rattle.desk_plan.proofs.plan.plan_for.Kinds as plan-forK
 
@@ -19,6 +21,9 @@ none-waits-unique κs a x y e f p q = p ∙ sym q
 
 pub wanted-cells-unique : Unique wanted-cellsK.ps wanted-cellsK.r wanted-cells.Post
 wanted-cells-unique κs a x y e f p q = p ∙ sym q
+
+pub find-unique : Unique findK.ps findK.r find.Post
+find-unique κs a x y e f p q = p ∙ sym q
 
 pub plan-for-unique : Unique plan-forK.ps plan-forK.r plan-for.Post
 plan-for-unique κs a x y e f p q = p ∙ sym q

@@ -36,10 +36,10 @@ ghost use Rattle.desk_arrays.specs.Moves.{foundAt, standingOf, beginMove, commi
 ghost use Rattle.terms.specs.Limits.{cells, places};
 
 // Where a job stands, and what it is doing: nothing for 0, and for a number that no place has.
-fn find<'a>(number: &'a [u32; PLACES], status: &'a [u8; PLACES], job: u32) -> Found
-    requires { ⌜ (length (now number) ≡ places) × (length (now status) ≡ places) ⌝ }
+pub fn find<'a>(number: &'a [u32; PLACES], status: &'a [u8; PLACES], job: u32) -> Found
     ensures { λ r. ⌜ r ≡ foundAt (now (number .entry)) (now (status .entry)) job ⌝ }
 {
+    sized(*number, *status);
     let place = place_of(number, job);
     if job == 0 {
         return Found { place, code: FREE };

@@ -17,7 +17,7 @@ use Rattle.desk_rules.proofs.Statuses.{waiting-live}
 use Rattle.desk_rules.proofs.AheadLaws.{ahead-in, ahead-younger}
 
 -- a mode next to which something is not granted is held
-in-way-held : (m a : Mode) → grants m a ≡ false → isFree m ≡ false
+pub in-way-held : (m a : Mode) → grants m a ≡ false → isFree m ≡ false
 in-way-held m a f = by-test (isFree m) (λ t. not-both (rw (is-free m t) (grants-free a)) f) (λ g. g)
 
 -- in a queue whose first is blocked, everybody has somebody in its way: the first its blocker, and every other the first

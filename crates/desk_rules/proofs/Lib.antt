@@ -70,5 +70,14 @@ pub mod WentAgreeing
 pub mod ShutOut
 pub mod StillShut
 pub mod UpdateLocks
+pub mod Younger
+pub mod InWayList
+pub mod YoungestHolds
+pub mod ChainIs
+pub mod AlongChain
+pub mod AskingChain
+pub mod OnlyTold
+pub mod WaitingList
+pub mod ChainsKept
 pub mod Promised
 pub mod Examples

@@ -21,6 +21,7 @@ use Rattle.desk_rules.proofs.Serial.{serial-history}
 use Rattle.desk_rules.proofs.ServedInTime.{service}
 use Rattle.desk_rules.proofs.Oldest.{ages}
 use Rattle.desk_rules.proofs.UpdateLocks.{update}
+use Rattle.desk_rules.proofs.ChainsKept.{chains}
 
 -- every started desk of the paper keeps the promises
 pub promised : {d : Desk} {h : History} → Started d h → Promises h (from d)
@@ -36,6 +37,7 @@ promised {d} s = record {
   service = service s;
   ages = ages s;
   update = update s;
+  chains = chains s;
 }
 
 -- so does a fresh one after any requests

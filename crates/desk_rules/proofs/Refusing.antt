@@ -9,7 +9,7 @@ use Rattle.laws.specs.Choice.{not-both}
 use Rattle.laws.proofs.Lists.{first-holds}
 use Rattle.terms.specs.declared.letters.Lettered.{Lettered}
 use Rattle.terms.specs.declared.refusals.Refusal.{Refusal}
-use Rattle.terms.specs.declared.refusals.Refusal.the-variants.{UnknownKind, CellAbove, NotOpen, Waiting, SentBack, AllOpen, NoNumberLeft, Running, BadLine, StartedAtZero, TooManyLines, JobOutside, Ended, ShortOrder, NoRoom, TooLong}
+use Rattle.terms.specs.declared.refusals.Refusal.the-variants.{UnknownKind, CellAbove, NotOpen, Waiting, SentBack, AllOpen, NoNumberLeft, Running, BadLine, StartedAtZero, TooManyLines, JobOutside, Ended, ShortOrder, NoRoom, TooLong, ShortList}
 use Rattle.terms.specs.Letters.{letterOf}
 use Rattle.terms.specs.Refusals.{numberOf}
 use Rattle.desk_rules.specs.declared.Answer.{Answer}
@@ -58,7 +58,7 @@ meant-answers d i none o m j h = (refl, one-job h m)
 pub due-refused : (d : Desk) (r : Request) (why : Refusal) → Due d r why → step d r ≡ refused d why
 due-refused d r why e = subst (λ v. Meant d (named d r) v (step d r)) e (step-meant d r)
 
--- rows 9 to 16 never hold for a step
+-- rows from 9 on never hold for a step
 row-number : (l : Lettered) (s : Status) (c : ℕ) (d : Desk) (why : Refusal) → holds l s c d why ≡ true → (1 ≤ numberOf why) × (numberOf why ≤ 8)
 unfolding holds
 row-number l s c d UnknownKind h = omega arith
@@ -77,6 +77,7 @@ row-number l s c d Ended h = not-both h refl
 row-number l s c d ShortOrder h = not-both h refl
 row-number l s c d NoRoom h = not-both h refl
 row-number l s c d TooLong h = not-both h refl
+row-number l s c d ShortList h = not-both h refl
 
 -- a wait and a back are answers to requests for a cell alone
 only-go : (d : Desk) (r : Request) → letterIs asksNoCell (letterOf (r .kind)) ≡ true → (x : Answer) {j : ℕ} → step d r .said ≡ x → Answers x j → x ≡ Go j

@@ -12,7 +12,7 @@ use Rattle.desk_rules.proofs.Statuses.{waiting-open}
 use Rattle.desk_rules.proofs.InTheWay.{way-some, way-younger, way-live}
 
 -- a live job runs or waits
-live-split : {P : Type 0} (s : Status) → isLive s ≡ true → (s ≡ running → P) → ((c : ℕ) (a : Ask) → s ≡ waiting c a → P) → P
+pub live-split : {P : Type 0} (s : Status) → isLive s ≡ true → (s ≡ running → P) → ((c : ℕ) (a : Ask) → s ≡ waiting c a → P) → P
 unfolding isLive
 live-split closed h f g = not-both h refl
 live-split running h f g = f refl

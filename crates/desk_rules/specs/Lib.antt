@@ -20,6 +20,9 @@ pub mod Invariant
 pub mod Releasing
 pub mod Ages
 pub mod UpdateLock
+pub mod Chain
+pub mod AskedChain
+pub mod Chains
 pub mod Service
 pub mod StepEffects
 pub mod Promises
@@ -31,3 +34,4 @@ pub mod Recorded
 pub mod DeskLimits
 pub mod SerialHistory
 pub mod Examples
+pub mod ChainExamples

@@ -14,6 +14,7 @@ use Rattle.desk_rules.specs.SerialHistory.{SerialHistory}
 use Rattle.desk_rules.specs.Service.{Service}
 use Rattle.desk_rules.specs.Ages.{Ages}
 use Rattle.desk_rules.specs.UpdateLock.{UpdateLock}
+use Rattle.desk_rules.specs.Chains.{Chains}
 
 pub record Promises (h : History) (k : Course) : Type 0 where
   -- demand 1: refusals exactly, and rules 1 to 5
@@ -31,3 +32,5 @@ pub record Promises (h : History) (k : Course) : Type 0 where
   pub ages : Ages k
   -- the update lock (02, No. 1)
   pub update : UpdateLock k
+  -- chains (02, No. 3)
+  pub chains : Chains (now k)

@@ -11,7 +11,7 @@ use Rattle.terms.specs.declared.letters.Letter.the-variants.{Begin, Commit, Giv
 use Rattle.terms.specs.declared.letters.Lettered.{Lettered}
 use Rattle.terms.specs.declared.letters.Lettered.the-variants.{Known, Unknown}
 use Rattle.terms.specs.declared.refusals.Refusal.{Refusal}
-use Rattle.terms.specs.declared.refusals.Refusal.the-variants.{UnknownKind, CellAbove, NotOpen, Waiting, SentBack, AllOpen, NoNumberLeft, Running, BadLine, StartedAtZero, TooManyLines, JobOutside, Ended, ShortOrder, NoRoom, TooLong}
+use Rattle.terms.specs.declared.refusals.Refusal.the-variants.{UnknownKind, CellAbove, NotOpen, Waiting, SentBack, AllOpen, NoNumberLeft, Running, BadLine, StartedAtZero, TooManyLines, JobOutside, Ended, ShortOrder, NoRoom, TooLong, ShortList}
 use Rattle.terms.specs.Letters.{letterOf, ofRequests, hasCell}
 use Rattle.terms.specs.Limits.{cells, lastNumber}
 use Rattle.laws.specs.Lists.{member, firstOf}
@@ -122,7 +122,7 @@ noNumberLeft l next = letterIs isBegin l && ltb lastNumber next
 abbrev pub retriesRunning : Lettered → Status → Bool
 retriesRunning l s = letterIs isRetry l && isRunning s
 
--- the table: when the row of each refusal holds. Rows 9 to 16 are not the desk's, or not a step's
+-- the table: when the row of each refusal holds. Rows from 9 on are not the desk's, or not a step's
 unfoldable pub holds : Lettered → Status → ℕ → Desk → Refusal → Bool
 holds l s c d UnknownKind = otherKind l
 holds l s c d CellAbove = cellAbove l c
@@ -140,6 +140,7 @@ holds l s c d Ended = false
 holds l s c d ShortOrder = false
 holds l s c d NoRoom = false
 holds l s c d TooLong = false
+holds l s c d ShortList = false
 
 -- the order of the tests: 1 first; begin tests 7, then 6; other kinds test 3, 4, 5, 8, then 2
 unfoldable pub order : Lettered → List Refusal

@@ -10,7 +10,8 @@ use Rattle.conflict.specs.Dirty.{ReadOf, dirtyOf}
 use Rattle.judge_rules.specs.declared.verdict.Verdict.{Verdict}
 use Rattle.judge_rules.specs.declared.verdict.Verdict.the-variants.{Dirty}
 use Rattle.judge_rules.specs.Judged.{findingOf}
-use Rattle.judge_rules.specs.Judgement.{filled, sayFinding, sayHistory}
+use Rattle.laws.specs.Lists.{filled}
+use Rattle.judge_rules.specs.Judgement.{sayFinding, sayHistory}
 use Rattle.judge_core.specs.declared.dirty.Dirt.{Dirt}
 use Rattle.judge_core.specs.declared.dirty.Dirt.the-variants.{Clean, Read}
 use Rattle.judge_core.specs.Rounds.{putIn}

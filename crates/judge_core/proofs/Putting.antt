@@ -8,8 +8,8 @@ use native.Mathlib.Numerals.{add-one}
 use native.Mathlib.Omega.{arith}
 use lib.ListN.{length, getD, set, take, drop, length-append, length-drop}
 use lib.Seq.{paste, paste-zero, paste-suc, length-paste, take-length, take-at, drop-at, drop-drop, length-take-le, take-all}
+use Rattle.laws.specs.Lists.{filled}
 use Rattle.judge_rules.specs.Knot.{turn}
-use Rattle.judge_rules.specs.Judgement.{filled}
 use Rattle.judge_core.specs.Rounds.{putIn}
 
 -- the first i bytes of a part are put in

@@ -8,7 +8,7 @@ use mathlib.Core.Option.{Option, none, some}
 use native.Mathlib.Nat.{zero-add}
 use native.Mathlib.Omega.{arith}
 use lib.ListN.{length, take, drop, length-append, length-take, length-drop}
-use Rattle.laws.specs.Lists.{member}
+use Rattle.laws.specs.Lists.{member, filled}
 use Rattle.conflict.specs.Schedule.{edge}
 use Rattle.conflict.specs.History.{History, committedPart}
 use Rattle.judge_rules.specs.declared.verdict.Verdict.{Verdict}
@@ -17,7 +17,7 @@ use Rattle.judge_rules.specs.Order.{Edges, first, preceded, ascending, orderOf,
 use Rattle.judge_rules.specs.Knot.{least, upTo, from, walk, turnTo, turn, knotIn}
 use Rattle.judge_rules.specs.Judged.{orderly, knotted, findingBy, judged, jobsOf, findingOf}
 use Rattle.judge_rules.specs.Meant.{Knotted}
-use Rattle.judge_rules.specs.Judgement.{filled, sayFinding}
+use Rattle.judge_rules.specs.Judgement.{sayFinding}
 use Rattle.judge_rules.proofs.Firsts.{first-is}
 use Rattle.judge_rules.proofs.Turns.{cut}
 use Rattle.judge_rules.proofs.Orders.{taken-only, taken-once, rest-ascending}

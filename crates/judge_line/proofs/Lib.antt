@@ -1,4 +1,3 @@
-pub mod TabbedLaws
 pub mod SpareRoom
 pub mod WordLines
 pub mod Saying

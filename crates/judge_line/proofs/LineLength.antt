@@ -9,10 +9,10 @@ use native.Mathlib.Nat.{zero-add}
 use native.Mathlib.Omega.{arith}
 use borrow.Author.Tests.{le-leb, le-ltb}
 use lib.Dec.{ltb}
-use lib.ListN.{length, take, drop, replicate, length-append, length-replicate}
-use lib.Seq.{take-append-seam}
+use lib.ListN.{length, take, replicate, length-append, length-replicate}
 use Rattle.laws.specs.Choice.{by-test}
 use Rattle.laws.specs.Lists.{member, distinct}
+use Rattle.laws.proofs.Filled.{filled-first}
 use Rattle.laws.proofs.Lists.{member-first, member-more}
 use Rattle.terms.specs.declared.refusals.Refusal.{Refusal}
 use Rattle.terms.specs.declared.refusals.Refusal.the-variants.{TooLong}
@@ -21,7 +21,7 @@ use Rattle.terms.specs.declared.words.Word.{Word}
 use Rattle.terms.specs.Limits.{judgedJobs, judgedLines, judgedBytes}
 use Rattle.terms.specs.Refusals.{numberOf}
 use Rattle.terms.specs.Words.{tab}
-use Rattle.terms.proofs.Numbers.{one-to-sixteen}
+use Rattle.terms.proofs.Numbers.{within-table}
 use Rattle.conflict.specs.History.{isCommit, marked}
 use Rattle.conflict.specs.Dirty.{ReadOf, dirtyOf}
 use Rattle.conflict.proofs.DirtyFound.{dirty-exactly}
@@ -35,7 +35,7 @@ use Rattle.text_rules.proofs.WriterLaws.{told-next, left-text}
 use Rattle.judge_rules.specs.Judged.{orderly, knotted, findingOf}
 use Rattle.judge_rules.specs.LineTable.{AllFaultless}
 use Rattle.judge_rules.specs.HistoryText.{readingsOf, Faulty, firstFaulty, eventsIn, Tells}
-use Rattle.judge_rules.specs.Judgement.{filled, sayFinding, sayHistory, sayLines, judgementOf}
+use Rattle.judge_rules.specs.Judgement.{sayFinding, sayHistory, sayLines, judgementOf}
 use Rattle.judge_rules.proofs.Deciding.{by-finding}
 use Rattle.judge_rules.proofs.FewJobs.{at-most-255, committed-within}
 use Rattle.judge_rules.proofs.Histories.{jobs-committed, order-once, order-names, knot-shows}
@@ -66,13 +66,8 @@ jobs-at-most w js once r =
 -- a line of the word no, a line number up to 4,097 and a refusal
 no-at-most : (n : ℕ) (why : Refusal) → n ≤ suc judgedLines → length (wordLine word.the-variants.No (n ∷ numberOf why ∷ [])) ≤ lineLimit
 no-at-most n why h =
-    let r = one-to-sixteen why in
+    let r = within-table why in
     omega (arith, two-numbers-length word.the-variants.No n (numberOf why), digits-at-most 3 n (omega arith), digits-at-most 1 (numberOf why) (omega arith))
-
--- the jobs that fill the first places of a buffer stand there
-filled-first : (js buffer : List ℕ) → take (length js) (filled js buffer) ≡ js
-unfolding filled
-filled-first js buffer = take-append-seam js (drop (length js) buffer)
 
 module _ (ls : List Reading) (e : firstFaulty 1 [] ls ≡ none) (buffer : List ℕ) where
   -- no line has a fault

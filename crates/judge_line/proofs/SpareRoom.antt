@@ -10,7 +10,7 @@ use lib.Dec.{leb}
 use lib.ListN.{length, take, getD}
 use Rattle.text_rules.specs.Decimal.{decimal}
 use Rattle.text_rules.specs.Records.{tabbed}
-use Rattle.judge_line.proofs.TabbedLaws.{next-length, first-shorter, tabbed-all}
+use Rattle.text_rules.proofs.TabbedLaws.{next-length, first-shorter, tabbed-all}
 
 -- what is left, and the fields of the first numbers, make the room
 pub record Spare (ns : List ℕ) (room spare i : ℕ) : Type 0 where

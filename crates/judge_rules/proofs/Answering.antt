@@ -6,8 +6,7 @@ use mathlib.Core.List.{List, [], _∷_}
 use mathlib.Core.Option.{Option, none, some}
 use native.Mathlib.Omega.{arith}
 use lib.Dec.{ltb}
-use lib.ListN.{length, drop, length-append, length-drop}
-use lib.Seq.{take-append-seam, drop-append-seam}
+use lib.ListN.{length}
 use borrow.Author.Tests.{ltb-true, ltb-false}
 use Rattle.laws.specs.Choice.{by-test}
 use Rattle.terms.specs.Limits.{judgedJobs}
@@ -19,24 +18,16 @@ use Rattle.judge_rules.specs.Judged.{Finding, orderly, knotted, jobsOf, 
 use Rattle.judge_rules.specs.Meant.{Knotted, Says}
 use Rattle.judge_rules.specs.Meant.Says.{says-order, says-cycle}
 use Rattle.judge_rules.specs.HistoryText.{readingsOf, Faulty, firstFaulty, eventsIn, Tells}
-use Rattle.judge_rules.specs.Judgement.{filled, sayFinding, sayHistory, sayLines, judgementOf}
+use Rattle.laws.specs.Lists.{filled}
+use Rattle.laws.proofs.Filled.{fills}
+use Rattle.judge_rules.specs.Judgement.{sayFinding, sayHistory, sayLines, judgementOf}
 use Rattle.judge_rules.specs.LineTable.{AllFaultless}
-use Rattle.judge_rules.specs.Answers.{Fills, InOrder, InKnot, Answers}
+use Rattle.judge_rules.specs.Answers.{InOrder, InKnot, Answers}
 use Rattle.judge_rules.specs.Answers.Answers.{short, faulty, in-dirt, in-order, in-knot}
 use Rattle.judge_rules.proofs.Histories.{jobs-committed, order-serial, order-once, order-names, order-smallest, knot-shows, finding-exactly}
 use Rattle.judge_rules.proofs.LineFaults.{finds-fault}
 use Rattle.judge_rules.proofs.LineBack.{bare-stands}
 use Rattle.judge_rules.proofs.FewJobs.{at-most-255, committed-within}
-
--- jobs put into a buffer that has room for them fill its first places
-fills : (jobs buffer : List ℕ) → length jobs ≤ length buffer → Fills jobs buffer (filled jobs buffer)
-unfolding filled
-fills jobs buffer h =
-    record {
-      first = take-append-seam jobs (drop (length jobs) buffer);
-      rest = drop-append-seam jobs (drop (length jobs) buffer);
-      size = omega (arith, length-append jobs (drop (length jobs) buffer), length-drop (length jobs) buffer);
-    }
 
 module _ (text buffer : List ℕ) (room : judgedJobs ≤ length buffer) (all : AllFaultless (readingsOf text)) (clean : IsDirty (eventsIn (readingsOf text)) → ⊥) where
   -- an order said of a faultless text is the paper's, and has at most 255 jobs

@@ -15,7 +15,7 @@ use Rattle.judge_rules.specs.Knot.{upTo, from, walk, least, turnTo, turn
 use Rattle.judge_rules.specs.Meant.{Smallest, Cycle, Shown}
 use Rattle.judge_rules.specs.Meant.Walk.{starts}
 use Rattle.judge_rules.proofs.Firsts.{head-least}
-use Rattle.judge_rules.proofs.Joined.{not-empty}
+use Rattle.laws.proofs.Joined.{not-empty}
 use Rattle.judge_rules.proofs.Turns.{cut, from-first, least-is, least-low, turned-keeps, turned-member, turned-once}
 use Rattle.judge_rules.proofs.Walking.{cycle-knot, cycle-within, cycle-once, walk-closes}
 

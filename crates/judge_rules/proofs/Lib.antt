@@ -4,7 +4,6 @@ pub mod Preceded
 pub mod Taking
 pub mod Orders
 pub mod Remains
-pub mod Joined
 pub mod Fits
 pub mod SmallestFirst
 pub mod Turns

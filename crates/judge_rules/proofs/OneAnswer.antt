@@ -3,11 +3,11 @@
 use Prim.Native.Nat.{ℕ, _≤_, _<_}
 use mathlib.Core.Path.{_≡_, refl, sym, ap, ap₂, _∙_, subst}
 use mathlib.Core.Logic.{_↔_}
-use mathlib.Core.List.{List, [], _∷_, _++_}
+use mathlib.Core.List.{List, [], _∷_}
 use mathlib.Core.Option.{Option, none, some}
 use native.Mathlib.Omega.{arith}
 use lib.Dec.{ltb}
-use lib.ListN.{length, take-append-drop}
+use lib.ListN.{length}
 use borrow.Author.Tests.{ltb-true, ltb-false, lt-ltb, le-ltb}
 use Rattle.laws.specs.Choice.{by-test}
 use Rattle.terms.specs.declared.refusals.Refusal.{Refusal}
@@ -21,9 +21,11 @@ use Rattle.judge_rules.specs.declared.verdict.Verdict.the-variants.{Orde
 use Rattle.judge_rules.specs.Judged.{orderly, knotted, findingOf}
 use Rattle.judge_rules.specs.Meant.Says.{says-order, says-cycle}
 use Rattle.judge_rules.specs.HistoryText.{readingsOf, lineAt, Faulty, firstFaulty, eventsIn, bare, Tells}
-use Rattle.judge_rules.specs.Judgement.{Judgement, filled, sayFinding, sayHistory, sayLines, judgementOf}
+use Rattle.laws.specs.Lists.{filled}
+use Rattle.laws.proofs.Filled.{fills-only}
+use Rattle.judge_rules.specs.Judgement.{Judgement, sayFinding, sayHistory, sayLines, judgementOf}
 use Rattle.judge_rules.specs.LineTable.{Faultless, Due, FirstFault, AllFaultless}
-use Rattle.judge_rules.specs.Answers.{Fills, Answers}
+use Rattle.judge_rules.specs.Answers.{Answers}
 use Rattle.judge_rules.specs.Answers.Answers.{short, faulty, in-dirt, in-order, in-knot}
 use Rattle.judge_rules.proofs.Histories.{finding-exactly}
 use Rattle.judge_rules.proofs.LineFaults.{finds-fault}
@@ -50,11 +52,6 @@ one-fault ls m n x y f g =
 -- where every line is faultless none is refused
 pub no-fault : {P : Type 0} (ls : List Reading) (n : ℕ) (why : Refusal) → AllFaultless ls → FirstFault ls n why → P
 no-fault ls n why all f = never-both ls n why (all n (f .from) (f .to)) (f .due)
-
--- nothing else is in the buffer where jobs fill its first places
-fills-only : (jobs before after : List ℕ) → Fills jobs before after → after ≡ filled jobs before
-unfolding filled
-fills-only jobs before after f = sym (take-append-drop (length jobs) after) ∙ ap₂ (λ s t. s ++ t) (f .first) (f .rest)
 
 -- two answers that say the same and leave and hand back the same are one
 same-answer : {j k : Judgement} → j .said ≡ k .said → j .order ≡ k .order → j .line ≡ k .line → j ≡ k

@@ -14,7 +14,7 @@ use Rattle.judge_rules.specs.Knot.{predecessor, walk, least, turnTo, tur
 use Rattle.judge_rules.specs.Meant.{Smallest, Walk, Cycle, Shown}
 use Rattle.judge_rules.specs.Meant.Walk.{starts, goes}
 use Rattle.judge_rules.proofs.Firsts.{head-least, smallest-found}
-use Rattle.judge_rules.proofs.Joined.{member-append, not-empty-mid}
+use Rattle.laws.proofs.Joined.{member-append, not-empty-mid}
 use Rattle.judge_rules.proofs.Turns.{upTo-mid, from-mid, least-is, least-low, turned-member, turned-once}
 use Rattle.judge_rules.proofs.Walking.{no-more, walk-within, walk-once, cycle-once, walk-closes}
 use Rattle.judge_rules.proofs.Knots.{start-smallest}

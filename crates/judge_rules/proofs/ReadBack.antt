@@ -12,7 +12,7 @@ use lib.Seq.{take-at, getD-at}
 use borrow.Author.Tests.{eqb-true, eqb-false, le-ltb}
 use Rattle.laws.specs.Choice.{by-test, not-both}
 use Rattle.terms.specs.declared.refusals.Refusal.{Refusal}
-use Rattle.terms.specs.declared.refusals.Refusal.the-variants.{UnknownKind, CellAbove, NotOpen, Waiting, SentBack, AllOpen, NoNumberLeft, Running, BadLine, StartedAtZero, TooManyLines, JobOutside, Ended, ShortOrder, NoRoom, TooLong}
+use Rattle.terms.specs.declared.refusals.Refusal.the-variants.{UnknownKind, CellAbove, NotOpen, Waiting, SentBack, AllOpen, NoNumberLeft, Running, BadLine, StartedAtZero, TooManyLines, JobOutside, Ended, ShortOrder, NoRoom, TooLong, ShortList}
 use Rattle.terms.specs.Letters.{ofHistories, hasCell}
 use Rattle.terms.specs.Limits.{lastNumber}
 use Rattle.conflict.specs.declared.action.Mark.{Mark}
@@ -178,3 +178,4 @@ only-limits ls all n why f = by-row why (due-holds ls n why (f .due))
     by-row ShortOrder t = unfold holds in not-both t refl
     by-row NoRoom t = unfold holds in not-both t refl
     by-row TooLong t = unfold holds in not-both t refl
+    by-row ShortList t = unfold holds in not-both t refl

@@ -18,7 +18,7 @@ use Rattle.judge_rules.proofs.Without.{left-before, left-other, ascendi
 use Rattle.judge_rules.proofs.Firsts.{by-one}
 use Rattle.judge_rules.proofs.Preceded.{ready-smallest}
 use Rattle.judge_rules.proofs.Orders.{still}
-use Rattle.judge_rules.proofs.Joined.{head-same, tail-same, not-empty-mid, nobody}
+use Rattle.laws.proofs.Joined.{head-same, tail-same, not-empty-mid, nobody}
 use Rattle.judge_rules.proofs.Fits.{fits-first, first-fits, fits-more, fits-less}
 
 module _ (e : Edges) where

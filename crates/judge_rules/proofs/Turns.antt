@@ -12,7 +12,7 @@ use Rattle.laws.specs.Lists.{member, distinct}
 use Rattle.laws.proofs.Lists.{same-refl, same-sym, member-first, member-later, member-more, once-first, once-rest}
 use Rattle.laws.proofs.Parts.{and-both, or-either, nor-first, nor-second}
 use Rattle.judge_rules.specs.Knot.{upTo, from, least}
-use Rattle.judge_rules.proofs.Joined.{member-append}
+use Rattle.laws.proofs.Joined.{member-append}
 
 -- what stands up to a job and what stands from it on are the whole
 pub cut : (j : ℕ) (ks : List ℕ) → ks ≡ upTo j ks ++ from j ks

@@ -3,8 +3,8 @@ use Prim.Native.Nat.{ℕ, _≤_, _<_}
 use mathlib.Core.Path.{_≡_}
 use mathlib.Core.Bool.{true}
 use mathlib.Core.List.{List, [], _∷_, _++_}
-use lib.ListN.{length, take, drop}
-use Rattle.laws.specs.Lists.{member, distinct}
+use lib.ListN.{length}
+use Rattle.laws.specs.Lists.{member, distinct, Fills}
 use Rattle.terms.specs.declared.refusals.Refusal.{Refusal}
 use Rattle.terms.specs.declared.refusals.Refusal.the-variants.{ShortOrder}
 use Rattle.terms.specs.Words.{newline}
@@ -31,12 +31,6 @@ pub record Stands (text : List ℕ) (n : ℕ) (bytes : List ℕ) : Type 0 where
   pub place : text ≡ joined (linesBefore (linesOf text) n) ++ bytes ++ rest
   pub whole : NewlineOff (lineAt (linesOf text) n) bytes
   pub one : noNewline bytes ≡ true
-
--- jobs fill the first places of the buffer, and the rest stay (01, The judge's rules)
-pub record Fills (jobs before after : List ℕ) : Type 0 where
-  pub first : take (length jobs) after ≡ jobs
-  pub rest : drop (length jobs) after ≡ drop (length jobs) before
-  pub size : length after ≡ length before
 
 -- dirty, of a history: reader and writer are those of its first dirty read, and fill the buffer's first two places (02, No. 2)
 pub record InDirt (h : History) (before after : List ℕ) (reader writer : ℕ) : Type 0 where

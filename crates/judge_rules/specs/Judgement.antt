@@ -1,10 +1,11 @@
 -- The judge whole: what it says of a text and an order buffer, and what it leaves in the buffer (01, The judge's rules; 01, Refusals by number).
-use Prim.Native.Nat.{ℕ, _+_}
-use mathlib.Core.List.{List, [], _∷_, _++_}
+use Prim.Native.Nat.{ℕ}
+use mathlib.Core.List.{List, [], _∷_}
 use mathlib.Core.Option.{Option, none, some}
 use lib.Dec.{ltb}
-use lib.ListN.{length, drop}
+use lib.ListN.{length}
 use Rattle.laws.specs.Choice.{pick}
+use Rattle.laws.specs.Lists.{filled}
 use Rattle.terms.specs.declared.refusals.Refusal.the-variants.{ShortOrder}
 use Rattle.terms.specs.Refusals.{numberOf}
 use Rattle.terms.specs.Limits.{judgedJobs}
@@ -23,11 +24,7 @@ pub record Judgement : Type 0 where
   pub order : List ℕ
   pub line : List ℕ
 
--- jobs fill the first places of the buffer, and the rest stay (01, The judge's rules)
-unfoldable pub filled : List ℕ → List ℕ → List ℕ
-filled jobs buffer = jobs ++ drop (length jobs) buffer
-
--- the verdict by the order or the knot that is found: the length is said, the jobs fill the buffer, and no line is handed back
+-- the verdict by the order or the knot that is found: the length is said, the jobs fill the first places of the buffer and the rest stay, and no line is handed back (01, The judge's rules)
 unfoldable pub sayFinding : List ℕ → Finding → Judgement
 sayFinding buffer (orderly order) = record { said = Orderly (length order); order = filled order buffer; line = [] }
 sayFinding buffer (knotted js) = record { said = Knot (length js); order = filled js buffer; line = [] }

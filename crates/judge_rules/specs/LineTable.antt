@@ -6,11 +6,10 @@ use mathlib.Core.List.{List, [], _∷_}
 use mathlib.Core.Option.{Option, none, some}
 use lib.Dec.{eqb, leb}
 use lib.ListN.{length, getD, take}
-use Rattle.laws.specs.Choice.{pick}
 use Rattle.laws.specs.Lists.{firstOf}
 use Rattle.terms.specs.declared.letters.Letter.the-variants.{Begin, Commit, GiveUp, Retry, Back, Asks}
 use Rattle.terms.specs.declared.refusals.Refusal.{Refusal}
-use Rattle.terms.specs.declared.refusals.Refusal.the-variants.{UnknownKind, CellAbove, NotOpen, Waiting, SentBack, AllOpen, NoNumberLeft, Running, BadLine, StartedAtZero, TooManyLines, JobOutside, Ended, ShortOrder, NoRoom, TooLong}
+use Rattle.terms.specs.declared.refusals.Refusal.the-variants.{UnknownKind, CellAbove, NotOpen, Waiting, SentBack, AllOpen, NoNumberLeft, Running, BadLine, StartedAtZero, TooManyLines, JobOutside, Ended, ShortOrder, NoRoom, TooLong, ShortList}
 use Rattle.terms.specs.Letters.{hasCell}
 use Rattle.terms.specs.Limits.{cells, judgedJobs, judgedLines}
 use Rattle.text_rules.specs.declared.Reading.{Reading}
@@ -81,6 +80,7 @@ holds n before r Ended = overAlready before r
 holds n before r ShortOrder = false
 holds n before r NoRoom = false
 holds n before r TooLong = false
+holds n before r ShortList = false
 
 -- the row of this refusal holds for line n of the lines
 abbrev pub holdsAt : List Reading → ℕ → Refusal → Bool

@@ -1,2 +1,4 @@
 pub mod Parts
 pub mod Lists
+pub mod Joined
+pub mod Filled

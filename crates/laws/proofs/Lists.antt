@@ -1,6 +1,6 @@
 -- Laws of lists of numbers, such as jobs: who is in one, whether it names each once, where one stands in it, and one more in front.
 -- Assumes nothing.
-use Prim.Native.Nat.{ℕ, suc, _<_}
+use Prim.Native.Nat.{ℕ, zero, suc, _<_}
 use mathlib.Core.Path.{_≡_, refl, sym, ap, subst, _∙_}
 use mathlib.Core.Bool.{Bool, true, false, not, _&&_, _||_, and-true, and-false}
 use mathlib.Core.List.{List, [], _∷_}
@@ -8,6 +8,7 @@ use mathlib.Core.Option.{some}
 use native.Mathlib.Omega.{arith}
 use borrow.Author.Tests.{eqb-true, eqb-false, eq-eqb, ne-eqb, not-true}
 use lib.Dec.{eqb}
+use lib.ListN.{length, getD}
 use Rattle.laws.specs.Choice.{by-test, not-both}
 use Rattle.laws.specs.Lists.{member, distinct, pos, put, firstOf}
 use Rattle.laws.proofs.Parts.{and-first, and-second}
@@ -65,6 +66,15 @@ pub member-more : (k : ℕ) (ks : List ℕ) (j : ℕ) → member j ks ≡ true �
 unfolding member
 member-more k ks j h = by-test (eqb k j) (λ t. rw t) (λ f. rw f h)
 
+-- who is in a list is its first or in the rest
+pub member-split : {P : Type 0} (k : ℕ) (ks : List ℕ) (i : ℕ) → member i (k ∷ ks) ≡ true → (k ≡ i → P) → (member i ks ≡ true → P) → P
+member-split k ks i h f g = by-test (eqb k i) (λ t. f (eqb-true k i t)) (λ n. g (sym (member-later k ks i n) ∙ h))
+
+-- nobody is in an empty list
+pub member-none : {P : Type 0} (i : ℕ) → member i [] ≡ true → P
+unfolding member
+member-none i h = not-both h refl
+
 -- a list that names none twice does not name its first again
 pub once-first : (k : ℕ) (ks : List ℕ) → distinct (k ∷ ks) ≡ true → member k ks ≡ false
 unfolding distinct
@@ -107,3 +117,15 @@ first-holds f (y ∷ ys) x e =
   where
     same-some : {A : Type 0} (y x : A) → some y ≡ some x → y ≡ x
     same-some y x q = cc
+
+-- within a list any default reads the same
+pub any-default : (l : List ℕ) (q x y : ℕ) → q < length l → getD l q x ≡ getD l q y
+any-default [] q x y h = absurd (omega arith)
+any-default (k ∷ ks) zero x y h = refl
+any-default (k ∷ ks) (suc q) x y h = any-default ks q x y (omega arith)
+
+-- what is above a number stands within the list
+pub above-within : (l : List ℕ) (q y : ℕ) → y < getD l q 0 → q < length l
+above-within [] q y h = absurd (omega arith)
+above-within (k ∷ ks) zero y h = omega arith
+above-within (k ∷ ks) (suc q) y h = omega (arith, above-within ks q y h)

@@ -55,7 +55,7 @@ course-stands {view} (works {c = c} {out = out} {at = at} k chunk from) = did-st
 course-stands (empties k next) = empty-stands (course-stands k) next
 
 -- the lines that are found in a text and at its end are those of the text as one chunk
-one-chunk : (text : List ℕ) → foundIn fresh text ++ foundLast (afterAll fresh text) ≡ numberedOn 1 (linesOf text)
+pub one-chunk : (text : List ℕ) → foundIn fresh text ++ foundLast (afterAll fresh text) ≡ numberedOn 1 (linesOf text)
 unfolding foundOver joined following
 one-chunk text = finds-all (text ∷ []) ∙ ap (λ t. numberedOn 1 (linesOf t)) (append-nil text)
 
@@ -70,9 +70,12 @@ unfolding written
 owed-written v true t = append-nil (v t)
 owed-written v false t = refl
 
+-- the record of a line under way that is to be answered although it lacks its newline, if there is one
+abbrev pub owed : View → Splitter → List ℕ
+owed view s = pick (owing s) (viewed view (unended (s .line))) []
+
 -- what the end of the input adds
-pub last-records : (view : View) (text : List ℕ) →
-    recordsIn view startedClerk text ++ pick (owing (afterAll fresh text)) (viewed view (unended (afterAll fresh text .line))) [] ≡ written (viewed view) (arraysRun text)
+pub last-records : (view : View) (text : List ℕ) → recordsIn view startedClerk text ++ owed view (afterAll fresh text) ≡ written (viewed view) (arraysRun text)
 unfolding recordsIn startedClerk
 last-records view text =
     let d = emptyDesk firstNumber in
@@ -89,8 +92,8 @@ unfolding clerkAfter startedClerk
 seen-splitter text e = ap (λ x. x .splitter) e
 
 -- the end of the input: its record stands behind the others
-finish-take : (view : View) (c : Clerk) (out : List ℕ) (at : ℕ) → at ≤ length out → roomy out at ≡ true →
-    take (finishOf view c out at .finished .at) (finishOf view c out at .out) ≡ take at out ++ pick (owing (c .splitter)) (viewed view (unended (c .splitter .line))) []
+pub finish-take : (view : View) (c : Clerk) (out : List ℕ) (at : ℕ) → at ≤ length out → roomy out at ≡ true →
+    take (finishOf view c out at .finished .at) (finishOf view c out at .out) ≡ take at out ++ owed view (c .splitter)
 unfolding finishOf
 finish-take view c out at h g =
     by-test (owing (c .splitter)) (λ e. rw (e, g) (put-take out at (viewed view (unended (c .splitter .line))) h)) (λ e. rw e (sym (append-nil (take at out))))
@@ -100,8 +103,7 @@ pub course-finishes : {view : View} {text sent : List ℕ} {c : Clerk} {out : Li
     sent ++ take (finishOf view c out at .finished .at) (finishOf view c out at .out) ≡ written (viewed view) (arraysRun text)
 course-finishes {view} {text} {sent} {c} {out} {at} k g =
     let s = course-stands k in
-    let r : Splitter → List ℕ = λ x. pick (owing x) (viewed view (unended (x .line))) [] in
     ap (λ l. sent ++ l) (finish-take view c out at (s .within) g)
-    ∙ sym (append-assoc sent (take at out) (r (c .splitter)))
-    ∙ ap₂ (λ l x. l ++ r x) (s .said) (seen-splitter text (s .clerk))
+    ∙ sym (append-assoc sent (take at out) (owed view (c .splitter)))
+    ∙ ap₂ (λ l x. l ++ owed view x) (s .said) (seen-splitter text (s .clerk))
     ∙ last-records view text

@@ -1,4 +1,4 @@
--- After line 1,000,000 nothing more is written, whatever follows: a program may stop reading there (01, Lines).
+-- After line 1,000,000 nothing more is written and the desk stays as it is, whatever follows: a program may stop reading there (01, Lines).
 -- Assumes nothing.
 use Prim.Native.Nat.{ℕ, _+_, _-_, _^_, _≤_, _<_}
 use mathlib.Core.Path.{_≡_, refl, sym, ap, _∙_}
@@ -19,7 +19,7 @@ use Rattle.program_rules.specs.OverLines.{written}
 use Rattle.desk_arrays.specs.Seen.{onArrays}
 use Rattle.program_rules.specs.Programs.{arraysRun}
 use Rattle.program_rules.specs.Work.{startedClerk, viewed, unended, owing, allRead}
-use Rattle.program_rules.specs.Tellings.{tellings, clerkAfter, recordsIn}
+use Rattle.program_rules.specs.Tellings.{tellings, deskAfter, clerkAfter, recordsIn}
 use Rattle.program_rules.proofs.Records.{records-append}
 use Rattle.program_rules.proofs.AnyCourse.{last-records}
 
@@ -59,6 +59,23 @@ none-told step d s [] h = unfold tellings in refl
 none-told step d s (b ∷ t) h =
     past-told step d (taken s b) (foundIn (taken s b) t) (past-taken s b h) ∙ none-told step d (taken s b) t (past-read (taken s b) (past-taken s b h))
 
+-- by a line past the 1,000,000th the desk is not changed
+past-moved : {S : Type 0} (step : Stepping S) (d : S) (s : Splitter) (fs : List Found) → requestLines < s .line → deskAfter step d (foundNow s ++ fs) ≡ deskAfter step d fs
+unfolding foundNow foundAt
+past-moved step d s fs h = by-test (s .ended) (λ e. rw e (unfold deskAfter in rw (lt-leb (s .line) requestLines h))) (λ e. rw e)
+
+-- nor by any line that follows
+none-moved : {S : Type 0} (step : Stepping S) (d : S) (s : Splitter) (t : List ℕ) → allRead s ≡ true → deskAfter step d (foundIn s t) ≡ d
+unfolding foundIn
+none-moved step d s [] h = unfold deskAfter in refl
+none-moved step d s (b ∷ t) h =
+    past-moved step d (taken s b) (foundIn (taken s b) t) (past-taken s b h) ∙ none-moved step d (taken s b) t (past-read (taken s b) (past-taken s b h))
+
+-- so the desk of a clerk who has read every line stays as it is
+pub desk-stays : (c : Clerk) (t : List ℕ) → allRead (c .splitter) ≡ true → clerkAfter c t .desk ≡ c .desk
+unfolding clerkAfter
+desk-stays c t h = none-moved onArrays (c .desk) (c .splitter) t h
+
 -- and no line is owed
 none-owed : (s : Splitter) → allRead s ≡ true → owing s ≡ false
 unfolding allRead owing
@@ -77,7 +94,7 @@ read-written view text h =
     ∙ last-records view text
 
 -- and of the text with whatever follows
-more-written : (view : View) (text more : List ℕ) → allRead (afterAll fresh text) ≡ true → recordsIn view startedClerk text ≡ written (viewed view) (arraysRun (text ++ more))
+pub more-written : (view : View) (text more : List ℕ) → allRead (afterAll fresh text) ≡ true → recordsIn view startedClerk text ≡ written (viewed view) (arraysRun (text ++ more))
 more-written view text more h =
     sym (append-nil (recordsIn view startedClerk text))
     ∙ ap (λ l. recordsIn view startedClerk text ++ l) (sym (writes-no-more view (clerkAfter startedClerk text) more (unfold clerkAfter startedClerk in h)))

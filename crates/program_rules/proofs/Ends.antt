@@ -1,10 +1,11 @@
--- The end of the input, case by case: no line is owed, there is no room, or its record is written.
+-- The end of the input, case by case: no line is owed, there is no room, or its record is written; and so what is written last.
 -- Assumes nothing.
-use Prim.Native.Nat.{ℕ, _≤_}
-use mathlib.Core.Path.{_≡_, ap, _∙_}
-use mathlib.Core.Bool.{true, false}
+use Prim.Native.Nat.{ℕ, _+_, _≤_}
+use mathlib.Core.Path.{_≡_, sym, ap, _∙_}
+use mathlib.Core.Bool.{Bool, true, false}
 use mathlib.Core.List.{List}
 use lib.Dec.{leb}
+use lib.ListN.{length}
 use borrow.Author.Tests.{leb-true}
 use Rattle.laws.specs.Choice.{by-test, not-both}
 use Rattle.terms.specs.Limits.{requestLines}
@@ -14,6 +15,7 @@ use Rattle.program_rules.specs.declared.Clerk.{Clerk}
 use Rattle.program_rules.specs.declared.View.{View}
 use Rattle.program_rules.specs.declared.Finished.{Finished}
 use Rattle.program_rules.specs.Work.{viewed, roomy, unended, owing, finishOf}
+use Rattle.program_rules.specs.Closing.{closing, closingRoom, closeOf}
 
 -- what the end of the input leaves
 abbrev pub Ends : View → Clerk → List ℕ → ℕ → Finished → List ℕ → Type 0
@@ -42,3 +44,26 @@ unfolding owing
 owing-line s e =
     by-test (leb (s .line) requestLines) (leb-true (s .line) requestLines)
     (λ f. by-test (s .ended) (λ t. not-both e (rw t)) (λ t. not-both e (rw (t, f))))
+
+-- what is left of what is written last
+abbrev pub Closes : View → Clerk → List ℕ → ℕ → Finished → List ℕ → Type 0
+Closes view c out at f after = (f ≡ closeOf view c out at .finished) × (after ≡ closeOf view c out at .out)
+
+module _ (view : View) (c : Clerk) (out : List ℕ) (at : ℕ) {r : Bool} {room : ℕ} (e : room ≡ closingRoom view) (f : r ≡ leb (at + room) (length out)) where
+  -- the test is that of the definition
+  tests : r ≡ leb (at + closingRoom view) (length out)
+  tests = f ∙ ap (λ k. leb (at + k) (length out)) e
+
+  -- where there is no room nothing is written
+  pub closes-full : r ≡ false → Closes view c out at (record { at = at; full = true }) out
+  unfolding closeOf
+  closes-full n = (rw (sym tests ∙ n), rw (sym tests ∙ n))
+
+  -- where there is, it is as much as was asked for
+  pub closes-room : r ≡ true → at + closingRoom view ≤ length out
+  closes-room y = leb-true (at + closingRoom view) (length out) (sym tests ∙ y)
+
+  -- and what is written stands there
+  pub closes-put : {to : ℕ} {after : List ℕ} → r ≡ true → Wrote at to (closing view c) out after → Closes view c out at (record { at = to; full = false }) after
+  unfolding closeOf
+  closes-put y w = (rw (sym tests ∙ y) (ap (λ n. record { at = n; full = false }) (w .ends)), rw (sym tests ∙ y) (w .holds ∙ rw (w .ends)))

@@ -1,7 +1,7 @@
--- The history that is written is that of a desk started at 1, to which the good lines of the text came as requests, in their order (01, Lines).
+-- The history that is written is that of a desk started at 1, to which the good lines of the text came as requests, in their order, and the chains are those of that desk (01, Lines; 02, No. 3).
 -- Assumes nothing.
 use Prim.Native.Nat.{ℕ, _+_}
-use mathlib.Core.Path.{_≡_, refl, ap}
+use mathlib.Core.Path.{_≡_, refl, ap, _∙_}
 use mathlib.Core.List.{List, [], _∷_, _++_}
 use lib.Dec.{ltb}
 use Rattle.laws.specs.Choice.{by-test}
@@ -13,10 +13,13 @@ use Rattle.text_rules.specs.declared.Reading.the-variants.{Good, Bad}
 use Rattle.text_rules.specs.Lines.{readLine}
 use Rattle.text_rules.specs.Split.{linesOf}
 use Rattle.desk_rules.specs.Desk.{Desk, Request, freshDesk}
+use Rattle.desk_rules.specs.Stepping.{through}
+use Rattle.desk_rules.specs.Chain.{allChains}
 use Rattle.desk_rules.specs.Step.{recordsBy, events, recordsOf, ownRecords, wakeRecords, step}
 use Rattle.desk_rules.specs.Requests.{writes, historyOf}
 use Rattle.program_rules.specs.OverLines.{answered, lineBy, runOf}
-use Rattle.program_rules.specs.Programs.{runOn}
+use Rattle.program_rules.specs.Chains.{deskOver, chainText}
+use Rattle.program_rules.specs.Programs.{runOn, deskOn, chainsOf}
 use Rattle.program_rules.specs.Shown.{historyOfRun}
 use Rattle.program_rules.specs.LinesTold.{requestOf, requestsFrom}
 
@@ -39,3 +42,22 @@ run-history d n (l ∷ ls) =
 pub history-from-one : (text : List ℕ) → historyOfRun (runOn text) ≡ historyOf (freshDesk 1) (requestsFrom 1 (linesOf text))
 unfolding runOn
 history-from-one text = run-history (freshDesk 1) 1 (linesOf text)
+
+-- the desk after one line: a bad one is no request and changes nothing, and a good one is a step
+line-desk : (d : Desk) (n : ℕ) (r : Reading) (rs : List Request) → through step (answered step d n r .desk) rs ≡ through step d (requestOf r ++ rs)
+unfolding answered requestOf
+line-desk d n Bad rs = refl
+line-desk d n (Good l job cell) rs = refl
+
+-- after all lines
+run-desk : (d : Desk) (n : ℕ) (ls : List (List ℕ)) → deskOver step d n ls ≡ through step d (requestsFrom n ls)
+unfolding deskOver lineBy requestsFrom
+run-desk d n [] = refl
+run-desk d n (l ∷ ls) =
+    by-test (ltb requestLines n) (λ t. rw t)
+    (λ f. rw f (run-desk (answered step d n (readLine ofRequests l) .desk) (n + 1) ls ∙ line-desk d n (readLine ofRequests l) (requestsFrom (n + 1) ls)))
+
+-- CHAINS FROM 1: what the chain program writes is the chains of all who wait on a desk started at 1 after the requests that the text's lines say
+pub chains-from-one : (text : List ℕ) → chainsOf text ≡ chainText (allChains (through step (freshDesk 1) (requestsFrom 1 (linesOf text))))
+unfolding chainsOf deskOn
+chains-from-one text = ap (λ d. chainText (allChains d)) (run-desk (freshDesk 1) 1 (linesOf text))

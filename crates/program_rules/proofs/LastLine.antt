@@ -27,7 +27,7 @@ use Rattle.text_rules.proofs.GoodLine.{good-is-record}
 use Rattle.desk_rules.specs.Stepping.{Stepping}
 use Rattle.program_rules.specs.OverLines.{answered, lineBy}
 use Rattle.program_rules.specs.Work.{unended, owing}
-use Rattle.program_rules.specs.Tellings.{telling, tellings}
+use Rattle.program_rules.specs.Tellings.{telling, tellings, deskAfter}
 
 -- what ends in a byte ends in a newline where that byte is one
 last-byte : (l : List ℕ) (b : ℕ) → hasNewline (l ++ b ∷ []) ≡ eqb b newline
@@ -90,5 +90,12 @@ open-always t = open-after fresh t (record { sized = fresh-sized; ends = λ e. n
 pub last-told : {S : Type 0} (step : Stepping S) (d : S) (s : Splitter) → Open s → tellings step d (foundLast s) ≡ pick (owing s) (unended (s .line) ∷ []) []
 unfolding tellings telling foundLast foundAt lineBy answered unended owing
 last-told step d s h =
+    by-test (s .ended) (λ e. rw e)
+    (λ e. by-test (leb (s .line) requestLines) (λ g. rw (e, g, no-newline-bad ofRequests (take (s .len) (s .kept)) (h .ends e))) (λ g. rw (e, g)))
+
+-- and the desk stays as it is, since the line is bad
+pub last-desk : {S : Type 0} (step : Stepping S) (d : S) (s : Splitter) → Open s → deskAfter step d (foundLast s) ≡ d
+unfolding deskAfter telling foundLast foundAt lineBy answered
+last-desk step d s h =
     by-test (s .ended) (λ e. rw e)
     (λ e. by-test (leb (s .line) requestLines) (λ g. rw (e, g, no-newline-bad ofRequests (take (s .len) (s .kept)) (h .ends e))) (λ g. rw (e, g)))

@@ -8,9 +8,13 @@ pub mod OneCall
 pub mod Progress
 pub mod LastLine
 pub mod AnyCourse
+pub mod DeskOver
+pub mod Closings
 pub mod WholeProgram
 pub mod ArraysArePaper
 pub mod EarlyStop
+pub mod ChainsWritten
+pub mod Endings
 pub mod Programs
 pub mod SameShown
 pub mod StartedHistory
@@ -21,3 +25,4 @@ pub mod BadLines
 pub mod FromOne
 pub mod MillionLines
 pub mod AnswerBytes
+pub mod ChainBytes

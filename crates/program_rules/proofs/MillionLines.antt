@@ -1,4 +1,4 @@
--- Both desk programs read 1,000,000 lines and stop: every line up to there has its answer, and what follows writes nothing (01, Lines).
+-- The desk programs read 1,000,000 lines and stop: every line up to there has its answer, and what follows writes nothing and changes nothing (01, Lines).
 -- Assumes nothing.
 use Prim.Native.Nat.{ℕ, zero, suc, _+_, _≤_, _<_}
 use mathlib.Core.Path.{_≡_, refl, sym, ap, _∙_}
@@ -15,11 +15,13 @@ use Rattle.text_rules.specs.Split.{linesOf, joined, oneLine, hasNewline, every}
 use Rattle.text_rules.proofs.TextLines.{lines-one, lines-end, lines-only}
 use Rattle.desk_rules.specs.Desk.{freshDesk}
 use Rattle.program_rules.specs.declared.View.{View}
-use Rattle.program_rules.specs.declared.View.the-variants.{Answers, History}
+use Rattle.program_rules.specs.declared.View.the-variants.{Answers, History, Chains}
 use Rattle.desk_rules.specs.Step.{step}
+use Rattle.desk_rules.specs.Chain.{allChains}
 use Rattle.desk_rules.specs.Stepping.{Stepping}
 use Rattle.program_rules.specs.OverLines.{Told, lineBy, runOf, answerLines, historyLines, written}
-use Rattle.program_rules.specs.Programs.{firstNumber, runOn, answersOf, historyOf, programOf}
+use Rattle.program_rules.specs.Chains.{deskOver, chainText}
+use Rattle.program_rules.specs.Programs.{firstNumber, runOn, deskOn, answersOf, historyOf, chainsOf, programOf}
 
 -- what holds of every line holds of the first ones
 first-every : (f : List ℕ → Bool) (n : ℕ) (ls : List (List ℕ)) → every f ls ≡ true → every f (take n ls) ≡ true
@@ -59,6 +61,16 @@ module _ {S : Type 0} (step : Stepping S) where
       by-test (ltb requestLines n) (λ e. rw e)
       (λ e. rw e (ap (λ (ts : List Told). lineBy step d n l .told ∷ ts) (run-first (lineBy step d n l .desk) (n + 1) m ls (omega arith))))
 
+  -- nor does the desk after it
+  over-first : (d : S) (n m : ℕ) (ls : List (List ℕ)) → requestLines < n + m → deskOver step d n (take m ls) ≡ deskOver step d n ls
+  unfolding deskOver
+  over-first d n zero [] h = refl
+  over-first d n zero (l ∷ ls) h = rw (lt-ltb requestLines n (omega arith))
+  over-first d n (suc m) [] h = refl
+  over-first d n (suc m) (l ∷ ls) h =
+      by-test (ltb requestLines n) (λ e. rw e)
+      (λ e. rw e (over-first (lineBy step d n l .desk) (n + 1) m ls (omega arith)))
+
   -- up to there each line has its answer
   run-all : (d : S) (n : ℕ) (ls : List (List ℕ)) → n + length ls ≤ requestLines + 1 → length (runOf step d n ls) ≡ length ls
   unfolding runOf
@@ -76,8 +88,15 @@ unfolding runOn
 run-million text =
     sym (run-first step (freshDesk firstNumber) 1 1_000_000 (linesOf text) (omega arith)) ∙ ap (runOf step (freshDesk firstNumber) 1) (sym (first-lines 1_000_000 text))
 
--- A MILLION LINES: either program writes of a text what it writes of the text's first 1,000,000 lines
+-- and so is the desk after it
+desk-million : (text : List ℕ) → deskOn text ≡ deskOn (joined (take 1_000_000 (linesOf text)))
+unfolding deskOn
+desk-million text =
+    sym (over-first step (freshDesk firstNumber) 1 1_000_000 (linesOf text) (omega arith)) ∙ ap (deskOver step (freshDesk firstNumber) 1) (sym (first-lines 1_000_000 text))
+
+-- A MILLION LINES: each program writes of a text what it writes of the text's first 1,000,000 lines
 pub million-lines : (view : View) (text : List ℕ) → programOf view text ≡ programOf view (joined (take 1_000_000 (linesOf text)))
-unfolding programOf answersOf historyOf
+unfolding programOf answersOf historyOf chainsOf
 million-lines Answers text = ap (written answerLines) (run-million text)
 million-lines History text = ap (written historyLines) (run-million text)
+million-lines Chains text = ap (λ d. chainText (allChains d)) (desk-million text)

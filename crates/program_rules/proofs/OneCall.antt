@@ -30,7 +30,7 @@ put-take out at bytes h =
     take-at (take at out ++ bytes) (drop (at + length bytes) out) (at + length bytes) (length-append (take at out) bytes ∙ ap (λ n. n + length bytes) (length-take-le at out h))
 
 -- and how long the buffer then is
-put-length : (out : List ℕ) (at : ℕ) (bytes : List ℕ) → at ≤ length out → (at + length bytes ≤ length (putFrom out at bytes)) × (length out ≤ length (putFrom out at bytes))
+pub put-length : (out : List ℕ) (at : ℕ) (bytes : List ℕ) → at ≤ length out → (at + length bytes ≤ length (putFrom out at bytes)) × (length out ≤ length (putFrom out at bytes))
 put-length out at bytes h =
     let e = length-append (take at out ++ bytes) (drop (at + length bytes) out) in
     let f = length-append (take at out) bytes in

@@ -24,12 +24,9 @@ use Rattle.desk_rules.specs.Requests.{numberIn, givenBy}
 use Rattle.desk_rules.proofs.Numbers.{Gives, none-given, one-given, step-gives}
 use Rattle.desk_rules.proofs.NoEventAfterEnd.{started-over}
 use Rattle.program_rules.specs.OverLines.{Told, noRequest, answered, lineBy, runOf}
-use Rattle.program_rules.specs.Programs.{firstNumber, runOn}
+use Rattle.program_rules.specs.Chains.{deskOver}
+use Rattle.program_rules.specs.Programs.{firstNumber, runOn, deskOn}
 use Rattle.program_rules.specs.Shown.{historyOfRun, givenIn, historyOn}
-
--- a desk that has been started and has written this history, and its next number
-abbrev WroteTo : History → ℕ → Type 0
-WroteTo h next = (D : Desk) × Started D h × (D .next ≡ next)
 
 -- the history records of what is told
 abbrev pub recorded : Told → History
@@ -56,30 +53,39 @@ line-next D n (Good l job cell) = by-gives (step-gives D (record { kind = byteOf
     by-gives (none-given q e) = rw q (omega (arith, e))
     by-gives (one-given q l e) = rw q (omega (arith, e))
 
--- all lines
-run-started : {D : Desk} {h : History} → Started D h → (n : ℕ) (ls : List (List ℕ)) → WroteTo (h ++ historyOfRun (runOf step D n ls)) (D .next + length (givenIn (runOf step D n ls)))
-unfolding runOf lineBy historyOfRun givenIn
-run-started {D} {h} s n [] = (D, subst (Started D) (sym (append-nil h)) s, omega arith)
-run-started {D} {h} s n (l ∷ ls) =
-    let o = answered step D n (readLine ofRequests l) in
-    let w = run-started (line-started s n (readLine ofRequests l)) (n + 1) ls in
-    let rest = runOf step (o .desk) (n + 1) ls in
-    by-test (ltb requestLines n) (λ e. rw e (D, subst (Started D) (sym (append-nil h)) s, omega arith))
-    (λ e. rw e (
-      w .0,
-      subst (Started (w .0)) (append-assoc h (recorded (o .told)) (historyOfRun rest)) (w .1),
-      omega (arith, w .2, line-next D n (readLine ofRequests l), length-append (givenBy (o .told .request) (o .told .said)) (givenIn rest)),
-    ))
+-- all lines, on any desk: the desk after them is started, and has written what the run shows
+pub run-started : {S : Type 0} {does : Stepping S} {new : ℕ → S} {d : S} {h : History} → StartedOn does new d h → (n : ℕ) (ls : List (List ℕ)) → StartedOn does new (deskOver does d n ls) (h ++ historyOfRun (runOf does d n ls))
+unfolding runOf deskOver lineBy historyOfRun
+run-started {does = does} {new} {d} {h} s n [] = subst (StartedOn does new d) (sym (append-nil h)) s
+run-started {does = does} {new} {d} {h} s n (l ∷ ls) =
+    let o = answered does d n (readLine ofRequests l) in
+    by-test (ltb requestLines n) (λ e. rw e (subst (StartedOn does new d) (sym (append-nil h)) s))
+    (λ e. rw e (subst (StartedOn does new (deskOver does (o .desk) (n + 1) ls)) (append-assoc h (recorded (o .told)) (historyOfRun (runOf does (o .desk) (n + 1) ls))) (run-started (line-started s n (readLine ofRequests l)) (n + 1) ls)))
 
--- the run of a text on a fresh desk
-text-started : (text : List ℕ) → WroteTo (historyOn text) (firstNumber + length (givenIn (runOn text)))
-unfolding runOn
-text-started text = unfold freshDesk in run-started (fresh firstNumber (omega arith) (omega arith)) 1 (linesOf text)
+-- and the next number has grown by the numbers that they give
+run-next : (D : Desk) (n : ℕ) (ls : List (List ℕ)) → deskOver step D n ls .next ≡ D .next + length (givenIn (runOf step D n ls))
+unfolding runOf deskOver lineBy givenIn
+run-next D n [] = omega arith
+run-next D n (l ∷ ls) =
+    let o = answered step D n (readLine ofRequests l) in
+    let rest = runOf step (o .desk) (n + 1) ls in
+    by-test (ltb requestLines n) (λ e. rw e (omega arith))
+    (λ e. rw e (omega (arith, run-next (o .desk) (n + 1) ls, line-next D n (readLine ofRequests l), length-append (givenBy (o .told .request) (o .told .said)) (givenIn rest))))
+
+-- THE DESK AFTER A TEXT IS A STARTED DESK, and its history is what the history program writes
+pub desk-started : (text : List ℕ) → Started (deskOn text) (historyOn text)
+unfolding runOn deskOn
+desk-started text = run-started (fresh firstNumber (omega arith) (omega arith)) 1 (linesOf text)
+
+-- its next number is 1, and one more for each number that the run gives
+desk-next : (text : List ℕ) → deskOn text .next ≡ firstNumber + length (givenIn (runOn text))
+unfolding runOn deskOn
+desk-next text = unfold freshDesk in run-next (freshDesk firstNumber) 1 (linesOf text)
 
 -- THE HISTORY IS A STARTED DESK'S: what the history program writes is the history of a started desk; that this desk was started at 1 is `history-from-one`
 pub history-started : (text : List ℕ) → (D : Desk) × Started D (historyOn text)
-history-started text = (text-started text .0, text-started text .1)
+history-started text = (deskOn text, desk-started text)
 
 -- its jobs are numbered from 1 on, one for each begin that goes: so no number is above how many they are
 pub history-jobs : (text : List ℕ) (j : ℕ) → lineOf j (historyOn text) ≡ true → j ≤ length (givenIn (runOn text))
-history-jobs text j l = omega (arith, started-over (text-started text .1) .given j l, text-started text .2)
+history-jobs text j l = omega (arith, started-over (desk-started text) .given j l, desk-next text)

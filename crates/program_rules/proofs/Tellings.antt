@@ -45,17 +45,17 @@ module _ {S : Type 0} (step : Stepping S) where
       (λ e. rw e (tellings-past d n ls h)))
 
   -- a line is told as its first bytes tell it
-  line-told : (d : S) (n : ℕ) (l : List ℕ) → oneLine l ≡ true → lineBy step d n (take kept l) ≡ lineBy step d n l
+  pub line-told : (d : S) (n : ℕ) (l : List ℕ) → oneLine l ≡ true → lineBy step d n (take kept l) ≡ lineBy step d n l
   unfolding lineBy
   line-told d n l o = ap (answered step d n) (short-reads ofRequests l o)
 
   -- both parts of a test that holds
-  both : (a b : Bool) → (a && b) ≡ true → (a ≡ true) × (b ≡ true)
+  pub both : (a b : Bool) → (a && b) ≡ true → (a ≡ true) × (b ≡ true)
   both true b h = (refl, h)
   both false b h = not-both h refl
 
   -- up to line 1,000,000 the next number is larger by one
-  next-number : (n : ℕ) → n ≤ requestLines → following n ≡ n + 1
+  pub next-number : (n : ℕ) → n ≤ requestLines → following n ≡ n + 1
   unfolding following
   next-number n h = rw (lt-ltb n (2 ^ 64 - 1) (omega arith))
 

@@ -1,4 +1,4 @@
--- The programs' caller uses up every chunk, and all that he has written out is what is written of the run of the text: chunks and buffers do not matter.
+-- The programs' caller uses up every chunk, and all that he has written out is what is written of the run of the text, and then what the program writes last: chunks and buffers do not matter.
 -- Assumes nothing.
 use Prim.Native.Nat.{ℕ, zero, suc, _+_, _-_, _≤_, _<_}
 use mathlib.Core.Path.{_≡_, sym, ap, _∙_, subst}
@@ -13,16 +13,19 @@ use Rattle.text_rules.specs.Split.{part, joined}
 use Rattle.program_rules.specs.declared.View.{View}
 use Rattle.program_rules.specs.OverLines.{written}
 use Rattle.program_rules.specs.Work.{startedClerk, viewed, lineRoom, roomy, workOf}
+use Rattle.program_rules.specs.Closing.{closing, programRoom}
+use Rattle.program_rules.specs.Tellings.{clerkAfter}
 use Rattle.program_rules.specs.Callers.{Course, starts, works, empties, Calling, callsOn, callsOver, sentOver}
 use Rattle.program_rules.specs.Programs.{arraysRun}
 use Rattle.program_rules.proofs.Parts.{part-all}
 use Rattle.program_rules.proofs.Progress.{call-forward, call-used, call-moved, call-left}
-use Rattle.program_rules.proofs.AnyCourse.{call-did, course-finishes}
+use Rattle.program_rules.proofs.AnyCourse.{call-did, course-stands}
+use Rattle.program_rules.proofs.Closings.{course-ends, line-room}
 
 -- there is room in an empty buffer that is long enough
-roomy-empty : (out : List ℕ) → lineRoom ≤ length out → roomy out 0 ≡ true
+roomy-empty : (view : View) (out : List ℕ) → programRoom view ≤ length out → roomy out 0 ≡ true
 unfolding roomy
-roomy-empty out h = le-leb (0 + lineRoom) (length out) (omega arith)
+roomy-empty view out h = le-leb (0 + lineRoom) (length out) (omega (arith, line-room view))
 
 -- the bytes up to a place and those from there on
 part-rest : (chunk : List ℕ) (from to : ℕ) → from ≤ to → part chunk from to ++ drop to chunk ≡ drop from chunk
@@ -33,7 +36,7 @@ part-rest chunk from to h =
 -- the programs' caller is on a course, with nothing in the buffer and room in it
 pub record Called (view : View) (text : List ℕ) (s : Calling) : Type 0 where
   pub course : Course view text (s .sent) (s .clerk) (s .out) 0
-  pub room : lineRoom ≤ length (s .out)
+  pub room : programRoom view ≤ length (s .out)
 
 module _ (view : View) (s : Calling) (chunk : List ℕ) (from : ℕ) where
   -- where the caller has come to after one call
@@ -77,7 +80,7 @@ module _ (view : View) (s : Calling) (chunk : List ℕ) (from : ℕ) {text : Lis
 
   -- a full call has moved on, and has left a byte
   called-moved : workOf view (s .clerk) chunk from (s .out) 0 .worked .full ≡ true → (from < next view s chunk from) × (next view s chunk from < length chunk)
-  called-moved e = (call-moved view (s .clerk) chunk from (s .out) 0 (omega arith) (roomy-empty (s .out) (k .room)) e, call-left view (s .clerk) chunk from (s .out) 0 e)
+  called-moved e = (call-moved view (s .clerk) chunk from (s .out) 0 (omega arith) (roomy-empty view (s .out) (k .room)) e, call-left view (s .clerk) chunk from (s .out) 0 e)
 
 -- all calls on a chunk: it is used up
 called-on : (n : ℕ) (view : View) (s : Calling) (chunk : List ℕ) (from : ℕ) {text : List ℕ} → length chunk ≤ from + n → Called view text s →
@@ -101,12 +104,15 @@ called-over view s (c ∷ cs) {text} k =
     subst (λ t. Called view t (callsOver view (callsOn (suc (length c)) view s c 0) cs)) (append-assoc text c (joined cs))
     (called-over view (callsOn (suc (length c)) view s c 0) cs (called-on (length c) view s c 0 (omega arith) k))
 
-module _ (view : View) (out : List ℕ) (chunks : List (List ℕ)) (h : lineRoom ≤ length out) where
+module _ (view : View) (out : List ℕ) (chunks : List (List ℕ)) (h : programRoom view ≤ length out) where
   -- the programs' caller over all chunks
   pub caller-course : Called view (joined chunks) (callsOver view (record { clerk = startedClerk; sent = []; out = out }) chunks)
   caller-course = called-over view (record { clerk = startedClerk; sent = []; out = out }) chunks (record { course = starts out; room = h })
 
-  -- THE WHOLE PROGRAM: however the input is cut into chunks and whatever buffer has room for the records of a line, all that is written out is what is written of the run of the text
-  pub whole-program : sentOver view out chunks ≡ written (viewed view) (arraysRun (joined chunks))
+  -- THE WHOLE PROGRAM: however the input is cut into chunks and whatever buffer has room enough, all that is written out is what is written of the run of the text, and then what the program writes last
+  pub whole-program : sentOver view out chunks ≡ written (viewed view) (arraysRun (joined chunks)) ++ closing view (clerkAfter startedClerk (joined chunks))
   unfolding sentOver
-  whole-program = course-finishes (caller-course .course) (roomy-empty (callsOver view (record { clerk = startedClerk; sent = []; out = out }) chunks .out) (caller-course .room))
+  whole-program =
+      let k = caller-course in
+      let r = k .room in
+      course-ends (k .course) (omega arith) ∙ ap (λ c. written (viewed view) (arraysRun (joined chunks)) ++ closing view c) (course-stands (k .course) .clerk)

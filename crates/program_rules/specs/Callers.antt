@@ -7,7 +7,8 @@ use Rattle.laws.specs.Choice.{pick}
 use Rattle.text_rules.specs.Split.{part}
 use Rattle.program_rules.specs.declared.Clerk.{Clerk}
 use Rattle.program_rules.specs.declared.View.{View}
-use Rattle.program_rules.specs.Work.{startedClerk, workOf, finishOf}
+use Rattle.program_rules.specs.Work.{startedClerk, workOf}
+use Rattle.program_rules.specs.Closing.{endOf}
 use Rattle.program_rules.specs.Tellings.{clerkAfter, recordsIn}
 
 -- any course of calls: the bytes that the clerk has worked on, what has been written out, the clerk, the buffer, and the place after its last record
@@ -53,5 +54,5 @@ callsOver view s (c ∷ cs) = callsOver view (callsOn (suc (length c)) view s c 
 unfoldable pub sentOver : View → List ℕ → List (List ℕ) → List ℕ
 sentOver view out chunks =
     let s = callsOver view (record { clerk = startedClerk; sent = []; out = out }) chunks in
-    let f = finishOf view (s .clerk) (s .out) 0 in
-    s .sent ++ take (f .finished .at) (f .out)
+    let e = endOf view (s .clerk) (s .out) 0 in
+    s .sent ++ take (e .finished .at) (e .out)

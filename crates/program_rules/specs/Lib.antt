@@ -1,6 +1,8 @@
 pub mod OverLines
+pub mod Chains
 pub mod Programs
 pub mod Work
+pub mod Closing
 pub mod Tellings
 pub mod Callers
 pub mod Shown

@@ -76,7 +76,7 @@ answerLines t = answerRecord (t .line) (wordOf (t .said)) (numberBeside (t .said
 unfoldable pub historyLines : Told → List ℕ
 historyLines t = textOf (recordsOf (t .request) (t .said) (t .wakes))
 
--- what is written of a run, in either view
+-- what is written of a run, in a view
 unfoldable pub written : (Told → List ℕ) → List Told → List ℕ
 written view [] = []
 written view (t ∷ ts) = view t ++ written view ts

@@ -16,7 +16,7 @@ use Rattle.desk_arrays.specs.Steps.{emptyDesk}
 use Rattle.desk_arrays.specs.declared.state.Desk as arrays
 use Rattle.program_rules.specs.declared.Clerk.{Clerk}
 use Rattle.program_rules.specs.declared.View.{View}
-use Rattle.program_rules.specs.declared.View.the-variants.{Answers, History}
+use Rattle.program_rules.specs.declared.View.the-variants.{Answers, History, Chains}
 use Rattle.program_rules.specs.declared.Worked.{Worked}
 use Rattle.program_rules.specs.declared.Finished.{Finished}
 use Rattle.program_rules.specs.OverLines.{Told, Lined, noRequest, lineBy, answerLines, historyLines}
@@ -27,10 +27,11 @@ use Rattle.program_rules.specs.Programs.{firstNumber}
 unfoldable pub startedClerk : Clerk
 startedClerk = record { desk = emptyDesk firstNumber; splitter = fresh }
 
--- the records of a line in a view
+-- the records of a line in a view; of a line the program `chain` writes none
 unfoldable pub viewed : View → Told → List ℕ
 viewed Answers t = answerLines t
 viewed History t = historyLines t
+viewed Chains t = []
 
 -- no more bytes of wake records follow: no more jobs wake than there are places for open ones (01, What is delivered), each with one record
 abbrev pub wakesRoom : ℕ

@@ -10,12 +10,14 @@ pub struct Clerk {
     pub splitter: Splitter,
 }
 
-// Which records are written: the answers or the history.
+// What is written: the answers, the history, or the chains of those who wait.
 pub enum View {
     // the answers, one for each line, each with its wakes
     Answers,
     // what was granted and what ended, in order
     History,
+    // no record of a line; once the input has ended, the chains of those who wait
+    Chains,
 }
 
 // Where work on a chunk has come to: the clerk, the place in the chunk, the place after the records, and whether it stopped for want of room.
@@ -26,7 +28,7 @@ pub struct Worked {
     pub full: bool,
 }
 
-// The end of the input: the place after the last record, or no room for it.
+// The end of the input: the place after what is then written, or no room for it.
 pub struct Finished {
     pub at: usize,
     pub full: bool,

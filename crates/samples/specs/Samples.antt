@@ -1,21 +1,23 @@
--- The paper's starred samples S1 to S9, the update lock's own case, and more of ours: program, input text, output text (01, Samples to hold it against; 02, No. 1).
+-- The paper's starred samples S1 to S9, the update lock's own case, the chains of a night, and more of ours: program, input text, output text (01, Samples to hold it against; 02, No. 1 and No. 3).
 use Prim.Native.Nat.{ℕ}
 use Prim.Native.String.{String}
 use mathlib.Core.List.{List, [], _∷_}
 use Rattle.judge_rules.specs.VerdictLine.{verdictOf}
-use Rattle.program_rules.specs.Programs.{answersOf, historyOf}
+use Rattle.program_rules.specs.Programs.{answersOf, historyOf, chainsOf}
 
--- the three programs (01, What is delivered)
+-- the four programs (01, What is delivered; 02, No. 3)
 pub data Program : Type 0 where
   answers : Program
   history : Program
   verdict : Program
+  chain : Program
 
 -- what a program writes, given a text
 unfoldable pub writes : Program → List ℕ → List ℕ
 writes answers = answersOf
 writes history = historyOf
 writes verdict = verdictOf
+writes chain = chainsOf
 
 -- a sample
 pub record Sample : Type 0 where
@@ -51,7 +53,7 @@ scorers = "b\nb\nu\t2\t5\nu\t1\t5\nw\t2\t5\nc\t2\nw\t1\t5\nc\t1\n"
 abbrev pub scorers-history : String
 scorers-history = "r\t2\t5\nw\t2\t5\nc\t2\nr\t1\t5\nw\t1\t5\nc\t1\n"
 
--- the starred samples, S1 to S9, then the update lock's case, and after them ours; jobs are begun first, cell 5 unless said
+-- the starred samples, S1 to S9, then the update lock's case and the chains, and after them ours; jobs are begun first, cell 5 unless said
 abbrev pub samples : List Sample
 samples =
     -- S1, whole
@@ -113,6 +115,8 @@ samples =
       output = "1\tgo\t1\n2\tgo\t2\n3\tgo\t2\n4\tgo\t1\n5\tback\t2\n";
     }
     ∷ record { program = answers; input = "b\nb\nu\t1\t5\nu\t2\t5\n"; output = "1\tgo\t1\n2\tgo\t2\n3\tgo\t1\n4\tback\t2\n" }
+    -- the night that is shipped, up to its line 6: 3 has read cell 9, 2 waits to write it, and 1, behind 2, to read it; 3 is the youngest in the way of both (02, No. 3)
+    ∷ record { program = chain; input = "b\nb\nb\nr\t3\t9\nw\t2\t9\nr\t1\t9\n"; output = "1\t3\n2\t3\n" }
     -- ours: three wakes of one step, on two cells and two of one queue
     ∷ record {
       program = answers;

@@ -1,4 +1,4 @@
--- No two refusals share a number, and none but 1 to 16 is one.
+-- No two refusals share a number, and each is from 1 to 18; 17 is none's.
 -- Assumes nothing.
 use Prim.Native.Nat.{_≤_}
 use mathlib.Core.Path.{_≡_, refl, sym, ap, _∙_}
@@ -6,14 +6,14 @@ use mathlib.Core.List.{List, [], _∷_}
 use lib.ListN.{getD}
 use lib.Dec.{lit≤}
 use Rattle.terms.specs.declared.refusals.Refusal.{Refusal}
-use Rattle.terms.specs.declared.refusals.Refusal.the-variants.{UnknownKind, CellAbove, NotOpen, Waiting, SentBack, AllOpen, NoNumberLeft, Running, BadLine, StartedAtZero, TooManyLines, JobOutside, Ended, ShortOrder, NoRoom, TooLong}
+use Rattle.terms.specs.declared.refusals.Refusal.the-variants.{UnknownKind, CellAbove, NotOpen, Waiting, SentBack, AllOpen, NoNumberLeft, Running, BadLine, StartedAtZero, TooManyLines, JobOutside, Ended, ShortOrder, NoRoom, TooLong, ShortList}
 use Rattle.terms.specs.Refusals.{numberOf}
 
--- the table read the other way: at each number its refusal
+-- the table read the other way: at each number its refusal; 0 and 17 are nobody's numbers, and any refusal may stand there
 abbrev pub table : List Refusal
 table =
     UnknownKind ∷ UnknownKind ∷ CellAbove ∷ NotOpen ∷ Waiting ∷ SentBack ∷ AllOpen ∷ NoNumberLeft ∷ Running ∷ BadLine
-    ∷ StartedAtZero ∷ TooManyLines ∷ JobOutside ∷ Ended ∷ ShortOrder ∷ NoRoom ∷ TooLong ∷ []
+    ∷ StartedAtZero ∷ TooManyLines ∷ JobOutside ∷ Ended ∷ ShortOrder ∷ NoRoom ∷ TooLong ∷ UnknownKind ∷ ShortList ∷ []
 
 -- the table read so gives each refusal back
 pub at-number : (r : Refusal) → getD table (numberOf r) UnknownKind ≡ r
@@ -33,26 +33,28 @@ at-number Ended = refl
 at-number ShortOrder = refl
 at-number NoRoom = refl
 at-number TooLong = refl
+at-number ShortList = refl
 
 -- equal numbers, equal refusals
 pub same-number : (r s : Refusal) → numberOf r ≡ numberOf s → r ≡ s
 same-number r s e = sym (at-number r) ∙ ap (λ n. getD table n UnknownKind) e ∙ at-number s
 
--- each is from 1 to 16
-pub one-to-sixteen : (r : Refusal) → (1 ≤ numberOf r) × (numberOf r ≤ 16)
-one-to-sixteen UnknownKind = (lit≤ tt, lit≤ tt)
-one-to-sixteen CellAbove = (lit≤ tt, lit≤ tt)
-one-to-sixteen NotOpen = (lit≤ tt, lit≤ tt)
-one-to-sixteen Waiting = (lit≤ tt, lit≤ tt)
-one-to-sixteen SentBack = (lit≤ tt, lit≤ tt)
-one-to-sixteen AllOpen = (lit≤ tt, lit≤ tt)
-one-to-sixteen NoNumberLeft = (lit≤ tt, lit≤ tt)
-one-to-sixteen Running = (lit≤ tt, lit≤ tt)
-one-to-sixteen BadLine = (lit≤ tt, lit≤ tt)
-one-to-sixteen StartedAtZero = (lit≤ tt, lit≤ tt)
-one-to-sixteen TooManyLines = (lit≤ tt, lit≤ tt)
-one-to-sixteen JobOutside = (lit≤ tt, lit≤ tt)
-one-to-sixteen Ended = (lit≤ tt, lit≤ tt)
-one-to-sixteen ShortOrder = (lit≤ tt, lit≤ tt)
-one-to-sixteen NoRoom = (lit≤ tt, lit≤ tt)
-one-to-sixteen TooLong = (lit≤ tt, lit≤ tt)
+-- each is from 1 to 18
+pub within-table : (r : Refusal) → (1 ≤ numberOf r) × (numberOf r ≤ 18)
+within-table UnknownKind = (lit≤ tt, lit≤ tt)
+within-table CellAbove = (lit≤ tt, lit≤ tt)
+within-table NotOpen = (lit≤ tt, lit≤ tt)
+within-table Waiting = (lit≤ tt, lit≤ tt)
+within-table SentBack = (lit≤ tt, lit≤ tt)
+within-table AllOpen = (lit≤ tt, lit≤ tt)
+within-table NoNumberLeft = (lit≤ tt, lit≤ tt)
+within-table Running = (lit≤ tt, lit≤ tt)
+within-table BadLine = (lit≤ tt, lit≤ tt)
+within-table StartedAtZero = (lit≤ tt, lit≤ tt)
+within-table TooManyLines = (lit≤ tt, lit≤ tt)
+within-table JobOutside = (lit≤ tt, lit≤ tt)
+within-table Ended = (lit≤ tt, lit≤ tt)
+within-table ShortOrder = (lit≤ tt, lit≤ tt)
+within-table NoRoom = (lit≤ tt, lit≤ tt)
+within-table TooLong = (lit≤ tt, lit≤ tt)
+within-table ShortList = (lit≤ tt, lit≤ tt)

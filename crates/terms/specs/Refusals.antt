@@ -1,7 +1,7 @@
 -- The refusals with their numbers, the one table of them (01, Refusals by number).
 use Prim.Native.Nat.{ℕ}
 use Rattle.terms.specs.declared.refusals.Refusal.{Refusal}
-use Rattle.terms.specs.declared.refusals.Refusal.the-variants.{UnknownKind, CellAbove, NotOpen, Waiting, SentBack, AllOpen, NoNumberLeft, Running, BadLine, StartedAtZero, TooManyLines, JobOutside, Ended, ShortOrder, NoRoom, TooLong}
+use Rattle.terms.specs.declared.refusals.Refusal.the-variants.{UnknownKind, CellAbove, NotOpen, Waiting, SentBack, AllOpen, NoNumberLeft, Running, BadLine, StartedAtZero, TooManyLines, JobOutside, Ended, ShortOrder, NoRoom, TooLong, ShortList}
 
 -- the paper's number of each refusal, with the paper's words beside it
 abbrev pub numberOf : Refusal → ℕ
@@ -37,3 +37,5 @@ numberOf ShortOrder = 14
 numberOf NoRoom = 15
 -- history text longer than 65,536 bytes
 numberOf TooLong = 16
+-- fewer than 32 places lent for the list of a chain (02, No. 3)
+numberOf ShortList = 18

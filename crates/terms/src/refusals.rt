@@ -36,6 +36,8 @@ pub enum Refusal {
     NoRoom,
     // 16: history text longer than 65,536 bytes
     TooLong,
+    // 18: fewer than 32 places lent for a chain
+    ShortList,
 }
 
 // The number of a refusal.
@@ -59,5 +61,6 @@ pub fn number_of(r: Refusal) -> u8
         Refusal::ShortOrder => 14,
         Refusal::NoRoom => 15,
         Refusal::TooLong => 16,
+        Refusal::ShortList => 18,
     }
 }

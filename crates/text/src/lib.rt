@@ -4,9 +4,11 @@ pub mod writer;
 
 pub use reader::read_history;
 pub use reader::read_request;
+pub use writer::has_room;
 pub use writer::width;
 pub use writer::write_answer;
 pub use writer::write_end;
 pub use writer::write_field;
 pub use writer::write_line;
+pub use writer::write_number;
 pub use writer::write_word;

@@ -43,7 +43,7 @@ fn field_width(there: bool, n: u64) -> usize
 }
 
 // Whether so many bytes fit from a place on; no sum is made that could wrap.
-fn has_room(room: usize, at: usize, len: usize) -> bool
+pub fn has_room(room: usize, at: usize, len: usize) -> bool
     ensures { λ r. ⌜ r ≡ leb (at + len) room ⌝ }
 {
     if at <= room { len <= room - at } else { false }
@@ -197,6 +197,20 @@ pub fn write_word(buf: &mut [u8], at: usize, word: Word) -> Written
     if has_room(room, at, len) {
         let n = put_word(&mut buf[at..], word);
         Written::Next(at + n)
+    } else {
+        Written::Refused(Refusal::NoRoom)
+    }
+}
+
+// A number alone, in shortest decimal: what a line of jobs begins with.
+pub fn write_number(buf: &mut [u8], at: usize, n: u64) -> Written
+    ensures { λ r. ⌜ (r ≡ told (now (buf .entry)) at (decimal n)) × (now (buf .exit) ≡ left (now (buf .entry)) at (decimal n)) ⌝ }
+{
+    let len = width(n);
+    let room = buf.len();
+    if has_room(room, at, len) {
+        let k = put_number(&mut buf[at..], n, len);
+        Written::Next(at + k)
     } else {
         Written::Refused(Refusal::NoRoom)
     }

@@ -22,6 +22,7 @@ pub mod Length
 pub mod RoomLaws
 pub mod WriterLaws
 pub mod WroteLaws
+pub mod TabbedLaws
 pub mod RecordLines
 pub mod EventsRead
 pub mod RecordBytes

@@ -1,4 +1,4 @@
--- The records and lines that go out, byte by byte: 9 is the tab, 10 the newline, and every word and letter stands in its bytes (01, Lines; 01, The judge's rules; 02, No. 2).
+-- The records and lines that go out, byte by byte: 9 is the tab, 10 the newline, and every word and letter stands in its bytes (01, Lines; 01, The judge's rules; 02, No. 2 and No. 3).
 -- Assumes nothing.
 use Prim.Native.Nat.{ℕ}
 use mathlib.Core.Path.{_≡_, refl, ap}
@@ -9,7 +9,7 @@ use Rattle.conflict.specs.declared.action.Mark.the-variants.{Commit as commits,
 use Rattle.conflict.specs.declared.action.Event.the-variants.{Does, Ends}
 use Rattle.text_rules.specs.Decimal.{decimal}
 use Rattle.text_rules.specs.EventRecords.{askBy, markLetter, eventLine}
-use Rattle.text_rules.specs.Records.{answerRecord, field, lineRecord, tabbed, wordLine}
+use Rattle.text_rules.specs.Records.{answerRecord, field, lineRecord, tabbed, wordLine, tabsBetween, jobsLine}
 use Rattle.text_rules.specs.Split.{joined}
 
 -- an answer record: the line number, a tab, the word, a tab, the number, a newline (01, Lines)
@@ -98,3 +98,8 @@ dirty-bytes reader writer = ap (λ t. 100 ∷ 105 ∷ 114 ∷ 116 ∷ 121 ∷ 9 
 pub refusal-bytes : (line number : ℕ) → wordLine No (line ∷ number ∷ []) ≡ 110 ∷ 111 ∷ 9 ∷ decimal line ++ 9 ∷ decimal number ++ 10 ∷ []
 unfolding wordLine tabbed
 refusal-bytes line number = ap (λ t. 110 ∷ 111 ∷ 9 ∷ (decimal line ++ 9 ∷ t) ++ 10 ∷ []) (append-nil (decimal number))
+
+-- a chain: the first job, each further one with a tab before it, and a newline (02, No. 3)
+pub chain-bytes : (j : ℕ) (js : List ℕ) → jobsLine (j ∷ js) ≡ decimal j ++ joined (map (λ i. 9 ∷ decimal i) js) ++ 10 ∷ []
+unfolding jobsLine tabsBetween
+chain-bytes j js = ap (λ t. (decimal j ++ t) ++ 10 ∷ []) (tabbed-bytes js)

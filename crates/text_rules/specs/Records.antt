@@ -52,6 +52,15 @@ tabbed (n ∷ ns) = tab ∷ decimal n ++ tabbed ns
 unfoldable pub wordLine : Word → List ℕ → List ℕ
 wordLine w ns = spelt w ++ tabbed ns ++ newline ∷ []
 
+-- numbers, a tab between
+unfoldable pub tabsBetween : List ℕ → List ℕ
+tabsBetween [] = []
+tabsBetween (n ∷ ns) = decimal n ++ tabbed ns
+
+-- a line of jobs, a tab between: a chain (02, No. 3)
+unfoldable pub jobsLine : List ℕ → List ℕ
+jobsLine js = tabsBetween js ++ newline ∷ []
+
 -- a record fits from the place given: it ends within the buffer, so the place is not past the end either (01, refusal 15)
 unfoldable pub fits : List ℕ → ℕ → List ℕ → Bool
 fits buffer at bytes = leb (at + length bytes) (length buffer)

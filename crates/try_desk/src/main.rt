@@ -1,12 +1,15 @@
-// Runs the desk on steps by numbers: the first line of the input is the first number, every other one a step, `kind job cell`.
-// Writes a line for each step: the answer's word and number, then `wake`, job, cell and the kind's byte for each wake, with tabs between.
+// Runs the desk on steps by numbers: the first line of the input is the first number, every other one a step, `kind job cell`, or who asks for a chain, `256 job places`.
+// Writes a line for each step: the answer's word and number, then `wake`, job, cell and the kind's byte for each wake, with tabs between;
+// and for who asks `chain` and how many jobs, or `no` and the refusal, and then every place of the list.
 use conflict::action::Action;
 use conflict::action::Kind;
 use desk::step::step;
 use desk_arrays::state::Desk;
 use desk_arrays::state::Said;
 use desk_arrays::state::Start;
+use desk_chain::chain::chain;
 use desk_rules::Answer;
+use desk_rules::Chained;
 use libc::STDIN_FILENO;
 use libc::STDOUT_FILENO;
 use terms::letters::INCREMENT;
@@ -36,6 +39,12 @@ struct Turn {
 
 // What stands for the end of the input, where a byte is at most 255.
 const END: u32 = 256;
+// What stands for who asks for a chain, where a kind is at most 255.
+const ASKS: u32 = 256;
+// The most places that are lent for a list.
+const MOST: usize = 64;
+// What the list's first place holds before, and each further one a number more: no job has it here.
+const BEFORE: u32 = 4_000_000_000;
 
 fn wide(byte: u8) -> u32 {
     byte as u32
@@ -121,6 +130,12 @@ fn put_wake(a: Action) {
     }
 }
 
+// `no`, and the refusal's number.
+fn put_refused(why: Refusal) {
+    put_word(Word::No);
+    put_number(wide(number_of(why)));
+}
+
 fn put_answer(answer: Answer) {
     match answer {
         Answer::Go(job) => {
@@ -135,10 +150,7 @@ fn put_answer(answer: Answer) {
             put_word(Word::Back);
             put_number(job);
         }
-        Answer::No(why) => {
-            put_word(Word::No);
-            put_number(wide(number_of(why)));
-        }
+        Answer::No(why) => put_refused(why),
     }
 }
 
@@ -158,6 +170,60 @@ fn put_said(said: Said) -> bool {
     put_end()
 }
 
+// A list as it is before it is lent: a number in each place by which it is known again.
+fn list_before() -> [u32; MOST] {
+    let mut list = [BEFORE; MOST];
+    let mut i: usize = 0;
+    while i < MOST {
+        list[i] = BEFORE + i as u32;
+        i += 1;
+    }
+    list
+}
+
+// The first places of a list, so many.
+fn put_list(list: [u32; MOST], n: usize) {
+    let mut i: usize = 0;
+    while i < MOST {
+        if i < n {
+            put_number(list[i]);
+        }
+        i += 1;
+    }
+}
+
+// How many jobs a chain has, or why there is none.
+fn put_chained(answer: Chained) {
+    match answer {
+        Chained::Jobs(n) => {
+            io::write_all(STDOUT_FILENO, b"chain");
+            put_byte(TAB);
+            io::print_decimal(STDOUT_FILENO, n as u64);
+        }
+        Chained::No(why) => put_refused(why),
+    }
+}
+
+// So many places, and 64 where more are named.
+fn at_most(places: u32) -> usize
+    ensures { λ r. ⌜ r ≤ 64 ⌝ }
+{
+    if places < 64 {
+        return places as usize;
+    }
+    MOST
+}
+
+// Who asks for a job's chain, with so many places lent, at most 64; whether the line was taken.
+fn ask(d: Desk, job: u32, places: u32) -> bool {
+    let mut list = list_before();
+    let n = at_most(places);
+    let answer = chain(d, job, &mut list[0..n]);
+    put_chained(answer);
+    put_list(list, n);
+    put_end()
+}
+
 // One step, if the input has one more.
 fn take_turn(d: Desk) -> Turn {
     let kind = next_number();
@@ -169,6 +235,10 @@ fn take_turn(d: Desk) -> Turn {
     }
     let job = next_number();
     let cell = next_number();
+    if kind.value == ASKS {
+        let done = ask(d, job.value, cell.value);
+        return Turn { desk: d, done };
+    }
     if kind.value > 255 {
         return Turn {
             desk: d,

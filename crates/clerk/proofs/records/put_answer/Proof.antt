@@ -2,6 +2,7 @@
 -- Assumes nothing.
 use borrow.Author.Needs.{needs}
 use Rattle.text_rules.proofs.Length.{answer-at-most-24}
+use Rattle.text_rules.specs.Records.{longestRecord}
 use Rattle.clerk.proofs.Adding.{added-next, never-refused}
 use Rattle.clerk.proofs.records.put_answer.Statement.{statement}
 use Rattle.clerk.proofs.records.put_answer.Tie as tie
@@ -30,7 +31,7 @@ same-length-2 c = search needs
 returns-2 : tie.Need-returns-2
 returns-2 c =
     let p = c .before .before .before .before .before .before .before .pre in
-    never-refused _ _ _ (c .before .before .before .before .write-answer .ensures .0) (c .enum-told .given .1) (answer-at-most-24 _ _ _ (p .0) (p .1) (p .2)) (p .3)
+    never-refused _ _ _ longestRecord (c .before .before .before .before .write-answer .ensures .0) (c .enum-told .given .1) (answer-at-most-24 _ _ _ (p .0) (p .1) (p .2)) (p .3)
 
 pub put-answer-spec : {M : Type 1} → statement M
 put-answer-spec =

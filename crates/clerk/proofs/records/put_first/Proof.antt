@@ -1,8 +1,9 @@
--- `clerk::records::put_first` meets its contract: the answer, or what the history notes of it.
+-- `clerk::records::put_first` meets its contract: the answer, or what the history notes of it, or nothing.
 -- Assumes nothing.
 use borrow.Author.Needs.{needs}
-use Rattle.clerk.proofs.Adding.{added-as}
-use Rattle.clerk.proofs.Cases.{first-answer, first-noted}
+use native.Mathlib.Omega.{arith}
+use Rattle.clerk.proofs.Adding.{added-none, added-as}
+use Rattle.clerk.proofs.Cases.{first-answer, first-noted, first-chains}
 use Rattle.clerk.proofs.records.put_first.Statement.{statement}
 use Rattle.clerk.proofs.records.put_first.Tie as tie
 
@@ -27,6 +28,9 @@ noted-of-requires c κs = search needs
 put-noted-requires : tie.Need-put-noted-requires
 put-noted-requires c κs = search needs
 
+enum-told-3 : tie.Need-enum-told-3
+enum-told-3 c = search needs
+
 same-length : tie.Need-same-length
 same-length c = search needs
 
@@ -39,7 +43,10 @@ same-length-2 c = search needs
 returns-2 : tie.Need-returns-2
 returns-2 c = added-as (c .before .before .put-noted .ensures) (search first-noted)
 
+returns-3 : tie.Need-returns-3
+returns-3 c = added-as (added-none (omega arith)) (search first-chains)
+
 pub put-first-spec : {M : Type 1} → statement M
 put-first-spec =
-    let first = tie.spec enum-told word-of-requires number-beside-requires put-answer-requires enum-told-2 noted-of-requires put-noted-requires same-length in
-    tie.close (first returns same-length-2 returns-2)
+    let first = tie.spec enum-told word-of-requires number-beside-requires put-answer-requires enum-told-2 noted-of-requires put-noted-requires enum-told-3 same-length in
+    tie.close (first returns same-length-2 returns-2 returns-3)

@@ -1,6 +1,7 @@
 -- `clerk::records::put_line` meets its contract: the record is short enough for the room that there is.
 -- Assumes nothing.
 use borrow.Author.Needs.{needs}
+use Rattle.text_rules.specs.Records.{longestRecord}
 use Rattle.clerk.proofs.Adding.{added-next, never-refused, line-at-most-24}
 use Rattle.clerk.proofs.records.put_line.Statement.{statement}
 use Rattle.clerk.proofs.records.put_line.Tie as tie
@@ -27,7 +28,7 @@ same-length-2 c = search needs
 
 returns-2 : tie.Need-returns-2
 returns-2 c =
-    never-refused _ _ _ (c .before .before .before .before .write-line .ensures .0) (c .enum-told .given .1) (line-at-most-24 _ _ _ (search needs) (search needs))
+    never-refused _ _ _ longestRecord (c .before .before .before .before .write-line .ensures .0) (c .enum-told .given .1) (line-at-most-24 _ _ _ (search needs) (search needs))
     (c .before .before .before .before .before .before .before .pre)
 
 pub put-line-spec : {M : Type 1} → statement M

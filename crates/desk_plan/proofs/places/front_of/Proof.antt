@@ -1,23 +1,26 @@
 -- `desk_plan::places::front_of` meets its contract. The loop's invariant: the youngest waiter of the places passed, with its number; the measure is what is left of 32.
 -- Assumes nothing.
-use Prim.Native.Nat.{_≤_, _-_}
+use Prim.Native.Nat.{ℕ, _≤_, _-_}
 use mathlib.Core.Path.{ap, _∙_}
 use mathlib.Core.Logic.{⊎-elim}
+use mathlib.Core.Bool.{Bool, _&&_}
 use native.Mathlib.Omega.{arith}
+use lib.Dec.{ltb}
+use lib.ListN.{getD}
 use borrow.Author.Needs.{needs}
-use Rattle.desk_arrays.specs.Places.{youngest}
-use Rattle.desk_plan.proofs.Front.{Front, front-none, front-newer, front-same}
+use Rattle.desk_arrays.specs.Places.{waitsAt, youngest}
+use Rattle.desk_plan.proofs.Finding.{Best, best-none, best-newer, best-same, front-more, front-none}
 use Rattle.desk_plan.proofs.places.front_of.Statement.{statement}
 use Rattle.desk_plan.proofs.places.front_of.Tie as tie
 
 abbrev Inv-loop : tie.InvT-loop
-Inv-loop number status cell c best₀ age₀ q₀ best age q = (q ≤ 32) × Front number status cell c q best age
+Inv-loop number status cell c best₀ age₀ q₀ best age q = (q ≤ 32) × Best number (youngest number status cell c) 0 q best age
 
 abbrev μ-loop : tie.MeasureT-loop
 μ-loop number status cell c best₀ age₀ q₀ best age q = 32 - q
 
 loop-holds : tie.Need-loop-holds Inv-loop μ-loop
-loop-holds c = (omega arith, front-none _ _ _ _ (c .pre))
+loop-holds c = (omega arith, best-none _ _ _ (c .pre) (front-none _ _ _ _))
 
 waits-above-requires : tie.Need-waits-above-requires Inv-loop μ-loop
 waits-above-requires c κs = omega arith
@@ -36,8 +39,11 @@ loop-less c = omega arith
 
 loop-again : tie.Need-loop-again Inv-loop μ-loop
 loop-again c =
-    ⊎-elim (λ w. (omega arith, front-newer (c .before .before .before .loop .inv .1) (c .before .waits-above .ensures) (w .0 .taken) (w .2) (w .3)))
-    (λ w. (omega arith, front-same (c .before .before .before .loop .inv .1) (c .before .waits-above .ensures) (w .0 .left) (w .1) (w .2)))
+    let a = c .before .before .before .before .args in
+    let test : ℕ → ℕ → Bool = λ age q. waitsAt (a .status .now) (a .cell .now) (a .c) q && ltb age (getD (a .number .now) q 0) in
+    let best = c .before .before .before .loop .inv .1 in
+    ⊎-elim (λ w. (omega arith, best-newer best test (front-more _ _ _ _ _) (omega arith) (c .before .waits-above .ensures) (w .0 .taken) (w .2) (w .3)))
+    (λ w. (omega arith, best-same best test (front-more _ _ _ _ _) (c .before .waits-above .ensures) (w .0 .left) (w .1) (w .2)))
     (c .if1 .came)
 
 returns : tie.Need-returns Inv-loop μ-loop

@@ -12,6 +12,9 @@ use Rattle.desk_plan.proofs.Open.{nowhere-free}
 use Rattle.desk_plan.proofs.plan.find.Statement.{statement}
 use Rattle.desk_plan.proofs.plan.find.Tie as tie
 
+sized-requires : tie.Need-sized-requires
+sized-requires c κs = search needs
+
 place-of-requires : tie.Need-place-of-requires
 place-of-requires c κs = search needs
 
@@ -19,8 +22,8 @@ returns : tie.Need-returns
 unfolding foundAt statusOf
 returns c = simp (eq-eqb _ _ (c .if1 .taken), c .before .place-of .ensures)
 
-element-copy-out-t8 : tie.Need-element-copy-out-t8
-element-copy-out-t8 c = search needs
+element-copy-out-t10 : tie.Need-element-copy-out-t10
+element-copy-out-t10 c = search needs
 
 returns-2 : tie.Need-returns-2
 unfolding foundAt statusOf
@@ -30,8 +33,9 @@ returns-3 : tie.Need-returns-3
 unfolding foundAt
 returns-3 c =
     let e = c .before .before .place-of .ensures in
-    let h : length (c .before .before .before .args .status .now) ≤ pos (c .before .before .before .args .number .now) (c .before .before .before .args .job) = omega arith in
+    let s = c .before .before .before .before .before .before in
+    let h : length (s .args .status .now) ≤ pos (s .args .number .now) (s .args .job) = omega arith in
     rw (nowhere-free _ _ _ h, e)
 
 pub find-spec : {M : Type 1} → statement M
-find-spec = tie.close (tie.spec place-of-requires returns element-copy-out-t8 returns-2 returns-3)
+find-spec = tie.close (tie.spec sized-requires place-of-requires returns element-copy-out-t10 returns-2 returns-3)

@@ -6,7 +6,7 @@ use lib.ListN.{length, take}
 use Rattle.text_rules.specs.Wrote.{Wrote}
 use Rattle.text_rules.proofs.WroteLaws.{wrote-as, wrote-then, wrote-length}
 use Rattle.text_rules.specs.Records.{tabbed}
-use Rattle.judge_line.proofs.TabbedLaws.{none-written, tabbed-next, tabbed-all, next-length, first-shorter}
+use Rattle.text_rules.proofs.TabbedLaws.{none-written, tabbed-next, tabbed-all, next-length, first-shorter}
 use Rattle.judge_line.proofs.lines.put_jobs.Statement.{statement}
 use Rattle.judge_line.proofs.lines.put_jobs.Tie as tie
 

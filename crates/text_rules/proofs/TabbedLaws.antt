@@ -1,17 +1,17 @@
--- Numbers with a tab before each, one after another.
+-- Numbers with a tab before each, and numbers with a tab between, one after another.
 -- Assumes nothing.
-use Prim.Native.Nat.{ℕ, _+_, _≤_, _<_}
+use Prim.Native.Nat.{ℕ, zero, suc, _+_, _≤_, _<_}
 use mathlib.Core.Path.{_≡_, refl, sym, ap, _∙_}
 use mathlib.Core.List.{List, [], _∷_, _++_, append-assoc, append-nil}
 use native.Mathlib.Numerals.{add-one}
 use native.Mathlib.Omega.{arith}
 use lib.ListN.{length, take, drop, getD, length-append, take-append-drop}
 use lib.Seq.{take-suc, take-all}
-use Rattle.terms.specs.Words.{tab}
+use Rattle.terms.specs.Words.{tab, newline}
 use Rattle.text_rules.specs.Decimal.{decimal}
 use Rattle.text_rules.specs.Wrote.{Wrote}
 use Rattle.text_rules.proofs.WroteLaws.{wrote-none}
-use Rattle.text_rules.specs.Records.{tabbed}
+use Rattle.text_rules.specs.Records.{tabbed, tabsBetween, jobsLine}
 
 -- numbers and then more numbers
 pub tabbed-more : (xs ys : List ℕ) → tabbed (xs ++ ys) ≡ tabbed xs ++ tabbed ys
@@ -55,3 +55,23 @@ tabbed-all ns i h = ap tabbed (take-all i ns h)
 pub none-written : {at : ℕ} {b : List ℕ} (ns : List ℕ) → at ≤ length b → Wrote at at (tabbed (take 0 ns)) b b
 unfolding tabbed
 none-written ns h = wrote-none h
+
+-- the first number has no tab before it
+pub between-first : (ns : List ℕ) → 0 < length ns → decimal (getD ns 0 0) ≡ tabsBetween (take 1 ns)
+unfolding tabsBetween tabbed
+between-first [] h = absurd (omega arith)
+between-first (n ∷ ns) h = sym (append-nil (decimal n))
+
+-- the first numbers and one more, a tab between
+pub between-next : (ns : List ℕ) (i : ℕ) → 0 < i → i < length ns → tabsBetween (take i ns) ++ tab ∷ decimal (getD ns i 0) ≡ tabsBetween (take (i + 1) ns)
+unfolding tabsBetween
+between-next [] i p h = absurd (omega arith)
+between-next (n ∷ ns) zero p h = absurd (omega arith)
+between-next (n ∷ ns) (suc i) p h =
+    let e : suc (i + 1) ≡ suc i + 1 = omega arith in
+    append-assoc (decimal n) (tabbed (take i ns)) (tab ∷ decimal (getD ns i 0)) ∙ ap (λ l. decimal n ++ l) (tabbed-next ns i (omega arith)) ∙ ap (λ k. tabsBetween (take k (n ∷ ns))) e
+
+-- the line of jobs is all of them, and the newline
+pub jobs-line-is : (ns : List ℕ) (i : ℕ) → length ns ≤ i → tabsBetween (take i ns) ++ newline ∷ [] ≡ jobsLine ns
+unfolding jobsLine
+jobs-line-is ns i h = ap (λ l. tabsBetween l ++ newline ∷ []) (take-all i ns h)

@@ -1,0 +1,10 @@
+pub mod Looks
+pub mod Filling
+pub mod Finding
+pub mod Answering
+pub mod NextTied
+pub mod ChainTied
+pub mod WaiterFound
+pub mod ChainsTied
+pub mod DeskChains
+pub mod Unique

@@ -1,0 +1,84 @@
+-- What stands in the buffer to be written out last, by why no more is read.
+-- Assumes nothing.
+use Prim.Native.Nat.{ℕ, _≤_}
+use mathlib.Core.Path.{_≡_, refl, sym, ap, ap₂, _∙_, subst}
+use mathlib.Core.List.{List, []}
+use native.Mathlib.Omega.{arith}
+use lib.ListN.{length, take}
+use Rattle.program_rules.specs.declared.Clerk.{Clerk}
+use Rattle.program_rules.specs.declared.View.{View}
+use Rattle.program_rules.specs.declared.View.the-variants.{Answers, History, Chains}
+use Rattle.program_rules.specs.declared.Finished.{Finished}
+use Rattle.program_rules.specs.Work.{startedClerk, finishOf}
+use Rattle.program_rules.specs.Closing.{closingRoom, programRoom, closeOf, endOf}
+use Rattle.program_rules.specs.Tellings.{clerkAfter}
+use Rattle.program_rules.proofs.Closings.{close-within, ends-within}
+use Rattle.program_rules.proofs.Endings.{ended-all, closed-all}
+use Rattle.desk_io.specs.declared.Halted.{Halted}
+use Rattle.desk_io.specs.declared.Halt.{Halt}
+use Rattle.desk_io.specs.declared.Halt.the-variants.{Ended, NotRead, AllRead, NotTaken}
+use Rattle.desk_io.specs.Serving.{MakesAll, MakesUnread, Makes, Over, Halts, Rests}
+
+-- the record of a last line, and behind it what is written last, are the end of the input
+pub end-is : (view : View) (c : Clerk) (out : List ℕ) {f g : Finished} {mid after : List ℕ} → f ≡ finishOf view c out 0 .finished → mid ≡ finishOf view c out 0 .out →
+    g ≡ closeOf view c mid (f .at) .finished → after ≡ closeOf view c mid (f .at) .out → (g .at ≡ endOf view c out 0 .finished .at) × (after ≡ endOf view c out 0 .out)
+end-is view c out {f} {g} {mid} {after} e m k a =
+    let t = ap₂ (λ (x : Finished) y. closeOf view c y (x .at)) e m in
+    (ap (λ x. x .at) k ∙ ap (λ x. x .finished .at) t, a ∙ ap (λ x. x .out) t)
+
+-- no program needs more room than 11,264 bytes
+pub room-at-most : (view : View) → programRoom view ≤ 11_264
+room-at-most Answers = omega arith
+room-at-most History = omega arith
+room-at-most Chains = omega arith
+
+-- what a program needs at its end it has
+closing-fits : (view : View) → closingRoom view ≤ programRoom view
+closing-fits Answers = omega arith
+closing-fits History = omega arith
+closing-fits Chains = omega arith
+
+-- by why no more is read
+by-why : {view : View} {h : Halted} {why : Halt} {at : ℕ} {out : List ℕ} → h .why ≡ why → at ≤ length out → ((text : List ℕ) → h .clerk ≡ clerkAfter startedClerk text → Makes view why text (take at out)) → Rests view h at out
+by-why {view} {at = at} {out} e w r = record { within = w; rest = λ text k. subst (λ y. Makes view y text (take at out)) (sym e) (r text k) }
+
+module _ (view : View) (h : Halted) (out : List ℕ) (room : programRoom view ≤ length out) where
+  module _ {at : ℕ} {after : List ℕ} (e : at ≡ endOf view (h .clerk) out 0 .finished .at) (f : after ≡ endOf view (h .clerk) out 0 .out) where
+    -- what the end of the input puts into the buffer makes it all
+    makes-all : (text : List ℕ) → h .clerk ≡ clerkAfter startedClerk text → MakesAll view text (take at after)
+    makes-all text k = rw (e, f) (ended-all view (h .clerk) text k out room)
+
+    -- and stands within it
+    ends-there : at ≤ length after
+    ends-there = rw (e, f) (ends-within view (h .clerk) out 0 (omega arith))
+
+    -- the input has ended
+    pub rests-ended : h .why ≡ Ended → Rests view h at after
+    rests-ended w = by-why w ends-there makes-all
+
+    -- a read failed, and answers are written
+    pub rests-answers : h .why ≡ NotRead → view ≡ Answers → Rests view h at after
+    rests-answers w v = by-why w ends-there (λ text k. subst (λ x. MakesAll x text (take at after) → MakesUnread x text (take at after)) (sym v) (λ m. m) (makes-all text k))
+
+    -- or the history is
+    pub rests-history : h .why ≡ NotRead → view ≡ History → Rests view h at after
+    rests-history w v = by-why w ends-there (λ text k. subst (λ x. MakesAll x text (take at after) → MakesUnread x text (take at after)) (sym v) (λ m. m) (makes-all text k))
+
+  -- every line has been read
+  pub rests-read : {g : Finished} {after : List ℕ} → g ≡ closeOf view (h .clerk) out 0 .finished → after ≡ closeOf view (h .clerk) out 0 .out → Halts h → h .why ≡ AllRead → Rests view h (g .at) after
+  rests-read e f s w =
+      let r = closing-fits view in
+      by-why w (rw (e, f) (close-within view (h .clerk) out 0 (omega arith)))
+      (λ text k more. rw (e, f) (closed-all view (h .clerk) text k out (omega arith) (subst (λ y. Over y (h .clerk .splitter)) w (s .1)) more))
+
+-- nothing is written after a write that failed
+pub rests-untaken : {view : View} {h : Halted} {out : List ℕ} → h .why ≡ NotTaken → Rests view h 0 out
+rests-untaken w = by-why w (omega arith) (λ text k. refl)
+
+-- nor are chains after a read that failed
+pub rests-chains : {view : View} {h : Halted} {out : List ℕ} → h .why ≡ NotRead → view ≡ Chains → Rests view h 0 out
+rests-chains w v = by-why w (omega arith) (λ text k. subst (λ x. MakesUnread x text []) (sym v) refl)
+
+-- what is to be written after a read that failed
+pub rests-unread : {view : View} {h : Halted} {c : Clerk} {at : ℕ} {out : List ℕ} → h .why ≡ NotRead → h .clerk ≡ c → Rests view (record { clerk = c; why = NotRead }) at out → Rests view h at out
+rests-unread w e r = by-why w (r .within) (λ text k. r .rest text (sym e ∙ k))

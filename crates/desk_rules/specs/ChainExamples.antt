@@ -1,0 +1,84 @@
+-- Requests by numbers, and then who asks for a chain: what is answered and what the list then holds (02, No. 3).
+use Prim.Native.Nat.{ℕ}
+use mathlib.Core.List.{List, [], _∷_, _++_}
+use lib.ListN.{take, replicate}
+use Rattle.desk_rules.specs.Desk.{Request, freshDesk}
+use Rattle.desk_rules.specs.Requests.{deskAfter}
+use Rattle.desk_rules.specs.AskedChain.{askChain, chainNumbers}
+use Rattle.desk_rules.specs.Examples.{request, begins}
+
+-- who asks for a job's chain with so many places, which hold 7 before; the answer in its two numbers, and the first places of the list after it
+pub record Question : Type 0 where
+  pub job : ℕ
+  pub places : ℕ
+  pub numbers : List ℕ
+  pub list : List ℕ
+
+-- requests to a desk that was started at 1, and then questions
+pub record ChainExample : Type 0 where
+  pub requests : List Request
+  pub questions : List Question
+
+-- the answer, and the first places of the list, that a question gets after requests
+unfoldable pub answeredTo : List Request → Question → List (List ℕ)
+answeredTo rs q =
+    let t = askChain (deskAfter (freshDesk 1) rs) (q .job) (replicate (q .places) 7) in
+    chainNumbers (t .said) ∷ take 5 (t .list) ∷ []
+
+-- what the example says of it
+unfoldable pub saidOf : Question → List (List ℕ)
+saidOf q = q .numbers ∷ q .list ∷ []
+
+-- so many jobs, whose numbers stand in the first places of a list of 32
+abbrev pub told : ℕ → ℕ → List ℕ → Question
+told job n js = record { job = job; places = 32; numbers = 0 ∷ n ∷ []; list = take 5 (js ++ replicate 5 7) }
+
+-- a refusal, with so many places lent, which stay
+abbrev pub refusedWith : ℕ → ℕ → ℕ → Question
+refusedWith job places why = record { job = job; places = places; numbers = why ∷ 0 ∷ []; list = take 5 (replicate places 7) }
+
+-- a job asks to read a cell
+abbrev pub reads : ℕ → ℕ → Request
+reads = request 114
+
+-- a job asks to write it
+abbrev pub writes : ℕ → ℕ → Request
+writes = request 119
+
+-- the night's first lines: job 3 reads, 2 is to write and waits, 1 is to read and waits behind it; the youngest in the way of 1 is the holder, not who stands ahead
+abbrev pub twoWait : ChainExample
+twoWait =
+    record {
+      requests = begins 3 ++ reads 3 9 ∷ writes 2 9 ∷ reads 1 9 ∷ [];
+      questions = told 1 2 (1 ∷ 3 ∷ []) ∷ told 2 2 (2 ∷ 3 ∷ []) ∷ told 3 1 (3 ∷ []) ∷ [];
+    }
+
+-- each waits for the next: 1 for 2, 2 for 3, 3 for 4, and 4 runs
+abbrev pub oneAfterAnother : ChainExample
+oneAfterAnother =
+    record {
+      requests = begins 4 ++ writes 2 2 ∷ writes 3 3 ∷ writes 4 4 ∷ writes 3 4 ∷ writes 2 3 ∷ writes 1 2 ∷ [];
+      questions = told 1 4 (1 ∷ 2 ∷ 3 ∷ 4 ∷ []) ∷ told 2 3 (2 ∷ 3 ∷ 4 ∷ []) ∷ told 3 2 (3 ∷ 4 ∷ []) ∷ told 4 1 (4 ∷ []) ∷ [];
+    }
+
+-- of several holders the youngest; and a waiting promotion's own hold is left out: 1, 2 and 3 read, and 1 is to write
+abbrev pub ownHoldLeftOut : ChainExample
+ownHoldLeftOut =
+    record {
+      requests = begins 3 ++ reads 1 5 ∷ reads 3 5 ∷ reads 2 5 ∷ writes 1 5 ∷ [];
+      questions = told 1 2 (1 ∷ 3 ∷ []) ∷ told 2 1 (2 ∷ []) ∷ [];
+    }
+
+-- the refusals and their order: job 1 waits for 3, job 2 was sent back, 4 has committed, and 0 and 9 were never open
+abbrev pub refusals : ChainExample
+refusals =
+    record {
+      requests = begins 4 ++ writes 3 5 ∷ writes 1 6 ∷ writes 1 5 ∷ writes 2 6 ∷ request 99 4 0 ∷ [];
+      questions =
+          refusedWith 0 32 3 ∷ refusedWith 9 32 3 ∷ refusedWith 4 32 3 ∷ refusedWith 4 31 3 ∷ refusedWith 2 32 5 ∷ refusedWith 2 0 5
+          ∷ refusedWith 1 31 18 ∷ refusedWith 3 31 18 ∷ refusedWith 3 0 18 ∷ told 1 2 (1 ∷ 3 ∷ []) ∷ told 3 1 (3 ∷ []) ∷ [];
+    }
+
+-- all of them
+abbrev pub chainExamples : List ChainExample
+chainExamples = twoWait ∷ oneAfterAnother ∷ ownHoldLeftOut ∷ refusals ∷ []

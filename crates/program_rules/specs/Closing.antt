@@ -1,0 +1,57 @@
+-- What a program writes once its last line has been answered, and how the clerk puts that into the buffer: the chains of those who wait (02, No. 3).
+use Prim.Native.Nat.{ℕ, _+_, _*_}
+use mathlib.Core.Bool.{true, false}
+use mathlib.Core.List.{List, []}
+use lib.Dec.{leb}
+use lib.ListN.{length}
+use Rattle.laws.specs.Choice.{pick}
+use Rattle.terms.specs.Limits.{places}
+use Rattle.text_rules.specs.Wrote.{putFrom}
+use Rattle.desk_chain.specs.Chains.{chainsOn}
+use Rattle.program_rules.specs.declared.Clerk.{Clerk}
+use Rattle.program_rules.specs.declared.View.{View}
+use Rattle.program_rules.specs.declared.View.the-variants.{Answers, History, Chains}
+use Rattle.program_rules.specs.Chains.{chainText}
+use Rattle.program_rules.specs.Work.{lineRoom, Finishing, finishOf}
+
+-- what is written at the end, behind the records of the lines: the chains of those who wait on the clerk's desk; of answers and history nothing
+unfoldable pub closing : View → Clerk → List ℕ
+closing Answers c = []
+closing History c = []
+closing Chains c = chainText (chainsOn (c .desk))
+
+-- no job of a chain has more bytes: ten digits, and the tab or the newline behind them
+abbrev pub jobRoom : ℕ
+jobRoom = 11
+
+-- no chain has more bytes: it has no more jobs than there are places for open ones (02, No. 3: at most 32)
+abbrev pub chainRoom : ℕ
+chainRoom = places * jobRoom
+
+-- no more bytes of chains: no more jobs wait than there are places
+abbrev pub chainsRoom : ℕ
+chainsRoom = places * chainRoom
+
+-- the room that is asked for what is written at the end
+abbrev pub closingRoom : View → ℕ
+closingRoom Answers = 0
+closingRoom History = 0
+closingRoom Chains = chainsRoom
+
+-- the room that a program needs, for the records of a line and for what is written at the end
+abbrev pub programRoom : View → ℕ
+programRoom Answers = lineRoom
+programRoom History = lineRoom
+programRoom Chains = chainsRoom
+
+-- what is written at the end is put into the buffer from the place on; where there is no room, it is full and nothing changes
+unfoldable pub closeOf : View → Clerk → List ℕ → ℕ → Finishing
+closeOf view c out at =
+    let bytes = closing view c in
+    pick (leb (at + closingRoom view) (length out))
+    (record { finished = record { at = at + length bytes; full = false }; out = putFrom out at bytes })
+    (record { finished = record { at = at; full = true }; out = out })
+
+-- the end of the input: a last line that lacks its newline is answered, and behind its record stands what is written at the end
+abbrev pub endOf : View → Clerk → List ℕ → ℕ → Finishing
+endOf view c out at = let f = finishOf view c out at in closeOf view c (f .out) (f .finished .at)
