@@ -1,9 +1,9 @@
--- Nothing else that is told to who asks for a chain keeps the promises; and the numbers of an answer tell answers apart (02, No. 3).
+-- What is told to who asks for a chain, in numbers; nothing else that is told keeps the promises, and the numbers tell answers apart (02, No. 3).
 -- Assumes nothing.
-use Prim.Native.Nat.{ℕ, _≤_}
+use Prim.Native.Nat.{ℕ, _<_, _≤_}
 use mathlib.Core.Path.{_≡_, sym, ap, _∙_}
-use mathlib.Core.Bool.{true}
-use mathlib.Core.List.{List}
+use mathlib.Core.Bool.{true, false}
+use mathlib.Core.List.{List, [], _∷_}
 use native.Mathlib.Omega.{arith}
 use lib.ListN.{length}
 use Rattle.laws.specs.Lists.{filled}
@@ -14,7 +14,7 @@ use Rattle.terms.specs.declared.refusals.Refusal.the-variants.{NotOpen, SentBac
 use Rattle.terms.proofs.Numbers.{same-number, within-table}
 use Rattle.desk_rules.specs.declared.Chained.{Chained}
 use Rattle.desk_rules.specs.declared.Chained.the-variants.{Jobs, No}
-use Rattle.desk_rules.specs.Desk.{Desk, isOpen, isLive}
+use Rattle.desk_rules.specs.Desk.{sentback, Desk, isOpen, isLive}
 use Rattle.desk_rules.specs.Chain.{chainOf}
 use Rattle.desk_rules.specs.AskedChain.{ChainTold, askChain, chainNumbers}
 use Rattle.desk_rules.specs.Chains.{AsksChain}
@@ -45,6 +45,24 @@ module _ {d : Desk} (j : ℕ) (list : List ℕ) (t : ChainTold) (k : AsksChain d
       go (went-back s e) = refused-so SentBack (k .was-sent-back .1 s) ∙ sym e
       go (too-short s l e) = refused-so ShortList (k .short-list .1 (s, l)) ∙ sym e
       go (told s l e) = answered-so s l ∙ sym e
+
+-- what is told, in the paper's numbers: 3, 5 or 18 and no job, or 0 and how many jobs the chain has
+module _ {d : Desk} (j : ℕ) (list : List ℕ) (t : ChainTold) (k : AsksChain d j list t) where
+  pub tells-3 : isOpen (d .stat j) ≡ false → chainNumbers (t .said) ≡ 3 ∷ 0 ∷ []
+  unfolding chainNumbers
+  tells-3 h = ap chainNumbers (k .not-open .1 h)
+
+  pub tells-5 : d .stat j ≡ sentback → chainNumbers (t .said) ≡ 5 ∷ 0 ∷ []
+  unfolding chainNumbers
+  tells-5 h = ap chainNumbers (k .was-sent-back .1 h)
+
+  pub tells-18 : isLive (d .stat j) ≡ true → length list < 32 → chainNumbers (t .said) ≡ 18 ∷ 0 ∷ []
+  unfolding chainNumbers
+  tells-18 h l = ap chainNumbers (k .short-list .1 (h, l))
+
+  pub tells-how-many : isLive (d .stat j) ≡ true → 32 ≤ length list → chainNumbers (t .said) ≡ 0 ∷ length (chainOf d j) ∷ []
+  unfolding chainNumbers
+  tells-how-many h l = ap chainNumbers (k .answered h l .0)
 
 -- the answers' numbers tell them apart
 pub same-chained : (a b : Chained) → chainNumbers a ≡ chainNumbers b → a ≡ b
