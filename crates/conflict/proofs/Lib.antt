@@ -23,6 +23,7 @@ pub mod OneEvent
 pub mod StillHeld
 pub mod Ways
 pub mod ModeCodes
+pub mod TableRule
 pub mod Conflicting
 pub mod CellSets
 pub mod DirtyReads

@@ -83,6 +83,16 @@ pub figure-18-19 :
 unfolding grants
 figure-18-19 = refl
 
+-- Figure 18.22 of the book, likewise of S, X and I (000, 18.4.5)
+pub figure-18-22 :
+    (grants S S ∷ grants S X ∷ grants S I ∷ [])
+    ∷ (grants X S ∷ grants X X ∷ grants X I ∷ [])
+    ∷ (grants I S ∷ grants I X ∷ grants I I ∷ [])
+    ∷ []
+    ≡ (true ∷ false ∷ false ∷ []) ∷ (false ∷ false ∷ false ∷ []) ∷ (false ∷ false ∷ true ∷ []) ∷ []
+unfolding grants
+figure-18-22 = refl
+
 -- a U looks like an S to whoever asks for it, and like an X to whoever comes after: the columns of U and S are the same, and so are the rows of U and X (000, 18.4.4)
 pub u-asked-as-s : (m : Mode) → grants m U ≡ grants m S
 unfolding grants

@@ -64,7 +64,7 @@ covers-all = of-modes (covers X) refl
 -- every mode covers that of a job that holds nothing
 pub covers-none : (m n : Mode) → isFree n ≡ true → covers m n ≡ true
 unfolding covers
-covers-none m n f = rw (is-free n f)
+covers-none m n f = rw (is-free n f) (of-modes (λ m. covers m Free) refl m)
 
 -- what covers a mode covers all that it covers
 pub covers-trans : (m n o : Mode) → covers m n ≡ true → covers n o ≡ true → covers m o ≡ true

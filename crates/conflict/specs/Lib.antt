@@ -1,4 +1,5 @@
 pub mod Modes
+pub mod Tables
 pub mod Schedule
 pub mod Cells
 pub mod History

@@ -24,54 +24,40 @@ recorded asks-write = Write
 recorded asks-increment = Increment
 recorded asks-update = Read
 
--- X covers every need, S covers S, I covers I (01, The desk's rules), U covers U and S (02, No. 1); nothing held covers no need. Where nothing is needed, anything covers it
-unfoldable pub covers : Mode → Mode → Bool
-covers m Free = true
-covers Free S = false
-covers S S = true
-covers X S = true
-covers I S = false
-covers U S = true
-covers Free X = false
-covers S X = false
-covers X X = true
-covers I X = false
-covers U X = false
-covers Free I = false
-covers S I = false
-covers X I = true
-covers I I = true
-covers U I = false
-covers Free U = false
-covers S U = false
-covers X U = true
-covers I U = false
-covers U U = true
+-- yes and no, as the printed matrix has them
+abbrev pub Y : Bool
+Y = true
 
--- a mode held by one job agrees with a mode that another asks for: beside a held S an S or a U, beside a held I an I, beside a held X or U nothing (01, The desk's rules; 02, No. 1; 000, 18.4.4).
--- Beside a job that holds nothing everything is granted, and who asks for nothing gets it
+abbrev pub N : Bool
+N = false
+
+-- a row of a printed table, its columns being S, X, I and U: what it says of a mode. Nothing has no column, and every row says yes of it
+abbrev pub row : Bool → Bool → Bool → Bool → Mode → Bool
+row s x i u Free = Y
+row s x i u S = s
+row s x i u X = x
+row s x i u I = i
+row s x i u U = u
+
+-- What covers what, a row for each mode that a job holds, a column for each that it needs: S covers S, I covers I, X every need (01, The desk's rules), U covers U and S (02, No. 1).
+-- Nothing held covers no need, and where nothing is needed, anything covers it
+unfoldable pub covers : Mode → Mode → Bool
+covers Free m = row N N N N m
+--               S X I U   needed
+covers S m = row Y N N N m
+covers X m = row Y Y Y Y m
+covers I m = row N N Y N m
+covers U m = row Y N N Y m
+
+-- The compatibility matrix as it is printed, a row for each mode that another job holds, a column for each that is asked for (02, No. 4; 000, 18.4.2):
+-- beside a held S an S or a U is granted, beside a held I an I, beside a held X or U nothing (01, The desk's rules; 02, No. 1; 000, 18.4.4). Beside a job that holds nothing everything is, and who asks for nothing gets it
 unfoldable pub grants : Mode → Mode → Bool
-grants Free m = true
-grants S Free = true
-grants S S = true
-grants S X = false
-grants S I = false
-grants S U = true
-grants X Free = true
-grants X S = false
-grants X X = false
-grants X I = false
-grants X U = false
-grants I Free = true
-grants I S = false
-grants I X = false
-grants I I = true
-grants I U = false
-grants U Free = true
-grants U S = false
-grants U X = false
-grants U I = false
-grants U U = false
+grants Free m = Y
+--               S X I U   asked for
+grants S m = row Y N N Y m
+grants X m = row N N N N m
+grants I m = row N N Y N m
+grants U m = row N N N N m
 
 -- two jobs may hold together what one of them may be granted beside the other (02, No. 1: holders of one cell are no longer all of one mode)
 unfoldable pub beside : Mode → Mode → Bool

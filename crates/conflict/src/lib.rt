@@ -2,3 +2,4 @@
 pub mod action;
 pub mod cells;
 pub mod modes;
+mod tables;

@@ -1,5 +1,10 @@
 // Lock modes: what each need is, what covers it, what is granted beside it and what a promotion asks for (01, The desk's rules; 02, No. 1).
 use crate::action::Kind;
+use crate::tables::COVERS;
+use crate::tables::GRANTS;
+use crate::tables::N;
+use crate::tables::Y;
+use crate::tables::look;
 use terms::letters::Ask;
 ghost use mathlib.Core.Path.{_≡_};
 ghost use Rattle.conflict.specs.Modes.{needed, recorded, covers, grants, asked, isFree, codeOf, modeOf};
@@ -57,45 +62,14 @@ pub fn recorded_kind(a: Ask) -> Kind
 pub fn mode_covers(held: Mode, need: Mode) -> bool
     ensures { λ r. ⌜ r ≡ covers held need ⌝ }
 {
-    let h = code_of(held);
-    let n = code_of(need);
-    if n == NOTHING {
-        return true;
-    }
-    if h == EXCLUSIVE {
-        return true;
-    }
-    if h == n {
-        return true;
-    }
-    if h == UPDATING {
-        return n == SHARED;
-    }
-    false
+    look(COVERS, N, held, need)
 }
 
 // Whether a mode that one job holds lets another be granted the mode that it asks for: S or U beside S, I beside I, and anything where one of the two is nothing.
 pub fn mode_grants(held: Mode, asks: Mode) -> bool
     ensures { λ r. ⌜ r ≡ grants held asks ⌝ }
 {
-    let h = code_of(held);
-    let a = code_of(asks);
-    if h == NOTHING {
-        return true;
-    }
-    if a == NOTHING {
-        return true;
-    }
-    if h == INCREMENTING {
-        return a == INCREMENTING;
-    }
-    if h == SHARED {
-        if a == UPDATING {
-            return true;
-        }
-        return a == SHARED;
-    }
-    false
+    look(GRANTS, Y, held, asks)
 }
 
 // The mode that a job asks for, given what it holds and what it needs: the one of the two that covers the other, or X.
