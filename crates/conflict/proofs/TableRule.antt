@@ -1,23 +1,30 @@
--- A table that is looked up is what a definition says: one test over every two modes, which is computed, and a law that turns it into the rule.
+-- A table that is looked up says what a definition says: one test over every two modes, which is computed, and a law that turns it into the rule.
 -- Assumes nothing.
-use Prim.Native.Nat.{ℕ}
-use mathlib.Core.Path.{_≡_, ap₂, _∙_}
-use mathlib.Core.Bool.{Bool, true}
-use mathlib.Core.List.{List}
+use mathlib.Core.Path.{_≡_, refl, _∙_}
+use mathlib.Core.Bool.{Bool, true, false}
+use Rattle.laws.specs.Choice.{not-both}
 use Rattle.conflict.specs.declared.modes.Mode.{Mode}
-use Rattle.conflict.specs.Modes.{codeOf}
-use Rattle.conflict.specs.Tables.{lookUp}
+use Rattle.conflict.specs.declared.modes.Mode.the-variants.{Free, S, X, I, U}
+use Rattle.conflict.specs.declared.tables.Row.{Row}
+use Rattle.conflict.specs.declared.tables.Table.{Table}
+use Rattle.conflict.specs.Modes.{isFree}
+use Rattle.conflict.specs.Tables.{inRow, Column, lookUp}
 use Rattle.conflict.proofs.EachMode.{eachMode, alike, of-two, equal}
+use Rattle.conflict.proofs.ModeLaws.{is-free}
 
-module _ (table : List (List Bool)) (unheld : Bool) where
-  -- what the table says of two modes
-  abbrev pub said : Mode → Mode → Bool
-  said m n = lookUp table unheld (codeOf m) (codeOf n)
+-- where nothing is held, the row beside the table tells
+pub unheld-row : {b : Bool} (table : Table) (unheld : Row) (held other : Mode) → isFree held ≡ true → b ≡ inRow unheld other → b ≡ lookUp table unheld held other
+unheld-row table unheld held other f e = rw (is-free held f) e
 
-  -- what is looked up by the codes of two modes is said of them
-  pub by-codes : {a b : ℕ} {r : Bool} (m n : Mode) → a ≡ codeOf m → b ≡ codeOf n → r ≡ lookUp table unheld a b → r ≡ said m n
-  by-codes m n p q e = e ∙ ap₂ (lookUp table unheld) p q
+-- else the column of the other mode: what it says of the held one is what the row of that one says of the other
+pub held-row : {b : Bool} {column : Row} (table : Table) (unheld : Row) (held other : Mode) → isFree held ≡ false → Column table other column → b ≡ inRow column held → b ≡ lookUp table unheld held other
+unfolding isFree
+held-row table unheld Free other f c e = not-both refl f
+held-row table unheld S other f c e = e ∙ c .of-s
+held-row table unheld X other f c e = e ∙ c .of-x
+held-row table unheld I other f c e = e ∙ c .of-i
+held-row table unheld U other f c e = e ∙ c .of-u
 
-  -- a table that says of every two modes what a definition says has its rule
-  pub by-table : {r : Bool} (f : Mode → Mode → Bool) (m n : Mode) → r ≡ said m n → eachMode (λ m. eachMode (λ n. alike (said m n) (f m n))) ≡ true → r ≡ f m n
-  by-table f m n e h = e ∙ equal (said m n) (f m n) (of-two (λ m n. alike (said m n) (f m n)) h m n)
+-- a table that says of every two modes what a definition says has its rule
+pub by-table : {b : Bool} (table : Table) (unheld : Row) (f : Mode → Mode → Bool) (m n : Mode) → b ≡ lookUp table unheld m n → eachMode (λ m. eachMode (λ n. alike (lookUp table unheld m n) (f m n))) ≡ true → b ≡ f m n
+by-table table unheld f m n e h = e ∙ equal (lookUp table unheld m n) (f m n) (of-two (λ m n. alike (lookUp table unheld m n) (f m n)) h m n)

@@ -1,15 +1,27 @@
--- How the code looks a table up by the codes of two modes; proved to be `covers` and `grants` of its two tables.
-use Prim.Native.Nat.{ℕ, _-_}
-use mathlib.Core.Bool.{Bool, true, false}
-use mathlib.Core.List.{List, []}
-use lib.Dec.{eqb}
-use lib.ListN.{getD}
-use Rattle.laws.specs.Choice.{pick}
-use Rattle.conflict.specs.declared.modes.Mode.the-variants.{Free}
-use Rattle.conflict.specs.Modes.{codeOf}
+-- How the code looks up its tables; proved to be `grants` and `covers`.
+use mathlib.Core.Path.{_≡_}
+use mathlib.Core.Bool.{Bool}
+use Rattle.conflict.specs.declared.modes.Mode.{Mode}
+use Rattle.conflict.specs.declared.modes.Mode.the-variants.{Free, S, X, I, U}
+use Rattle.conflict.specs.declared.tables.Row.{Row}
+use Rattle.conflict.specs.declared.tables.Table.{Table}
+use Rattle.conflict.specs.Modes.{row}
 
--- the entry in the row of a held mode and the column of another, the codes being rows and columns counted from 1; yes where the other is nothing, and else what is said where nothing is held
-unfoldable pub lookUp : List (List Bool) → Bool → ℕ → ℕ → Bool
-lookUp table unheld held other =
-    pick (eqb other (codeOf Free)) true
-    (pick (eqb held (codeOf Free)) unheld (getD (getD table (held - 1) []) (other - 1) false))
+-- what a row says of a mode
+abbrev pub inRow : Row → Mode → Bool
+inRow r m = row (r .0) (r .1) (r .2) (r .3) m
+
+-- the column of a mode: what each row of a table says of it
+pub record Column (table : Table) (m : Mode) (column : Row) : Type 0 where
+  pub of-s : column .0 ≡ inRow (table .0) m
+  pub of-x : column .1 ≡ inRow (table .1) m
+  pub of-i : column .2 ≡ inRow (table .2) m
+  pub of-u : column .3 ≡ inRow (table .3) m
+
+-- what the row of a held mode says of another; where nothing is held, the row that comes beside the table
+abbrev pub lookUp : Table → Row → Mode → Mode → Bool
+lookUp table unheld Free other = inRow unheld other
+lookUp table unheld S other = inRow (table .0) other
+lookUp table unheld X other = inRow (table .1) other
+lookUp table unheld I other = inRow (table .2) other
+lookUp table unheld U other = inRow (table .3) other

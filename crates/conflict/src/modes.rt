@@ -1,8 +1,9 @@
-// Lock modes: what each need is, what covers it, what is granted beside it and what a promotion asks for (01, The desk's rules; 02, No. 1).
+// Lock modes: what each need is, what covers it, what is granted beside it (by the tables of `tables.rt`) and what a promotion asks for (01, The desk's rules; 02, No. 1 and No. 4).
 use crate::action::Kind;
 use crate::tables::COVERS;
 use crate::tables::GRANTS;
 use crate::tables::N;
+use crate::tables::Row;
 use crate::tables::Y;
 use crate::tables::look;
 use terms::letters::Ask;
@@ -58,18 +59,18 @@ pub fn recorded_kind(a: Ask) -> Kind
     }
 }
 
-// Whether a held mode covers a needed one: X covers every need, U that of a read, and each its own.
+// Whether a held mode covers a needed one, as the table `COVERS` says; nothing held covers no need.
 pub fn mode_covers(held: Mode, need: Mode) -> bool
     ensures { λ r. ⌜ r ≡ covers held need ⌝ }
 {
-    look(COVERS, N, held, need)
+    look(COVERS, Row(N, N, N, N), held, need)
 }
 
-// Whether a mode that one job holds lets another be granted the mode that it asks for: S or U beside S, I beside I, and anything where one of the two is nothing.
+// Whether a mode that one job holds lets another be granted the mode that it asks for, as the matrix `GRANTS` says; beside nothing held everything is granted.
 pub fn mode_grants(held: Mode, asks: Mode) -> bool
     ensures { λ r. ⌜ r ≡ grants held asks ⌝ }
 {
-    look(GRANTS, Y, held, asks)
+    look(GRANTS, Row(Y, Y, Y, Y), held, asks)
 }
 
 // The mode that a job asks for, given what it holds and what it needs: the one of the two that covers the other, or X.

@@ -1,13 +1,14 @@
 // The compatibility matrix as it is printed for training, what covers what laid out likewise, and how both are looked up (02, No. 4; 000, 18.4.2).
 use crate::modes::Mode;
-use crate::modes::NOTHING;
-use crate::modes::code_of;
+use crate::modes::mode_is_free;
 ghost use mathlib.Core.Path.{_≡_};
-ghost use Rattle.conflict.specs.Modes.{codeOf};
-ghost use Rattle.conflict.specs.Tables.{lookUp};
+ghost use Rattle.conflict.specs.Tables.{inRow, Column, lookUp};
 
-// A row for each of S, X, I and U, and in it a column for each.
-pub type Table = [[bool; 4]; 4];
+// A row of a table: what it says of S, of X, of I and of U.
+pub struct Row(pub bool, pub bool, pub bool, pub bool);
+
+// A table: the rows of S, of X, of I and of U.
+pub struct Table(pub Row, pub Row, pub Row, pub Row);
 
 // Yes.
 pub const Y: bool = true;
@@ -17,35 +18,55 @@ pub const N: bool = false;
 
 // The compatibility matrix: a row for each mode that another job holds, a column for each mode that is asked for. Is it granted?
 //
-//   S  X  I  U   asked for
-pub const GRANTS: Table = [
-    [Y, N, N, Y], // S held
-    [N, N, N, N], // X held
-    [N, N, Y, N], // I held
-    [N, N, N, N], // U held
-];
+//      S  X  I  U   asked for
+pub const GRANTS: Table = Table(
+    Row(Y, N, N, Y), // S held
+    Row(N, N, N, N), // X held
+    Row(N, N, Y, N), // I held
+    Row(N, N, N, N), // U held
+);
 
 // What covers what: a row for each mode that a job holds, a column for each mode that it needs. Has it what it needs?
 //
-//   S  X  I  U   needed
-pub const COVERS: Table = [
-    [Y, N, N, N], // has S
-    [Y, Y, Y, Y], // has X
-    [N, N, Y, N], // has I
-    [Y, N, N, Y], // has U
-];
+//      S  X  I  U   needed
+pub const COVERS: Table = Table(
+    Row(Y, N, N, N), // has S
+    Row(Y, Y, Y, Y), // has X
+    Row(N, N, Y, N), // has I
+    Row(Y, N, N, Y), // has U
+);
 
-// What a table has in the row of a held mode and the column of another. Nothing has no column, and yes is said of it; where nothing is held there is no row, and what is said then comes beside the table.
-pub fn look(table: Table, unheld: bool, held: Mode, other: Mode) -> bool
-    ensures { λ r. ⌜ r ≡ lookUp table unheld (codeOf held) (codeOf other) ⌝ }
+// What a row says of a mode. Nothing has no column, and every row says yes of it.
+fn says(r: Row, m: Mode) -> bool
+    ensures { λ b. ⌜ b ≡ inRow r m ⌝ }
 {
-    let row = code_of(held);
-    let column = code_of(other);
-    if column == NOTHING {
-        return Y;
+    match m {
+        Mode::Free => Y,
+        Mode::S => r.0,
+        Mode::X => r.1,
+        Mode::I => r.2,
+        Mode::U => r.3,
     }
-    if row == NOTHING {
-        return unheld;
+}
+
+// The column of a mode: what each row says of it.
+fn column_of(table: Table, m: Mode) -> Row
+    ensures { λ r. ⌜ Column table m r ⌝ }
+{
+    Row(
+        says(table.0, m),
+        says(table.1, m),
+        says(table.2, m),
+        says(table.3, m),
+    )
+}
+
+// What the row of a held mode says of another, found in the column of that other, which stays the same while one holder after another is looked at. Where nothing is held the table has no row, and the one that stands for it comes beside it.
+pub fn look(table: Table, unheld: Row, held: Mode, other: Mode) -> bool
+    ensures { λ b. ⌜ b ≡ lookUp table unheld held other ⌝ }
+{
+    if mode_is_free(held) {
+        return says(unheld, other);
     }
-    table[row as usize - 1][column as usize - 1]
+    says(column_of(table, other), held)
 }

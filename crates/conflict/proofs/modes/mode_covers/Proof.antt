@@ -2,8 +2,7 @@
 -- Assumes nothing.
 use mathlib.Core.Path.{refl}
 use borrow.Author.Needs.{needs}
-use Rattle.conflict.specs.Modes.{covers, codeOf}
-use Rattle.conflict.specs.Tables.{lookUp}
+use Rattle.conflict.specs.Modes.{covers}
 use Rattle.conflict.proofs.TableRule.{by-table}
 use Rattle.conflict.proofs.modes.mode_covers.Statement.{statement}
 use Rattle.conflict.proofs.modes.mode_covers.Tie as tie
@@ -12,7 +11,7 @@ look-requires : tie.Need-look-requires
 look-requires c κs = search needs
 
 returns : tie.Need-returns
-returns c = by-table _ _ covers _ _ (c .look .ensures) (unfold lookUp covers codeOf in refl)
+returns c = by-table _ _ covers _ _ (c .look .ensures) (unfold covers in refl)
 
 pub mode-covers-spec : {M : Type 1} → statement M
 mode-covers-spec = tie.close (tie.spec look-requires returns)
