@@ -12,18 +12,29 @@ use Rattle.conflict.specs.Tables.{inRow, Column, lookUp}
 use Rattle.conflict.proofs.EachMode.{eachMode, alike, of-two, equal}
 use Rattle.conflict.proofs.ModeLaws.{is-free}
 
+-- of nothing every row says yes
+pub no-column : (table : Table) (unheld : Row) (held other : Mode) → isFree other ≡ true → true ≡ lookUp table unheld held other
+no-column table unheld held other f = rw (is-free other f) (rows held)
+  where
+    rows : (held : Mode) → true ≡ lookUp table unheld held Free
+    rows Free = refl
+    rows S = refl
+    rows X = refl
+    rows I = refl
+    rows U = refl
+
 -- where nothing is held, the row beside the table tells
-pub unheld-row : {b : Bool} (table : Table) (unheld : Row) (held other : Mode) → isFree held ≡ true → b ≡ inRow unheld other → b ≡ lookUp table unheld held other
-unheld-row table unheld held other f e = rw (is-free held f) e
+pub no-row : {b : Bool} (table : Table) (unheld : Row) (held other : Mode) → isFree held ≡ true → b ≡ inRow unheld other → b ≡ lookUp table unheld held other
+no-row table unheld held other f e = rw (is-free held f) e
 
 -- else the column of the other mode: what it says of the held one is what the row of that one says of the other
-pub held-row : {b : Bool} {column : Row} (table : Table) (unheld : Row) (held other : Mode) → isFree held ≡ false → Column table other column → b ≡ inRow column held → b ≡ lookUp table unheld held other
+pub by-column : {b : Bool} {column : Row} (table : Table) (unheld : Row) (held other : Mode) → isFree held ≡ false → Column table other column → b ≡ inRow column held → b ≡ lookUp table unheld held other
 unfolding isFree
-held-row table unheld Free other f c e = not-both refl f
-held-row table unheld S other f c e = e ∙ c .of-s
-held-row table unheld X other f c e = e ∙ c .of-x
-held-row table unheld I other f c e = e ∙ c .of-i
-held-row table unheld U other f c e = e ∙ c .of-u
+by-column table unheld Free other f c e = not-both refl f
+by-column table unheld S other f c e = e ∙ c .of-s
+by-column table unheld X other f c e = e ∙ c .of-x
+by-column table unheld I other f c e = e ∙ c .of-i
+by-column table unheld U other f c e = e ∙ c .of-u
 
 -- a table that says of every two modes what a definition says has its rule
 pub by-table : {b : Bool} (table : Table) (unheld : Row) (f : Mode → Mode → Bool) (m n : Mode) → b ≡ lookUp table unheld m n → eachMode (λ m. eachMode (λ n. alike (lookUp table unheld m n) (f m n))) ≡ true → b ≡ f m n

@@ -61,10 +61,14 @@ fn column_of(table: Table, m: Mode) -> Row
     )
 }
 
-// What the row of a held mode says of another, found in the column of that other, which stays the same while one holder after another is looked at. Where nothing is held the table has no row, and the one that stands for it comes beside it.
+// What the row of a held mode says of another. Nothing has no column, and yes is said of it; where nothing is held the table has no row, and the one that stands for it comes beside it.
+// Else the column of the other mode is asked for the held one: it stays the same while one holder after another is looked at.
 pub fn look(table: Table, unheld: Row, held: Mode, other: Mode) -> bool
     ensures { λ b. ⌜ b ≡ lookUp table unheld held other ⌝ }
 {
+    if mode_is_free(other) {
+        return Y;
+    }
     if mode_is_free(held) {
         return says(unheld, other);
     }

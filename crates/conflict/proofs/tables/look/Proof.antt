@@ -2,18 +2,24 @@
 -- Assumes nothing.
 use borrow.Author.Needs.{needs}
 use Rattle.laws.specs.Choice.{was-true, was-false}
-use Rattle.conflict.proofs.TableRule.{unheld-row, held-row}
+use Rattle.conflict.proofs.TableRule.{no-column, no-row, by-column}
 use Rattle.conflict.proofs.tables.look.Statement.{statement}
 use Rattle.conflict.proofs.tables.look.Tie as tie
 
 mode-is-free-requires : tie.Need-mode-is-free-requires
 mode-is-free-requires c κs = search needs
 
+returns : tie.Need-returns
+returns c = search (no-column, was-true)
+
+mode-is-free-requires-2 : tie.Need-mode-is-free-requires-2
+mode-is-free-requires-2 c κs = search needs
+
 says-requires : tie.Need-says-requires
 says-requires c κs = search needs
 
-returns : tie.Need-returns
-returns c = search (unheld-row, was-true)
+returns-2 : tie.Need-returns-2
+returns-2 c = search (no-row, was-true)
 
 column-of-requires : tie.Need-column-of-requires
 column-of-requires c κs = search needs
@@ -21,10 +27,10 @@ column-of-requires c κs = search needs
 says-requires-2 : tie.Need-says-requires-2
 says-requires-2 c κs = search needs
 
-returns-2 : tie.Need-returns-2
-returns-2 c = search (held-row, was-false)
+returns-3 : tie.Need-returns-3
+returns-3 c = search (by-column, was-false)
 
 pub look-spec : {M : Type 1} → statement M
 look-spec =
-    let asked = tie.spec mode-is-free-requires says-requires returns in
-    tie.close (asked column-of-requires says-requires-2 returns-2)
+    let tested = tie.spec mode-is-free-requires returns mode-is-free-requires-2 in
+    tie.close (tested says-requires returns-2 column-of-requires says-requires-2 returns-3)
