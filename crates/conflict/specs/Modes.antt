@@ -1,4 +1,4 @@
--- Lock modes: what each kind needs, what covers what, the paper's matrix of what is granted beside what is held, and what may be held together (01, The desk's rules; 02, No. 1).
+-- Lock modes: what each kind needs, what covers what and what is granted beside what is held, both as they are printed, and what may be held together (01, The desk's rules; 02, No. 1 and No. 4).
 use Prim.Native.Nat.{ℕ}
 use mathlib.Core.Bool.{Bool, true, false, _||_}
 use lib.Dec.{eqb}
@@ -39,7 +39,7 @@ row s x i u X = x
 row s x i u I = i
 row s x i u U = u
 
--- What covers what, a row for each mode that a job holds, a column for each that it needs: S covers S, I covers I, X every need (01, The desk's rules), U covers U and S (02, No. 1).
+-- what covers what, a row for each mode that a job holds, a column for each that it needs: S covers S, I covers I, X every need (01, The desk's rules), U covers U and S (02, No. 1).
 -- Nothing held covers no need, and where nothing is needed, anything covers it
 unfoldable pub covers : Mode → Mode → Bool
 covers Free m = row N N N N m
@@ -49,7 +49,7 @@ covers X m = row Y Y Y Y m
 covers I m = row N N Y N m
 covers U m = row Y N N Y m
 
--- The compatibility matrix as it is printed, a row for each mode that another job holds, a column for each that is asked for (02, No. 4; 000, 18.4.2):
+-- the compatibility matrix as it is printed, a row for each mode that another job holds, a column for each that is asked for (02, No. 4; 000, 18.4.2):
 -- beside a held S an S or a U is granted, beside a held I an I, beside a held X or U nothing (01, The desk's rules; 02, No. 1; 000, 18.4.4). Beside a job that holds nothing everything is, and who asks for nothing gets it
 unfoldable pub grants : Mode → Mode → Bool
 grants Free m = Y
