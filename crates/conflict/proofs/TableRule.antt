@@ -1,4 +1,4 @@
--- A table that is looked up says what a definition says: one test over every two modes, which is computed, and a law that turns it into the rule.
+-- How a table is looked up, case by case; and that it says what a definition says, if one computed test over every two modes holds.
 -- Assumes nothing.
 use mathlib.Core.Path.{_≡_, refl, _∙_}
 use mathlib.Core.Bool.{Bool, true, false}
@@ -36,6 +36,6 @@ by-column table unheld X other f c e = e ∙ c .of-x
 by-column table unheld I other f c e = e ∙ c .of-i
 by-column table unheld U other f c e = e ∙ c .of-u
 
--- a table that says of every two modes what a definition says has its rule
+-- a table that passes the test, at every two modes the same as the definition, says what the definition says of any two
 pub by-table : {b : Bool} (table : Table) (unheld : Row) (f : Mode → Mode → Bool) (m n : Mode) → b ≡ lookUp table unheld m n → eachMode (λ m. eachMode (λ n. alike (lookUp table unheld m n) (f m n))) ≡ true → b ≡ f m n
 by-table table unheld f m n e h = e ∙ equal (lookUp table unheld m n) (f m n) (of-two (λ m n. alike (lookUp table unheld m n) (f m n)) h m n)
