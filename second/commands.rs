@@ -3,12 +3,11 @@
 use crate::chain::{put_chains, put_question, QUESTION};
 use crate::desk::{history_of, Answer, Desk, Outcome};
 use crate::judge::{judge, Verdict};
-use crate::lines::{put_event, put_field, put_outcome, put_record, read_history, read_request, words_of};
+use crate::lines::{put_bad, put_event, put_field, put_outcome, put_record, words_of, Reader};
 use crate::words::*;
 use std::io::{self, ErrorKind, Read, Write};
 
-/// Bytes of a line that are kept from one read to the next. No good line is as long, so
-/// a longer one, cut here and without its newline, is the same bad line.
+/// Bytes that are kept of a line of steps. No step is as long, so a longer line is none.
 pub const KEPT: usize = 64;
 pub const READ_AT_ONCE: usize = 1 << 17;
 pub const WRITE_AT_ONCE: usize = 1 << 16;
@@ -37,16 +36,19 @@ pub fn write_out(output: &mut impl Write, out: &mut Vec<u8>) -> io::Result<()> {
     Ok(())
 }
 
-/// Gives each line of the input to `work`, which puts its records, until `work` says
-/// false. All records of complete lines are written before more input is awaited.
+/// Reads the input by lines. `take` takes in the bytes of a line, which may come in parts, but never its
+/// newline, from `fresh` on; then `work` puts the line's records, told whether it had a newline, until it
+/// says false. All records of complete lines are written before more input is awaited.
 /// docs/DECISIONS.md, "What a line is": bytes after the last newline are one more line.
-pub fn each_line(
+pub fn each_line<T: Clone>(
     mut input: impl Read,
     output: &mut impl Write,
-    mut work: impl FnMut(&[u8], &mut Vec<u8>) -> bool,
+    fresh: T,
+    take: impl Fn(&mut T, &[u8]),
+    mut work: impl FnMut(T, bool, &mut Vec<u8>) -> bool,
 ) -> io::Result<()> {
     let mut buffer = vec![0; READ_AT_ONCE];
-    let mut kept = Vec::with_capacity(KEPT);
+    let (mut taken, mut begun) = (fresh.clone(), false);
     let mut out = Vec::new();
     loop {
         write_out(output, &mut out)?;
@@ -54,51 +56,39 @@ pub fn each_line(
         if count == 0 {
             break;
         }
-        let mut rest = &buffer[..count];
-        while let Some(end) = rest.iter().position(|&byte| byte == b'\n') {
-            let (line, after) = rest.split_at(end + 1);
-            rest = after;
-            let more = if kept.is_empty() {
-                work(line, &mut out)
-            } else {
-                keep(&mut kept, line);
-                let more = work(&kept, &mut out);
-                kept.clear();
-                more
-            };
-            if !more {
+        for part in buffer[..count].split_inclusive(|&byte| byte == b'\n') {
+            let bytes = part.strip_suffix(b"\n").unwrap_or(part);
+            take(&mut taken, bytes);
+            begun = bytes.len() == part.len();
+            if !begun && !work(std::mem::replace(&mut taken, fresh.clone()), true, &mut out) {
                 return write_out(output, &mut out);
             }
             if out.len() >= WRITE_AT_ONCE {
                 write_out(output, &mut out)?;
             }
         }
-        keep(&mut kept, rest);
     }
-    if !kept.is_empty() {
-        work(&kept, &mut out);
+    if begun {
+        work(taken, false, &mut out);
     }
     write_out(output, &mut out)
 }
 
+/// What comes of a request line: the request with its outcome, or the field at fault.
+pub type Done = Result<(Line, Outcome), u8>;
+
 /// 01, What is delivered: the desk programs, started at 1, which read 1,000,000 lines and
-/// stop. `put` puts the records of one step; handed back is the desk as it is at the end.
+/// stop. `put` puts the records of one line; handed back is the desk as it is at the end.
 pub fn desk_program(
     input: impl Read,
     output: &mut impl Write,
-    put: impl Fn(&mut Vec<u8>, u64, Line, &Outcome),
+    put: impl Fn(&mut Vec<u8>, u64, &Done),
 ) -> io::Result<Desk> {
     let mut desk = Desk::start(1).expect("1 is a number to start at");
     let mut number = 0;
-    each_line(input, output, |line, out| {
+    each_line(input, output, Reader::of(REQUEST_LETTERS), Reader::take, |read, newline, out| {
         number += 1;
-        match read_request(line) {
-            Some(asked) => put(out, number, asked, &desk.step(asked)),
-            None => {
-                let nothing = Line { letter: BEGIN, job: 0, cell: 0 };
-                put(out, number, nothing, &Outcome::alone(Answer::No(BAD_LINE)));
-            }
-        }
+        put(out, number, &read.end(newline).map(|asked| (asked, desk.step(asked))));
         number < DESK_LINES
     })?;
     Ok(desk)
@@ -106,14 +96,18 @@ pub fn desk_program(
 
 /// The program that prints the desk's answers.
 pub fn answers(input: impl Read, output: &mut impl Write) -> io::Result<()> {
-    desk_program(input, output, |out, number, _, outcome| put_outcome(out, number, outcome)).map(drop)
+    desk_program(input, output, |out, number, done| match done {
+        Ok((_, outcome)) => put_outcome(out, number, outcome),
+        Err(field) => put_bad(out, number, "no", *field),
+    })
+    .map(drop)
 }
 
 /// The program that prints the desk's history.
 pub fn history(input: impl Read, output: &mut impl Write) -> io::Result<()> {
-    desk_program(input, output, |out, _, asked, outcome| {
-        for event in history_of(asked, outcome) {
-            put_event(out, event);
+    desk_program(input, output, |out, _, done| {
+        if let Ok((asked, outcome)) = done {
+            history_of(*asked, outcome).into_iter().for_each(|event| put_event(out, event));
         }
     })
     .map(drop)
@@ -141,7 +135,7 @@ impl<R: Read> Read for Remember<R> {
 /// its 1,000,000 lines are; and nothing before. After a read that failed it prints nothing at all.
 pub fn chain(input: impl Read, output: &mut impl Write) -> io::Result<()> {
     let mut input = Remember { input, failed: None };
-    let desk = desk_program(&mut input, output, |_, _, _, _| {})?;
+    let desk = desk_program(&mut input, output, |_, _, _| {})?;
     if let Some(failure) = input.failed {
         eprintln!("second: the input could not be read to its end: {failure}");
         return Ok(());
@@ -164,7 +158,7 @@ pub fn verdict(input: impl Read, output: &mut impl Write) -> io::Result<()> {
 /// 01, The judge's rules, last paragraph: 16 is tested before anything else.
 pub fn judge_within<'a>(text: &'a [u8], order: &mut [u8]) -> Verdict<'a> {
     if text.len() > HISTORY_BYTES {
-        Verdict::No { line: 0, refusal: TEXT_LONG, text: b"" }
+        Verdict::No { line: 0, refusal: TEXT_LONG, field: None, text: b"" }
     } else {
         judge(text, order)
     }
@@ -183,7 +177,9 @@ pub fn put_verdict(out: &mut Vec<u8>, verdict: &Verdict, order: &[u8]) {
         Verdict::Orderly(count) => ("orderly", order[..count].iter().map(|&job| u64::from(job)).collect()),
         Verdict::Knot(count) => ("knot", order[..count].iter().map(|&job| u64::from(job)).collect()),
         Verdict::Dirty { reader, writer } => ("dirty", vec![u64::from(reader), u64::from(writer)]),
-        Verdict::No { line, refusal, .. } => ("no", vec![line as u64, u64::from(refusal)]),
+        Verdict::No { line, refusal, field, .. } => {
+            ("no", [line as u64, u64::from(refusal)].into_iter().chain(field.map(u64::from)).collect())
+        }
     };
     out.extend_from_slice(word.as_bytes());
     for number in numbers {
@@ -244,17 +240,20 @@ pub fn put_case(out: &mut Vec<u8>, case: Option<(usize, Vec<u8>)>) {
 /// For tests of the text layer: what the two line readers say of each line.
 pub fn lines(input: impl Read, output: &mut impl Write) -> io::Result<()> {
     let mut number = 0;
-    each_line(input, output, |line, out| {
+    let readers = [REQUEST_LETTERS, HISTORY_LETTERS].map(Reader::of);
+    let take = |readers: &mut [Reader; 2], part: &[u8]| readers.iter_mut().for_each(|read| read.take(part));
+    each_line(input, output, readers, take, |[request, event], newline, out| {
         number += 1;
-        put_request_reading(out, number, line);
-        put_history_reading(out, number, line);
+        put_request_reading(out, number, request.end(newline));
+        put_history_reading(out, number, event.end(newline));
         true
     })
 }
 
-pub fn put_request_reading(out: &mut Vec<u8>, number: u64, line: &[u8]) {
-    let Some(read) = read_request(line) else {
-        return put_record(out, number, "no", u64::from(BAD_LINE));
+pub fn put_request_reading(out: &mut Vec<u8>, number: u64, read: Result<Line, u8>) {
+    let read = match read {
+        Ok(read) => read,
+        Err(field) => return put_bad(out, number, "no", field),
     };
     put_record(out, number, "go", u64::from(read.letter));
     if has_job(read.letter) {
@@ -265,10 +264,10 @@ pub fn put_request_reading(out: &mut Vec<u8>, number: u64, line: &[u8]) {
     }
 }
 
-pub fn put_history_reading(out: &mut Vec<u8>, number: u64, line: &[u8]) {
-    match read_history(line) {
-        Some(event) => put_event(out, event),
-        None => put_record(out, number, "wake", u64::from(BAD_LINE)),
+pub fn put_history_reading(out: &mut Vec<u8>, number: u64, read: Result<Line, u8>) {
+    match read {
+        Ok(event) => put_event(out, event),
+        Err(field) => put_bad(out, number, "wake", field),
     }
 }
 
@@ -286,10 +285,10 @@ pub fn steps(first: u32, input: impl Read, output: &mut impl Write) -> io::Resul
         }
     };
     let mut all_steps = true;
-    each_line(input, output, |line, out| {
-        if let Some(asked) = read_step(line) {
+    each_line(input, output, Vec::new(), keep, |line, _, out| {
+        if let Some(asked) = read_step(&line) {
             put_step(out, &desk.step(asked));
-        } else if let Some((job, places)) = read_question(line) {
+        } else if let Some((job, places)) = read_question(&line) {
             put_question(out, &desk, job, places);
         } else {
             all_steps = false;
@@ -301,6 +300,9 @@ pub fn steps(first: u32, input: impl Read, output: &mut impl Write) -> io::Resul
 
 /// Three numbers parted by one blank.
 pub fn read_three(line: &[u8]) -> Option<(u16, u32, u32)> {
+    if line.len() >= KEPT {
+        return None;
+    }
     let line = std::str::from_utf8(line.strip_suffix(b"\n").unwrap_or(line)).ok()?;
     let mut numbers = line.split(' ');
     let kind = numbers.next()?.parse().ok()?;

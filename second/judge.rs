@@ -5,13 +5,14 @@ use crate::words::*;
 
 /// 01, The judge's rules: orderly and knot with the count of places filled, or the first
 /// faulty line: its number, the refusal and the line as it stands, without its newline.
-/// 02, No. 2: or the two jobs of the first dirty read.
+/// 02, No. 2: or the two jobs of the first dirty read. 02, No. 5: refusal 9, and no other, has the field at
+/// fault.
 #[derive(PartialEq, Debug)]
 pub enum Verdict<'a> {
     Orderly(usize),
     Knot(usize),
     Dirty { reader: u8, writer: u8 },
-    No { line: usize, refusal: u8, text: &'a [u8] },
+    No { line: usize, refusal: u8, field: Option<u8>, text: &'a [u8] },
 }
 
 /// What the judge keeps of a history: all its lines, the actions of runs not sent back, in
@@ -46,15 +47,15 @@ impl History {
 /// before orderly or knot", and "the two stand in the first two places of the buffer".
 pub fn judge<'a>(text: &'a [u8], order: &mut [u8]) -> Verdict<'a> {
     if order.len() < HISTORY_JOBS {
-        return Verdict::No { line: 0, refusal: BUFFER_SHORT, text: b"" };
+        return Verdict::No { line: 0, refusal: BUFFER_SHORT, field: None, text: b"" };
     }
     let mut history = History::empty();
     for (before, line) in text.split_inclusive(|&byte| byte == b'\n').enumerate() {
         match judge_line(&history, before + 1, line) {
             Ok(event) => history.take(event),
-            Err(refusal) => {
+            Err((refusal, field)) => {
                 let text = line.strip_suffix(b"\n").unwrap_or(line);
-                return Verdict::No { line: before + 1, refusal, text };
+                return Verdict::No { line: before + 1, refusal, field, text };
             }
         }
     }
@@ -66,20 +67,20 @@ pub fn judge<'a>(text: &'a [u8], order: &mut [u8]) -> Verdict<'a> {
     decide(&history, order)
 }
 
-/// 01, Refusals by number: "on one line 11, 9, 12, 2, 13".
-pub fn judge_line(history: &History, number: usize, line: &[u8]) -> Result<Line, u8> {
+/// 01, Refusals by number: "on one line 11, 9, 12, 2, 13"; with 9 the field at fault (02, No. 5).
+pub fn judge_line(history: &History, number: usize, line: &[u8]) -> Result<Line, (u8, Option<u8>)> {
     if number > HISTORY_LINES {
-        return Err(LINE_TOO_MANY);
+        return Err((LINE_TOO_MANY, None));
     }
-    let event = read_history(line).ok_or(BAD_LINE)?;
+    let event = read_history(line).map_err(|field| (BAD_LINE, Some(field)))?;
     if event.job < 1 || event.job as usize > HISTORY_JOBS {
-        return Err(JOB_OUTSIDE);
+        return Err((JOB_OUTSIDE, None));
     }
     if has_cell(event.letter) && event.cell as usize >= CELLS {
-        return Err(NO_SUCH_CELL);
+        return Err((NO_SUCH_CELL, None));
     }
     if history.ended[event.job as usize] {
-        return Err(JOB_ENDED);
+        return Err((JOB_ENDED, None));
     }
     Ok(event)
 }

@@ -3,6 +3,7 @@
 pub mod cases;
 pub mod chains;
 pub mod dirt;
+pub mod faults;
 pub mod histories;
 pub mod lines;
 pub mod plans;
@@ -13,8 +14,9 @@ use crate::lines::read_request;
 use crate::words::LAST_NUMBER;
 use cases::case_text;
 use chains::Shaper;
+use faults::torn_line;
 use histories::history_lines;
-use lines::odd_line;
+use lines::reader_line;
 use requests::Maker;
 use std::io::{self, Write};
 
@@ -54,17 +56,18 @@ impl Chance {
     }
 }
 
-/// Puts so many lines, each with a newline, but the last without one if `torn`.
+/// Puts so many lines, each with a newline, but the last without one if `torn`; `next` is told of that line.
 pub fn put_lines(
     output: &mut impl Write,
     count: u64,
     torn: bool,
-    mut next: impl FnMut() -> Vec<u8>,
+    mut next: impl FnMut(bool) -> Vec<u8>,
 ) -> io::Result<()> {
     let mut out = Vec::new();
     for number in 1..=count {
-        out.extend(next());
-        if number < count || !torn {
+        let torn = torn && number == count;
+        out.extend(next(torn));
+        if !torn {
             out.push(b'\n');
         }
         if out.len() >= WRITE_AT_ONCE {
@@ -77,9 +80,12 @@ pub fn put_lines(
 pub fn make_requests(seed: u64, count: u64, output: &mut impl Write) -> io::Result<()> {
     let mut maker = Maker::new(seed, 1, LAST_NUMBER, seed % 8 == 4);
     let torn = maker.chance.percent(25);
-    put_lines(output, count, torn, || {
-        let line = maker.choose_line();
-        if let Some(asked) = read_request(&[&line[..], b"\n"].concat()) {
+    put_lines(output, count, torn, |torn| {
+        let mut line = maker.choose_line();
+        if torn {
+            line = torn_line(&mut maker.chance, &line);
+        }
+        if let Ok(asked) = read_request(&[&line[..], b"\n"].concat()) {
             maker.desk.step(asked);
         }
         line
@@ -88,17 +94,25 @@ pub fn make_requests(seed: u64, count: u64, output: &mut impl Write) -> io::Resu
 
 pub fn make_histories(seed: u64, count: u64, output: &mut impl Write) -> io::Result<()> {
     let mut text = history_lines(seed, count as usize).into_iter();
-    put_lines(output, count, seed % 32 == 31, || text.next().unwrap_or_default())
+    let mut chance = Chance(!seed);
+    put_lines(output, count, seed % 33 == 31, |torn| {
+        let line = text.next().unwrap_or_default();
+        if torn {
+            torn_line(&mut chance, &line)
+        } else {
+            line
+        }
+    })
 }
 
 pub fn make_lines(seed: u64, count: u64, output: &mut impl Write) -> io::Result<()> {
     let mut chance = Chance(seed);
-    put_lines(output, count, seed % 2 == 1, || odd_line(&mut chance))
+    put_lines(output, count, seed % 4 != 0, |torn| reader_line(&mut chance, count, torn))
 }
 
 pub fn make_steps(seed: u64, count: u64, first: u32, output: &mut impl Write) -> io::Result<()> {
     let mut maker = Maker::new(seed, first, LAST_NUMBER, seed % 8 == 4);
-    put_lines(output, count, false, || {
+    put_lines(output, count, false, |_| {
         let asked = maker.choose_step();
         maker.desk.step(asked);
         format!("{} {} {}", asked.letter, asked.job, asked.cell).into_bytes()
@@ -108,23 +122,20 @@ pub fn make_steps(seed: u64, count: u64, first: u32, output: &mut impl Write) ->
 pub fn make_chains(seed: u64, count: u64, output: &mut impl Write) -> io::Result<()> {
     let mut shaper = Shaper::new(seed, 1);
     let torn = shaper.maker.chance.percent(10);
-    put_lines(output, count, torn, || shaper.line())
+    put_lines(output, count, torn, |_| shaper.line())
 }
 
 pub fn make_asked(seed: u64, count: u64, first: u32, output: &mut impl Write) -> io::Result<()> {
     let mut shaper = Shaper::new(seed, first);
-    put_lines(output, count, false, || shaper.asked())
+    put_lines(output, count, false, |_| shaper.asked())
 }
 
-/// The last case lacks its last newline if the seed is odd.
+/// The last case lacks its last newline if the seed is odd, and may break off there.
 pub fn make_cases(seed: u64, count: u64, output: &mut impl Write) -> io::Result<()> {
     let mut chance = Chance(seed);
     let mut out = Vec::new();
     for number in 0..count {
-        out.extend(case_text(&mut chance, number));
-        if number + 1 == count && seed % 2 == 1 {
-            out.pop();
-        }
+        out.extend(case_text(&mut chance, number, number + 1 == count && seed % 2 == 1));
         write_out(output, &mut out)?;
     }
     Ok(())

@@ -4,7 +4,7 @@
 //! random runs, so it is simple rather than clever.
 //!
 //! This file has the command line. Each subject has a file: words, lines, desk, chain, judge,
-//! commands, make with its seven, demands with its three; and tests with a file for each of these.
+//! commands, make with its eight, demands with its three; and tests with a file for each of these.
 
 mod chain;
 mod commands;

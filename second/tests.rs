@@ -7,6 +7,8 @@ mod demands;
 mod desk;
 mod dirty;
 mod dirty_makers;
+mod fields;
+mod fields_makers;
 mod judge;
 mod lines;
 mod makers;
@@ -144,11 +146,11 @@ fn s12() {
 #[test]
 fn s13() {
     assert_eq!(judge(b"", &mut [7; 255]), Verdict::Orderly(0));
-    assert_eq!(judge(b"k\t0\n", &mut [7; 254]), Verdict::No { line: 0, refusal: 14, text: b"" });
+    assert_eq!(judge(b"k\t0\n", &mut [7; 254]), Verdict::No { line: 0, refusal: 14, field: None, text: b"" });
     let lines = b"r\t1\t0\n".repeat(4_096);
     assert_eq!(judge(&lines, &mut [0; 255]), Verdict::Orderly(0));
     let more = [&lines[..], b"x\ty"].concat();
-    assert_eq!(judge(&more, &mut [0; 255]), Verdict::No { line: 4_097, refusal: 11, text: b"x\ty" });
+    assert_eq!(judge(&more, &mut [0; 255]), Verdict::No { line: 4_097, refusal: 11, field: None, text: b"x\ty" });
     let faulty = [b"r\t1\t64\n", &lines[..]].concat();
-    assert_eq!(judge(&faulty, &mut [0; 255]), Verdict::No { line: 1, refusal: 2, text: b"r\t1\t64" });
+    assert_eq!(judge(&faulty, &mut [0; 255]), Verdict::No { line: 1, refusal: 2, field: None, text: b"r\t1\t64" });
 }

@@ -21,6 +21,8 @@ pub const HISTORY_LETTERS: &[u8] = b"rwicak";
 pub const CELLS: usize = 64;
 pub const PLACES: usize = 32;
 pub const LAST_NUMBER: u32 = 4_294_967_295;
+/// "cell, one or two digits"
+pub const LAST_CELL: u32 = 99;
 pub const DESK_LINES: u64 = 1_000_000;
 pub const HISTORY_LINES: usize = 4_096;
 pub const HISTORY_JOBS: usize = 255;
@@ -44,6 +46,13 @@ pub const JOB_ENDED: u8 = 13;
 pub const BUFFER_SHORT: u8 = 14;
 pub const TEXT_LONG: u8 = 16;
 pub const LIST_SHORT: u8 = 18;
+
+/// 02, No. 5: the fields of a line, by which refusal 9 tells the one at fault; END is "anything after the
+/// last field the letter has".
+pub const LETTER: u8 = 1;
+pub const JOB: u8 = 2;
+pub const CELL: u8 = 3;
+pub const END: u8 = 4;
 
 /// A request, a wake or a history event: its letter and, where the letter has them,
 /// its job and its cell (01, Lines).

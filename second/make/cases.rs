@@ -1,6 +1,7 @@
 //! Cases for the judge: a header and a history each.
 
 use super::dirt::{bare_spot, mend, some_dirt, with_dirt, Dirt, DIRTY, NEAR};
+use super::faults::torn_line;
 use super::histories::{
     desk_history, fields_of, knot_history, knotted_history, loose_history, ranked_history,
 };
@@ -12,17 +13,25 @@ use crate::words::*;
 /// The kinds of case, which come in turn.
 pub const CASE_KINDS: u64 = 26;
 
-/// One case of `make cases`: its header and its history, each line with its newline.
-pub fn case_text(chance: &mut Chance, number: u64) -> Vec<u8> {
+/// One case of `make cases`: its header and its history, each line with its newline, but the last without
+/// one if `torn`.
+pub fn case_text(chance: &mut Chance, number: u64, torn: bool) -> Vec<u8> {
     let places = chance.of(&[255, 255, 255, 255, 255, 256, 257, 299, 300, 300, 300, 254]);
     let places = if number % 40 == 39 { chance.of(&[0, 1, 32, 200, 254, 254]) } else { places };
     let mut text = format!("= {places}\n").into_bytes();
-    for mut line in case_lines(chance, number) {
+    let mut lines = case_lines(chance, number);
+    if let (true, Some(last)) = (torn, lines.last_mut()) {
+        *last = torn_line(chance, last);
+    }
+    for mut line in lines {
         if line.first() == Some(&CASE_MARK) {
             line[0] = b'-';
         }
         text.extend(line);
         text.push(b'\n');
+    }
+    if torn {
+        text.pop();
     }
     text
 }

@@ -219,7 +219,7 @@ impl Shaper {
         } else {
             put_fields(&mut line, self.next());
         }
-        if let Some(asked) = read_request(&[&line[..], b"\n"].concat()) {
+        if let Ok(asked) = read_request(&[&line[..], b"\n"].concat()) {
             self.maker.desk.step(asked);
         }
         line

@@ -44,12 +44,13 @@ pub fn fields_of(event: Line) -> Vec<u8> {
     line
 }
 
-/// Makes the text about 65,536 bytes long, newlines counted, by a long last line.
+/// Makes the text about 65,536 bytes long, newlines counted, by a run of one byte in the last line.
 pub fn fill_text(chance: &mut Chance, text: &mut [Vec<u8>]) {
     let length: usize = text.iter().map(|line| line.len() + 1).sum();
     let wanted = HISTORY_BYTES + chance.of(&[0, 0, 1, 1, 2]);
     if let Some(last) = text.last_mut() {
-        last.resize(last.len() + wanted.saturating_sub(length), b'7');
+        let at = chance.of(&[0, last.len(), last.len(), last.len()]);
+        last.splice(at..at, vec![chance.of(b"7777\t\t\tx0 "); wanted.saturating_sub(length)]);
     }
 }
 

@@ -1,5 +1,6 @@
 //! Lines for both readers: good, spoilt and rubbish.
 
+use super::faults::{put_faults, torn_line, RUNNING};
 use super::Chance;
 use crate::lines::put_fields;
 use crate::words::{Line, LAST_NUMBER};
@@ -42,8 +43,11 @@ pub fn good_line(chance: &mut Chance) -> Vec<u8> {
     line
 }
 
-/// One of a great many small changes to a line.
+/// Faults put into a line on purpose, or one of a great many small changes to it.
 pub fn spoil_line(chance: &mut Chance, line: &[u8]) -> Vec<u8> {
+    if chance.percent(50) {
+        return put_faults(chance, line);
+    }
     let mut line = line.to_vec();
     let at = chance.below(line.len() + 1);
     let inside = at < line.len();
@@ -94,7 +98,7 @@ pub fn odd_line(chance: &mut Chance) -> Vec<u8> {
         return (0..chance.below(24)).map(|_| odd_byte(chance)).collect();
     }
     let mut line = good_line(chance);
-    for _ in 0..chance.of(&[0, 0, 1, 1, 1, 1, 2, 3]) {
+    for _ in 0..chance.of(&[0, 0, 0, 0, 1, 1, 1, 2, 3]) {
         line = spoil_line(chance, &line);
     }
     if chance.percent(1) {
@@ -103,4 +107,25 @@ pub fn odd_line(chance: &mut Chance) -> Vec<u8> {
         line.resize(line.len() + long, byte);
     }
     line
+}
+
+/// A line with a run of one byte in it that is many thousand bytes long.
+pub fn huge_line(chance: &mut Chance) -> Vec<u8> {
+    let mut line = odd_line(chance);
+    let at = chance.below(line.len() + 1);
+    let many = chance.between(20_000, 200_000);
+    line.splice(at..at, vec![chance.of(RUNNING); many]);
+    line
+}
+
+/// A line of `make lines`: of every four texts about one has a huge line. The last may lack its newline.
+pub fn reader_line(chance: &mut Chance, count: u64, torn: bool) -> Vec<u8> {
+    if chance.number() % (4 * count) == 0 || torn && chance.percent(5) {
+        huge_line(chance)
+    } else if torn {
+        let line = good_line(chance);
+        torn_line(chance, &line)
+    } else {
+        odd_line(chance)
+    }
 }

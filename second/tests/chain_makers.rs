@@ -26,7 +26,7 @@ fn same_seed_same_bytes_for_ever() {
 }
 
 /// Pinned bytes: the hashes of what the makers make.
-const PINNED: [u64; 3] = [13235859788524586243, 13321097637411434378, 17785166514819636199];
+const PINNED: [u64; 3] = [11220030208680602535, 13321097637411434378, 17785166514819636199];
 
 /// What a desk shows of the shapes wanted.
 fn shapes(desk: &Desk) -> BTreeSet<String> {
@@ -117,8 +117,8 @@ fn desk_of(input: &[u8]) -> (Desk, bool) {
     let mut good = true;
     for line in input.split_inclusive(|&byte| byte == b'\n') {
         match read_request(line) {
-            Some(asked) => drop(desk.step(asked)),
-            None => good = false,
+            Ok(asked) => drop(desk.step(asked)),
+            Err(_) => good = false,
         }
     }
     (desk, good)

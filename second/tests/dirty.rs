@@ -130,17 +130,20 @@ fn the_order_of_answers() {
     let knot = "r 3 1, r 4 1, w 3 1, w 4 1, c 3, c 4";
     check_verdict(&format!("{knot}, {dirty}"), "dirty 2 1");
     check_verdict(&format!("{dirty}, {knot}"), "dirty 2 1");
-    for (fault, refusal) in [("x", 9), ("r 256 0", 12), ("r 7 64", 2), ("k 2", 13)] {
+    for (fault, refusal) in [("x", "9 1"), ("r 256 0", "12"), ("r 7 64", "2"), ("k 2", "13")] {
         check_verdict(&format!("{dirty}, {fault}, {knot}"), &format!("no 5 {refusal}"));
     }
     assert_eq!(
         judge(&text(dirty), &mut [7; 254]),
-        Verdict::No { line: 0, refusal: BUFFER_SHORT, text: b"" }
+        Verdict::No { line: 0, refusal: BUFFER_SHORT, field: None, text: b"" }
     );
     let full = [text(dirty), b"r\t1\t0\n".repeat(4_092)].concat();
     assert_eq!(judge(&full, &mut [7; 255]), Verdict::Dirty { reader: 2, writer: 1 });
     let more = [&full[..], b"c\t1\n"].concat();
-    assert_eq!(judge(&more, &mut [7; 255]), Verdict::No { line: 4_097, refusal: 11, text: b"c\t1" });
+    assert_eq!(
+        judge(&more, &mut [7; 255]),
+        Verdict::No { line: 4_097, refusal: 11, field: None, text: b"c\t1" }
+    );
     let long = [text(dirty), vec![b'7'; HISTORY_BYTES]].concat();
     assert_eq!(shown(&printed(&["verdict"], &long).0), "no\t0\t16\n");
     let late = [b"k\t9\n".repeat(4_093), text("w 1 0, r 2 0, c 2")].concat();
@@ -227,7 +230,7 @@ fn watch(history: &[Line]) -> Watch {
 #[test]
 fn the_demand_can_fail() {
     let lines = |history: &str| -> Vec<Line> {
-        text(history).split_inclusive(|&byte| byte == b'\n').filter_map(read_history).collect()
+        text(history).split_inclusive(|&byte| byte == b'\n').flat_map(read_history).collect()
     };
     for dirty in
         ["w 1 0, r 2 0, c 2", "i 1 0, r 2 0, k 1, c 2", "r 3 0, w 1 0, k 2, r 2 0, a 1, w 1 0, c 2"]

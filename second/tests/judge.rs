@@ -10,19 +10,19 @@ use std::collections::{BTreeMap, BTreeSet};
 
 #[test]
 fn judge_refusals_in_their_order() {
-    check_verdict("r 1 64 1", "no 1 9");
+    check_verdict("r 1 64 1", "no 1 9 4");
     check_verdict("r 256 64", "no 1 12");
     check_verdict("c 1, r 0 5", "no 2 12");
     check_verdict("c 1, r 1 64", "no 2 2");
     check_verdict("a 1, r 1 63", "no 2 13");
     check_verdict("c 255, k 255", "no 2 13");
     check_verdict("a 9, c 9", "no 2 13");
-    check_verdict("k 9, k 9, b", "no 3 9");
-    assert_eq!(shown(&printed(&["verdict"], b"c\t1\nc\t1").0), "no\t2\t9\n");
+    check_verdict("k 9, k 9, b", "no 3 9 1");
+    assert_eq!(shown(&printed(&["verdict"], b"c\t1\nc\t1").0), "no\t2\t9\t4\n");
     let mut order = [7; 300];
     assert_eq!(
         judge(b"c\t1\nc\t2\nc\t1\n", &mut order),
-        Verdict::No { line: 3, refusal: 13, text: b"c\t1" }
+        Verdict::No { line: 3, refusal: 13, field: None, text: b"c\t1" }
     );
     assert_eq!(order, [7; 300]);
 }
@@ -30,7 +30,7 @@ fn judge_refusals_in_their_order() {
 #[test]
 fn verdict_reads_65536_bytes() {
     let line = vec![b'x'; 65_535];
-    assert_eq!(shown(&printed(&["verdict"], &[&line[..], b"\n"].concat()).0), "no\t1\t9\n");
+    assert_eq!(shown(&printed(&["verdict"], &[&line[..], b"\n"].concat()).0), "no\t1\t9\t1\n");
     assert_eq!(shown(&printed(&["verdict"], &[&line[..], b"\nc"].concat()).0), "no\t0\t16\n");
     assert_eq!(shown(&printed(&["verdict"], &b"\n".repeat(1 << 20)).0), "no\t0\t16\n");
 }
@@ -145,7 +145,7 @@ fn judge_against_brute_force() {
 fn cases_one_after_another() {
     let input =
         "c\t9\n= 255\nw\t2\t0\nw\t1\t0\nc\t1\nc\t2\n= 254\nx\n=300\n=255\nc\t1\n\n= 9999\nr\t1\t0";
-    let wanted = "orderly\t2\t1\nno\t0\t14\norderly\nno\t2\t9\nline\t\nno\t1\t9\nline\tr\t1\t0\n";
+    let wanted = "orderly\t2\t1\nno\t0\t14\norderly\nno\t2\t9\t1\nline\t\nno\t1\t9\t4\nline\tr\t1\t0\n";
     let (output, status) = printed(&["cases"], input.as_bytes());
     assert_eq!((shown(&output).as_str(), status), (wanted, 0));
     assert_eq!(printed(&["cases"], b"= 255\nc\t3\n= 25").0, b"orderly\t3\n");
@@ -155,7 +155,7 @@ fn cases_one_after_another() {
 #[test]
 fn cases_up_to_their_length() {
     let full = [b"= 255\n".to_vec(), vec![b'7'; HISTORY_BYTES - 1], b"\n".to_vec()].concat();
-    let line = [b"no\t1\t9\nline\t".to_vec(), vec![b'7'; HISTORY_BYTES - 1], b"\n".to_vec()].concat();
+    let line = [b"no\t1\t9\t1\nline\t".to_vec(), vec![b'7'; HISTORY_BYTES - 1], b"\n".to_vec()].concat();
     assert_eq!(printed(&["cases"], &full).0, line);
     let more = [b"= 255\n".to_vec(), vec![b'7'; HISTORY_BYTES], b"\n= 3\n".to_vec()].concat();
     assert_eq!(printed(&["cases"], &more).0, b"no\t0\t16\nno\t0\t14\n");

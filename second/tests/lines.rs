@@ -18,33 +18,47 @@ fn good_lines() {
         (b"a\t999999999\n", Line { letter: GIVE_UP, job: 999_999_999, cell: 0 }),
     ];
     for (line, wanted) in both {
-        assert_eq!(read_request(line), Some(*wanted));
-        assert_eq!(read_history(line), Some(*wanted));
+        assert_eq!(read_request(line), Ok(*wanted));
+        assert_eq!(read_history(line), Ok(*wanted));
     }
-    assert_eq!(read_request(b"b\n"), Some(Line { letter: BEGIN, job: 0, cell: 0 }));
-    assert_eq!(read_request(b"t\t3\n"), Some(Line { letter: RETRY, job: 3, cell: 0 }));
-    assert_eq!(read_history(b"k\t3\n"), Some(Line { letter: SENT_BACK, job: 3, cell: 0 }));
-    assert_eq!(read_request(b"k\t3\n"), None);
-    assert_eq!(read_history(b"t\t3\n"), None);
-    assert_eq!(read_history(b"b\n"), None);
+    assert_eq!(read_request(b"b\n"), Ok(Line { letter: BEGIN, job: 0, cell: 0 }));
+    assert_eq!(read_request(b"t\t3\n"), Ok(Line { letter: RETRY, job: 3, cell: 0 }));
+    assert_eq!(read_history(b"k\t3\n"), Ok(Line { letter: SENT_BACK, job: 3, cell: 0 }));
+    assert_eq!(read_request(b"k\t3\n"), Err(LETTER));
+    assert_eq!(read_history(b"t\t3\n"), Err(LETTER));
+    assert_eq!(read_history(b"b\n"), Err(LETTER));
 }
+
+/// Bad lines by the field at fault, as requests. As histories they are the same, but for a `b`.
+#[rustfmt::skip]
+const BAD: [(u8, &[&[u8]]); 4] = [
+    (LETTER, &[
+        b"", b"\n", b"\t\n", b"bb\n", b"b\r\n", b"B\n", b" b\n", b"c 1\n", b"C\t1\n", b"x\t1\n", b"1\tc\n",
+        b"rr\t7\t6\n", b"\tr\t7\t6\n",
+    ]),
+    (JOB, &[
+        b"c\n", b"c\t\n", b"c\t\t1\n", b"c\t01\n", b"c\t00\n", b"c\t+1\n", b"c\t-1\n", b"c\t 1\n", b"c\t1 \n",
+        b"c\t1\r\n", b"c\t1\0\n", b"c\t4294967296\n", b"c\t9999999999\n", b"c\t10000000000\n",
+        b"c\t18446744073709551617\n", b"c\t1x\n", b"c\t:\n", b"c\t/\n", b"r\n", b"r\t\t6\n", b"r\t\t7\t6\n",
+    ]),
+    (CELL, &[
+        b"r\t7\n", b"r\t7\t\n", b"r\t7\t100\n", b"r\t7\t00\n", b"r\t7\t07\n", b"r\t7\t-1\n", b"r\t7\t6\xb2\n",
+        b"r\t7\t6\n\n",
+    ]),
+    (END, &[
+        b"b", b"c\t1", b"r\t7\t6", b"b\t\n", b"b\t1\n", b"c\t1\t5\n", b"c\t1\t\n", b"r\t7\t6\t\n", b"r\t7\t6\t1\n",
+        b"r\t7\t64\t1\n",
+    ]),
+];
 
 #[test]
 fn bad_lines() {
-    #[rustfmt::skip]
-    let bad: &[&[u8]] = &[
-        b"", b"\n", b"\t\n", b"b", b"c\t1", b"r\t7\t6", b"b\t\n", b"b\t1\n", b"bb\n", b"b\r\n",
-        b"B\n", b" b\n", b"c\n", b"c\t\n", b"c\t1\t5\n", b"c\t1\t\n", b"c\t\t1\n", b"c 1\n",
-        b"c\t01\n", b"c\t00\n", b"c\t+1\n", b"c\t-1\n", b"c\t 1\n", b"c\t1 \n", b"c\t1\r\n",
-        b"c\t1\0\n", b"c\t4294967296\n", b"c\t9999999999\n", b"c\t10000000000\n",
-        b"c\t18446744073709551617\n", b"c\t1x\n", b"c\t:\n", b"c\t/\n", b"C\t1\n", b"x\t1\n",
-        b"1\tc\n", b"r\n", b"r\t7\n", b"r\t7\t\n", b"r\t\t6\n", b"r\t7\t100\n", b"r\t7\t00\n",
-        b"r\t7\t07\n", b"r\t7\t6\t\n", b"r\t7\t6\t1\n", b"r\t7\t64\t1\n", b"r\t\t7\t6\n",
-        b"r\t7\t-1\n", b"rr\t7\t6\n", b"\tr\t7\t6\n", b"r\t7\t6\xb2\n", b"r\t7\t6\n\n",
-    ];
-    for line in bad {
-        assert_eq!(read_request(line), None, "{}", shown(line));
-        assert_eq!(read_history(line), None, "{}", shown(line));
+    for (field, lines) in BAD {
+        for line in lines {
+            assert_eq!(read_request(line), Err(field), "{}", shown(line));
+            let field = if line.starts_with(b"b") { LETTER } else { field };
+            assert_eq!(read_history(line), Err(field), "{}", shown(line));
+        }
     }
 }
 
@@ -52,8 +66,8 @@ fn bad_lines() {
 fn lines_report_both_readings() {
     let (output, _) = printed(&["lines"], b"r\t7\t64\nb\nk\t3\n\nt\t0\nc\t5\nc\t5");
     let wanted =
-        "1 go 114, 1 wait 7, 1 back 64, r 7 64, 2 go 98, 2 wake 9, 3 no 9, k 3, 4 no 9, 4 wake 9, \
-                  5 go 116, 5 wait 0, 5 wake 9, 6 go 99, 6 wait 5, c 5, 7 no 9, 7 wake 9";
+        "1 go 114, 1 wait 7, 1 back 64, r 7 64, 2 go 98, 2 wake 9 1, 3 no 9 1, k 3, 4 no 9 1, 4 wake 9 1, \
+                  5 go 116, 5 wait 0, 5 wake 9 1, 6 go 99, 6 wait 5, c 5, 7 no 9 4, 7 wake 9 4";
     assert_eq!(shown(&output), shown(&text(wanted)));
 }
 
@@ -86,13 +100,15 @@ fn reads_of_any_size_give_the_same() {
 }
 
 #[test]
-fn little_is_kept_of_a_long_line() {
+fn little_is_kept_of_a_long_step() {
     let mut kept = Vec::new();
     for _ in 0..1_000 {
         keep(&mut kept, b"r\t7\t63 and more");
     }
     assert_eq!(kept.len(), KEPT);
     assert!(kept.starts_with(b"r\t7\t63 and morer\t7"));
+    let long = [b"98 0 0\n98 0 ", &b"0".repeat(100)[..], b"\n"].concat();
+    assert_eq!(printed(&["steps", "1"], &long), (b"go\t1\n".to_vec(), 2));
 }
 
 #[test]
@@ -103,7 +119,7 @@ fn long_lines_are_one_bad_line() {
             for size in [1_000_000, 50, 1] {
                 let mut output = Vec::new();
                 answers(Dribble(&input, size), &mut output).unwrap();
-                assert_eq!(shown(&output), "1\tgo\t1\n2\tno\t9\n3\tgo\t2\n4\tno\t9\n");
+                assert_eq!(shown(&output), "1\tgo\t1\n2\tno\t9\t2\n3\tgo\t2\n4\tno\t9\t1\n");
             }
         }
     }
@@ -157,7 +173,7 @@ fn desk_programs_stop_after_a_million_lines() {
     assert_eq!(output, b"r\t1\t0\n".repeat(999_999));
     let torn = [b"b\n".repeat(999_999), b"c\t1".to_vec()].concat();
     let (output, _) = printed(&["answers"], &torn);
-    assert!(output.ends_with(b"\n999999\tno\t6\n1000000\tno\t9\n"));
+    assert!(output.ends_with(b"\n999999\tno\t6\n1000000\tno\t9\t4\n"));
 }
 
 /// A reader that fails once its bytes are read.

@@ -30,11 +30,11 @@ fn same_seed_same_bytes_for_ever() {
 
 /// Pinned bytes: the hashes of what the makers make.
 const PINNED: [u64; 5] = [
-    1199930767021904925,
-    17004301330760525000,
-    8533602436639993140,
+    4137022298882639447,
+    14707928746236119641,
+    5437034308916447034,
     7175436058442937876,
-    14167269142176557988,
+    12867026373717327071,
 ];
 
 /// What one step shows of the features wanted.
@@ -132,7 +132,7 @@ fn requests_reach_every_feature() {
         let mut found = BTreeSet::new();
         let mut desk = Desk::start(1).unwrap();
         for line in input.split_inclusive(|&byte| byte == b'\n') {
-            if let Some(asked) = read_request(line) {
+            if let Ok(asked) = read_request(line) {
                 let before = desk.clone();
                 let outcome = desk.step(asked);
                 found.extend(features(&before, asked, &outcome, &desk));
@@ -199,7 +199,7 @@ fn histories_reach_every_feature() {
             );
         }
         let events: Vec<Line> =
-            input.split_inclusive(|&byte| byte == b'\n').filter_map(read_history).collect();
+            input.split_inclusive(|&byte| byte == b'\n').flat_map(read_history).collect();
         let has =
             |letter: u8, job: u32| events.iter().any(|event| event.letter == letter && event.job == job);
         let acts = |job: u32| events.iter().any(|event| has_cell(event.letter) && event.job == job);
@@ -271,19 +271,19 @@ fn histories_of_4096_and_4097_lines() {
 
 #[test]
 fn lines_reach_every_reading() {
-    for seed in [1u64, 2] {
+    for seed in [1u64, 4] {
         let input = made(&["make", "lines", &seed.to_string(), "5000"]);
-        assert_eq!(input.ends_with(b"\n"), seed == 2);
+        assert_eq!(input.ends_with(b"\n"), seed == 4);
         let lines: Vec<&[u8]> = input.split_inclusive(|&byte| byte == b'\n').collect();
         assert_eq!(lines.len(), 5000);
         let count = |says: &dyn Fn(&[u8]) -> bool| lines.iter().filter(|line| says(line)).count();
         for &letter in REQUEST_LETTERS {
-            assert!(count(&|line| read_request(line).is_some_and(|read| read.letter == letter)) > 20);
+            assert!(count(&|line| read_request(line).is_ok_and(|read| read.letter == letter)) > 20);
         }
         for &letter in HISTORY_LETTERS {
-            assert!(count(&|line| read_history(line).is_some_and(|read| read.letter == letter)) > 20);
+            assert!(count(&|line| read_history(line).is_ok_and(|read| read.letter == letter)) > 20);
         }
-        let bad = count(&|line| read_request(line).is_none() && read_history(line).is_none());
+        let bad = count(&|line| read_request(line).is_err() && read_history(line).is_err());
         assert!(bad > 1500 && bad < 3500, "{bad}");
         let holds = |part: &[u8]| count(&|line| line.windows(part.len()).any(|window| window == part));
         for part in [

@@ -175,8 +175,8 @@ fn u_is_recorded_as_r() {
     check(&["history"], "b, b, i 1 5, i 2 5, u 1 5, c 2, w 1 5", "i 1 5, i 2 5, c 2, r 1 5, w 1 5");
     check(&["history"], "b, b, w 2 5, u 1 5, a 2", "w 2 5, a 2, r 1 5");
     check(&["history"], "b, b, r 2 5, u 1 5, i 1 5, c 2", "r 2 5, r 1 5, c 2, i 1 5");
-    check_verdict("r 1 5, u 2 5, c 1", "no 2 9");
-    check_verdict("u 256 64", "no 1 9");
+    check_verdict("r 1 5, u 2 5, c 1", "no 2 9 1");
+    check_verdict("u 256 64", "no 1 9 1");
     // The step tells the letter that was asked.
     let (output, _) = printed(&["steps", "1"], b"98 0 0\n98 0 0\n119 2 5\n117 1 5\n99 2 0\n");
     assert_eq!(shown(&output), "go\t1\ngo\t2\ngo\t2\nwait\t1\ngo\t2\twake\t1\t5\t114\n");
@@ -198,18 +198,23 @@ fn lines_of_u() {
     let good: &[(&[u8], u32, u32)] =
         &[(b"u\t7\t64\n", 7, 64), (b"u\t0\t0\n", 0, 0), (b"u\t4294967295\t99\n", LAST_NUMBER, 99)];
     for &(line, job, cell) in good {
-        assert_eq!(read_request(line), Some(Line { letter: UPDATE, job, cell }));
-        assert_eq!(read_history(line), None);
+        assert_eq!(read_request(line), Ok(Line { letter: UPDATE, job, cell }));
+        assert_eq!(read_history(line), Err(LETTER));
     }
     #[rustfmt::skip]
-    let bad: &[&[u8]] = &[
-        b"u\n", b"u", b"u\t7\n", b"u\t7\t\n", b"u\t7\t6", b"u\t7\t100\n", b"u\t7\t06\n", b"u\t07\t6\n",
-        b"u\t7\t6\t\n", b"u\t7\t6\t1\n", b"u\t4294967296\t6\n", b"U\t7\t6\n", b"u\t7\t6\r\n", b"uu\t7\t6\n",
+    let bad: [(u8, &[&[u8]]); 4] = [
+        (LETTER, &[b"U\t7\t6\n", b"uu\t7\t6\n"]),
+        (JOB, &[b"u\n", b"u", b"u\t07\t6\n", b"u\t4294967296\t6\n"]),
+        (CELL, &[b"u\t7\n", b"u\t7\t\n", b"u\t7\t100\n", b"u\t7\t06\n", b"u\t7\t6\r\n"]),
+        (END, &[b"u\t7\t6", b"u\t7\t6\t\n", b"u\t7\t6\t1\n"]),
     ];
-    for line in bad {
-        assert_eq!((read_request(line), read_history(line)), (None, None), "{}", shown(line));
+    for (field, lines) in bad {
+        for line in lines {
+            assert_eq!(read_request(line), Err(field), "{}", shown(line));
+            assert_eq!(read_history(line), Err(LETTER), "{}", shown(line));
+        }
     }
     let (output, _) = printed(&["lines"], b"u\t7\t64\nu\t7\n");
-    let wanted = "1 go 117, 1 wait 7, 1 back 64, 1 wake 9, 2 no 9, 2 wake 9";
+    let wanted = "1 go 117, 1 wait 7, 1 back 64, 1 wake 9 1, 2 no 9 3, 2 wake 9 1";
     assert_eq!(shown(&output), shown(&text(wanted)));
 }

@@ -9,6 +9,7 @@ use Rattle.terms.specs.declared.letters.Letter.{Letter}
 use Rattle.terms.specs.declared.refusals.Refusal.{Refusal}
 use Rattle.terms.specs.Letters.{hasJob, hasCell}
 use Rattle.terms.specs.Limits.{lastNumber}
+use Rattle.terms.proofs.Numbers.{within-table, beside-at-most-4}
 use Rattle.text_rules.specs.declared.Written.{Written}
 use Rattle.text_rules.specs.declared.Written.the-variants.{Next, Refused}
 use Rattle.text_rules.specs.Records.{longestRecord, lineRecord, told, left}
@@ -16,12 +17,25 @@ use Rattle.text_rules.proofs.Length.{line-length}
 use Rattle.text_rules.proofs.FieldLaws.{field-at-most}
 use Rattle.text_rules.proofs.WriterLaws.{next-wrote, not-refused}
 use Rattle.text_rules.proofs.WroteLaws.{wrote-none, wrote-length}
-use Rattle.clerk.specs.Parts.{Added}
+use Rattle.desk_rules.specs.declared.Answer.{Answer}
+use Rattle.desk_rules.specs.declared.Answer.the-variants.{Go, Wait, Back, No}
+use Rattle.desk_rules.specs.AnswerWords.{numberBeside, fieldBeside}
+use Rattle.clerk.specs.Parts.{Added, Besides}
 
 -- no line of a letter with numbers of 32 bits is longer than 24 bytes
 pub line-at-most-24 : (l : Letter) (job cell : ℕ) → job ≤ lastNumber → cell ≤ lastNumber → length (lineRecord l job cell) ≤ longestRecord
 line-at-most-24 l job cell h g =
     omega (arith, line-length l job cell, field-at-most 9 (hasJob l) job (omega arith), field-at-most 9 (hasCell l) cell (omega arith))
+
+-- the number and the field of an answer are short enough: only a refusal has a field, and its number has two digits at most
+pub answer-besides : (a : Answer) {n k : ℕ} → n ≡ numberBeside a → n ≤ lastNumber → k ≡ fieldBeside a → Besides n k
+unfolding numberBeside fieldBeside
+answer-besides (Go j) e h f = (h, omega arith, λ g. absurd (omega arith))
+answer-besides (Wait j) e h f = (h, omega arith, λ g. absurd (omega arith))
+answer-besides (Back j) e h f = (h, omega arith, λ g. absurd (omega arith))
+answer-besides (No why) e h f =
+    let few = within-table why .1 in
+    (h, omega (arith, beside-at-most-4 why), λ g. omega arith)
 
 -- a record whose place was told was written
 pub added-next : {w : Written} {most at n : ℕ} {bs b m : List ℕ} → w ≡ told b at bs → w ≡ Next n → m ≡ left b at bs → length bs ≤ most → Added most at n bs b m

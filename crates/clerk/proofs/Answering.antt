@@ -7,6 +7,7 @@ use mathlib.Core.List.{List, map, map-append}
 use lib.ListN.{length, take, drop, replicate, length-map}
 use lib.Seq.{take-at}
 use Rattle.terms.specs.declared.letters.Letter.{Letter}
+use Rattle.terms.specs.declared.refusals.Field.{Field}
 use Rattle.terms.specs.Letters.{byteOf, ofRequests}
 use Rattle.terms.specs.Limits.{places}
 use Rattle.conflict.specs.declared.action.Action.{Action}
@@ -22,7 +23,7 @@ use Rattle.desk_arrays.specs.declared.state.Told.{Told}
 use Rattle.desk_arrays.specs.Steps.{noAction, wakeAt, listed, saying, carried, moveOf, performed, stepOf}
 use Rattle.desk.specs.InPlace.{laid, wokenBy, StepsTo}
 use Rattle.program_rules.specs.declared.View.{View}
-use Rattle.program_rules.specs.Work.{viewed, unended, due, turning}
+use Rattle.program_rules.specs.Work.{viewed, toldBad, due, turning}
 use Rattle.program_rules.proofs.Turns.{turn-bad, turn-good}
 use Rattle.clerk.specs.Parts.{lineRecords}
 use Rattle.clerk.proofs.Telling.{records-told}
@@ -63,7 +64,7 @@ module _ {d e : Desk} {l w : List ℕ} {kind job c : ℕ} {t : Told} (s : StepsT
 
 module _ (view : View) (splitter : Splitter) (out : List ℕ) (at : ℕ) (ended : due splitter ≡ true) {r : Reading} (reads : r ≡ readLine ofRequests (foundAt splitter .bytes)) where
   -- a bad line is answered
-  pub answered-bad : {d : Desk} {to : ℕ} {after : List ℕ} → r ≡ Bad → Wrote at to (viewed view (unended (splitter .line))) out after →
+  pub answered-bad : {d : Desk} {to : ℕ} {after : List ℕ} {field : Field} → r ≡ Bad field → Wrote at to (viewed view (toldBad (splitter .line) field)) out after →
       turning view (record { desk = d; splitter = splitter }) out at ≡ record { clerk = record { desk = d; splitter = splitter }; at = to; out = after }
   answered-bad {d} e w = turn-bad view (record { desk = d; splitter = splitter }) out at ended (sym reads ∙ e) w
 

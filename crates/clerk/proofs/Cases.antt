@@ -1,25 +1,31 @@
 -- Each branch of the code against the definition by cases that it follows.
 -- Assumes nothing.
 use Prim.Native.Nat.{ℕ}
-use mathlib.Core.Path.{_≡_, sym, _∙_}
+use mathlib.Core.Path.{_≡_, sym, ap, _∙_}
 use mathlib.Core.List.{[], append-nil}
 use Rattle.terms.specs.declared.letters.Letter.{Letter}
 use Rattle.terms.specs.declared.letters.Letter.the-variants.{Asks}
 use Rattle.terms.specs.declared.letters.Ask.{Ask}
 use Rattle.terms.specs.declared.words.Word.{Word}
 use Rattle.terms.specs.declared.words.Word.the-variants.{Wake, No}
+use Rattle.terms.specs.declared.refusals.Field.{Field}
 use Rattle.terms.specs.declared.refusals.Refusal.the-variants.{BadLine}
-use Rattle.terms.specs.Refusals.{numberOf}
+use Rattle.terms.specs.Refusals.{numberOf, fieldNumber}
 use Rattle.conflict.specs.declared.action.Action.{Action}
+use Rattle.terms.specs.Letters.{ofRequests}
+use Rattle.text_rules.specs.declared.splitter.Splitter.{Splitter}
+use Rattle.text_rules.specs.Fields.{lacking}
+use Rattle.text_rules.specs.Lines.{readLine}
 use Rattle.text_rules.specs.Records.{answerRecord, lineRecord}
+use Rattle.text_rules.specs.Split.{foundAt}
 use Rattle.desk_rules.specs.declared.Answer.{Answer}
 use Rattle.program_rules.specs.declared.View.{View}
 use Rattle.program_rules.specs.declared.View.the-variants.{Answers, History, Chains}
 use Rattle.desk_rules.specs.Step.{recordsOf, ownRecords, wakeRecords}
 use Rattle.text_rules.specs.EventRecords.{askBy, eventLine, textOf}
-use Rattle.desk_rules.specs.AnswerWords.{wordOf, numberBeside}
+use Rattle.desk_rules.specs.AnswerWords.{wordOf, numberBeside, fieldBeside}
 use Rattle.program_rules.specs.OverLines.{answerLines, historyLines, wakeLines}
-use Rattle.program_rules.specs.Work.{viewed, unended}
+use Rattle.program_rules.specs.Work.{viewed, toldBad, unended}
 use Rattle.program_rules.specs.declared.Clerk.{Clerk}
 use Rattle.program_rules.specs.Chains.{chainText}
 use Rattle.program_rules.specs.Closing.{closing}
@@ -39,10 +45,10 @@ unfolding notedBytes
 line-noted n e = rw e
 
 -- the first record among the answers
-pub first-answer : (view : View) (line : ℕ) (l : Letter) (cell : ℕ) (a : Answer) (w : Word) (n : ℕ) → view ≡ Answers → w ≡ wordOf a → n ≡ numberBeside a →
-    answerRecord line w n ≡ firstRecord view line l cell a
+pub first-answer : (view : View) (line : ℕ) (l : Letter) (cell : ℕ) (a : Answer) (w : Word) (n k : ℕ) → view ≡ Answers → w ≡ wordOf a → n ≡ numberBeside a → k ≡ fieldBeside a →
+    answerRecord line w n k ≡ firstRecord view line l cell a
 unfolding firstRecord
-first-answer view line l cell a w n e f g = rw (e, f, g)
+first-answer view line l cell a w n k e f g h = rw (e, f, g, h)
 
 -- the first record in the history
 pub first-noted : (view : View) (line : ℕ) (l : Letter) (cell : ℕ) (a : Answer) (n : Noted) → view ≡ History → notedBytes n ≡ textOf (ownRecords (asking l cell) a) → notedBytes n ≡ firstRecord view line l cell a
@@ -55,7 +61,7 @@ unfolding firstRecord
 first-chains view line l cell a e = rw e
 
 -- a wake among the answers
-pub wake-answer : (view : View) (line : ℕ) (a : Action) → view ≡ Answers → answerRecord line Wake (a .job) ≡ wakeRecord view line a
+pub wake-answer : (view : View) (line : ℕ) (a : Action) → view ≡ Answers → answerRecord line Wake (a .job) 0 ≡ wakeRecord view line a
 unfolding wakeRecord
 wake-answer view line a e = rw e
 
@@ -70,19 +76,24 @@ unfolding wakeRecord
 wake-chains view line a e = rw e
 
 -- a bad line among the answers
-pub bad-answer : (view : View) (line n : ℕ) → view ≡ Answers → n ≡ numberOf BadLine → answerRecord line No n ≡ viewed view (unended line)
-unfolding viewed unended answerLines wordOf numberBeside wakeLines
-bad-answer view line n e f = rw (e, f) (sym (append-nil _))
+pub bad-answer : (view : View) (line n k : ℕ) (field : Field) → view ≡ Answers → n ≡ numberOf (BadLine field) → k ≡ fieldNumber field → answerRecord line No n k ≡ viewed view (toldBad line field)
+unfolding viewed toldBad answerLines wordOf numberBeside fieldBeside wakeLines
+bad-answer view line n k field e f g = rw (e, f, g) (sym (append-nil _))
 
 -- a bad line gives the history nothing
-pub bad-noted : (view : View) (line : ℕ) → view ≡ History → [] ≡ viewed view (unended line)
-unfolding viewed unended historyLines recordsOf ownRecords wakeRecords textOf
-bad-noted view line e = rw e
+pub bad-noted : (view : View) (line : ℕ) (field : Field) → view ≡ History → [] ≡ viewed view (toldBad line field)
+unfolding viewed toldBad historyLines recordsOf ownRecords wakeRecords textOf
+bad-noted view line field e = rw e
 
 -- nor the chains
-pub bad-chains : (view : View) (line : ℕ) → view ≡ Chains → [] ≡ viewed view (unended line)
+pub bad-chains : (view : View) (line : ℕ) (field : Field) → view ≡ Chains → [] ≡ viewed view (toldBad line field)
 unfolding viewed
-bad-chains view line e = rw e
+bad-chains view line field e = rw e
+
+-- a line that lacks its newline is a bad line, at the field that its bytes tell
+pub unended-told : (view : View) (s : Splitter) {field : Field} → field ≡ lacking (readLine ofRequests (foundAt s .bytes)) → viewed view (toldBad (s .line) field) ≡ viewed view (unended s)
+unfolding unended
+unended-told view s e = ap (λ k. viewed view (toldBad (s .line) k)) e
 
 -- nothing is written last of the answers
 pub last-answers : (view : View) (c : Clerk) → view ≡ Answers → [] ≡ closing view c

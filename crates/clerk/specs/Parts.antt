@@ -1,10 +1,11 @@
 -- The records of one line as the code writes them, one after another: the first, if there is one, and then one for each wake (01, Lines).
-use Prim.Native.Nat.{ℕ, _≤_}
+use Prim.Native.Nat.{ℕ, _≤_, _<_}
 use mathlib.Core.List.{List, [], _∷_, _++_}
 use lib.ListN.{length}
 use Rattle.terms.specs.declared.letters.Letter.{Letter}
 use Rattle.terms.specs.declared.words.Word.the-variants.{Wake}
 use Rattle.terms.specs.Letters.{byteOf}
+use Rattle.terms.specs.Limits.{lastNumber}
 use Rattle.conflict.specs.declared.action.Action.{Action}
 use Rattle.conflict.specs.declared.action.Event.the-variants.{Does}
 use Rattle.text_rules.specs.EventRecords.{eventLine, textOf}
@@ -13,7 +14,7 @@ use Rattle.text_rules.specs.Wrote.{Wrote}
 use Rattle.desk_rules.specs.declared.Answer.{Answer}
 use Rattle.program_rules.specs.declared.View.{View}
 use Rattle.program_rules.specs.declared.View.the-variants.{Answers, History, Chains}
-use Rattle.desk_rules.specs.AnswerWords.{wordOf, numberBeside}
+use Rattle.desk_rules.specs.AnswerWords.{wordOf, numberBeside, fieldBeside}
 use Rattle.desk_rules.specs.Desk.{Request}
 use Rattle.desk_rules.specs.Step.{ownRecords}
 use Rattle.clerk.specs.declared.records.Noted.{Noted}
@@ -23,6 +24,10 @@ use Rattle.clerk.specs.declared.records.Noted.the-variants.{Nothing, Lin
 pub record Added (most at to : ℕ) (bytes before after : List ℕ) : Type 0 where
   pub wrote : Wrote at to bytes before after
   pub few : length bytes ≤ most
+
+-- the number and the field of an answer record that is short enough: a number of 32 bits, and beside a field one of two digits
+abbrev pub Besides : ℕ → ℕ → Type 0
+Besides number fault = (number ≤ lastNumber) × (fault ≤ 9) × (0 < fault → number ≤ 99)
 
 -- the request of a good line, as far as its history records go: these do not name the job that asked, but the one answered
 abbrev pub asking : Letter → ℕ → Request
@@ -35,13 +40,13 @@ notedBytes (Line l job cell) = lineRecord l job cell
 
 -- the first record of a line in a view
 unfoldable pub firstRecord : View → ℕ → Letter → ℕ → Answer → List ℕ
-firstRecord Answers line l cell a = answerRecord line (wordOf a) (numberBeside a)
+firstRecord Answers line l cell a = answerRecord line (wordOf a) (numberBeside a) (fieldBeside a)
 firstRecord History line l cell a = textOf (ownRecords (asking l cell) a)
 firstRecord Chains line l cell a = []
 
 -- the record of a wake in a view
 unfoldable pub wakeRecord : View → ℕ → Action → List ℕ
-wakeRecord Answers line a = answerRecord line Wake (a .job)
+wakeRecord Answers line a = answerRecord line Wake (a .job) 0
 wakeRecord History line a = eventLine (Does a)
 wakeRecord Chains line a = []
 

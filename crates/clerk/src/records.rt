@@ -8,7 +8,10 @@ use program_rules::View;
 use terms::letters::Ask;
 use terms::letters::Letter;
 use terms::limits::PLACES;
+use terms::refusals::Field;
 use terms::refusals::Refusal;
+use terms::refusals::field_number;
+use terms::refusals::field_of;
 use terms::refusals::number_of;
 use terms::words::Word;
 use text::writer::write_answer;
@@ -22,13 +25,13 @@ ghost use lib.ListN.{length, take};
 ghost use Rattle.terms.specs.Limits.{requestLines, lastNumber};
 ghost use Rattle.text_rules.specs.Records.{ofAnswers, answerRecord, longestRecord, lineRecord};
 ghost use Rattle.text_rules.specs.Wrote.{Wrote};
-ghost use Rattle.desk_rules.specs.AnswerWords.{wordOf, numberBeside};
+ghost use Rattle.desk_rules.specs.AnswerWords.{wordOf, numberBeside, fieldBeside};
 ghost use Rattle.text_rules.specs.EventRecords.{askBy, textOf};
 ghost use Rattle.desk_arrays.specs.Steps.{wakeAt};
 ghost use Rattle.desk_rules.specs.Step.{wentBy, ownRecords};
 ghost use Rattle.terms.specs.declared.letters.Lettered.the-variants.{Known};
-ghost use Rattle.program_rules.specs.Work.{viewed, unended, wakesRoom, lineRoom};
-ghost use Rattle.clerk.specs.Parts.{Added, asking, notedBytes, firstRecord, wakeRecord, wakeRecords, lineRecords};
+ghost use Rattle.program_rules.specs.Work.{viewed, toldBad, wakesRoom, lineRoom};
+ghost use Rattle.clerk.specs.Parts.{Added, Besides, asking, notedBytes, firstRecord, wakeRecord, wakeRecords, lineRecords};
 
 // What the history notes of a request, beside the wakes: one line of a letter, or nothing.
 enum Noted {
@@ -57,6 +60,18 @@ fn number_beside(a: Answer) -> u64
         Answer::Wait(j) => j as u64,
         Answer::Back(j) => j as u64,
         Answer::No(why) => number_of(why) as u64,
+    }
+}
+
+// The field beside that: the field at fault of a bad line, and 0 where there is none.
+fn field_beside(a: Answer) -> u64
+    ensures { λ r. ⌜ r ≡ fieldBeside a ⌝ }
+{
+    match a {
+        Answer::Go(_) => 0,
+        Answer::Wait(_) => 0,
+        Answer::Back(_) => 0,
+        Answer::No(why) => field_of(why) as u64,
     }
 }
 
@@ -114,11 +129,11 @@ fn noted_of(letter: Letter, cell: u32, a: Answer) -> Noted
 }
 
 // An answer record, for which there is room.
-fn put_answer(out: &mut [u8], at: usize, line: u64, word: Word, number: u64) -> usize
-    requires { ⌜ (line ≤ requestLines) × (ofAnswers word ≡ true) × (number ≤ lastNumber) × (at + longestRecord ≤ length (now out)) ⌝ }
-    ensures { λ r. ⌜ Added longestRecord at r (answerRecord line word number) (now (out .entry)) (now (out .exit)) ⌝ }
+fn put_answer(out: &mut [u8], at: usize, line: u64, word: Word, number: u64, fault: u64) -> usize
+    requires { ⌜ (line ≤ requestLines) × (ofAnswers word ≡ true) × Besides number fault × (at + longestRecord ≤ length (now out)) ⌝ }
+    ensures { λ r. ⌜ Added longestRecord at r (answerRecord line word number fault) (now (out .entry)) (now (out .exit)) ⌝ }
 {
-    match write_answer(out, at, line, word, number) {
+    match write_answer(out, at, line, word, number, fault) {
         Written::Next(next) => next,
         Written::Refused(_) => at,
     }
@@ -160,7 +175,7 @@ fn put_first(
     ensures { λ r. ⌜ Added longestRecord at r (firstRecord view line letter cell a) (now (out .entry)) (now (out .exit)) ⌝ }
 {
     match view {
-        View::Answers => put_answer(out, at, line, word_of(a), number_beside(a)),
+        View::Answers => put_answer(out, at, line, word_of(a), number_beside(a), field_beside(a)),
         View::History => put_noted(out, at, noted_of(letter, cell, a)),
         View::Chains => at,
     }
@@ -172,7 +187,7 @@ fn put_wake(view: View, out: &mut [u8], at: usize, line: u64, a: Action) -> usiz
     ensures { λ r. ⌜ Added longestRecord at r (wakeRecord view line a) (now (out .entry)) (now (out .exit)) ⌝ }
 {
     match view {
-        View::Answers => put_answer(out, at, line, Word::Wake, a.job as u64),
+        View::Answers => put_answer(out, at, line, Word::Wake, a.job as u64, 0),
         View::History => {
             let kind = a.kind;
             put_line(out, at, Letter::Asks(ask_by(kind)), a.job, a.cell)
@@ -234,13 +249,20 @@ pub fn put_records<'a>(
     put_wakes(view, out, next, line, number, cells, ask, woken, count)
 }
 
-// The record of a bad line: refusal 9 among the answers, and none in the history and for the chains.
-pub fn put_bad(view: View, out: &mut [u8], at: usize, line: u64) -> usize
+// The record of a bad line: refusal 9 and the field at fault among the answers, and none in the history and for the chains.
+pub fn put_bad(view: View, out: &mut [u8], at: usize, line: u64, field: Field) -> usize
     requires { ⌜ (line ≤ requestLines) × (at + lineRoom ≤ length (now out)) ⌝ }
-    ensures { λ r. ⌜ Wrote at r (viewed view (unended line)) (now (out .entry)) (now (out .exit)) ⌝ }
+    ensures { λ r. ⌜ Wrote at r (viewed view (toldBad line field)) (now (out .entry)) (now (out .exit)) ⌝ }
 {
     match view {
-        View::Answers => put_answer(out, at, line, Word::No, number_of(Refusal::BadLine) as u64),
+        View::Answers => put_answer(
+            out,
+            at,
+            line,
+            Word::No,
+            number_of(Refusal::BadLine(field)) as u64,
+            field_number(field) as u64,
+        ),
         View::History => at,
         View::Chains => at,
     }

@@ -10,7 +10,9 @@ use program_rules::View;
 use program_rules::Worked;
 use terms::limits::PLACES;
 use terms::limits::REQUEST_LINES;
+use terms::refusals::Field;
 use text::reader::read_request;
+use text::reader::torn_request;
 use text::writer::has_room;
 use text_rules::Reading;
 use text_rules::splitter::KEPT;
@@ -20,10 +22,13 @@ ghost use mathlib.Core.Bool.{true};
 ghost use Prim.Native.Nat.{_+_, _≤_};
 ghost use lib.ListN.{length};
 ghost use Rattle.terms.specs.Letters.{ofRequests};
+ghost use Rattle.terms.specs.Limits.{requestLines};
+ghost use Rattle.text_rules.specs.Fields.{lacking};
 ghost use Rattle.text_rules.specs.Lines.{readLine};
 ghost use Rattle.text_rules.specs.Split.{foundAt};
+ghost use Rattle.text_rules.specs.Wrote.{Wrote};
 ghost use Rattle.desk_arrays.specs.Steps.{deskOf};
-ghost use Rattle.program_rules.specs.Work.{lineRoom, due, turning, owing, workOf, finishOf};
+ghost use Rattle.program_rules.specs.Work.{viewed, unended, lineRoom, due, turning, owing, workOf, finishOf};
 
 // The longest record has so many bytes.
 const LONGEST_RECORD: usize = 24;
@@ -40,6 +45,18 @@ fn reading_of(s: Splitter) -> Reading
         return read_request(&kept[0..len]);
     }
     read_request(&kept)
+}
+
+// The field at fault of the line in the splitter, which lacks its newline.
+fn torn_field(s: Splitter) -> Field
+    ensures { λ r. ⌜ r ≡ lacking (readLine ofRequests (foundAt s .bytes)) ⌝ }
+{
+    let kept = s.kept;
+    let len = s.len;
+    if len < KEPT {
+        return torn_request(&kept[0..len]);
+    }
+    torn_request(&kept)
 }
 
 // Whether the line in the splitter is to be answered.
@@ -109,7 +126,7 @@ fn answer_line(
                 t.count,
             )
         }
-        Reading::Bad => put_bad(view, out, at, s.line),
+        Reading::Bad(field) => put_bad(view, out, at, s.line, field),
     }
 }
 
@@ -172,7 +189,15 @@ pub fn work(view: View, c: Clerk, chunk: &[u8], from: usize, out: &mut [u8], at:
     }
 }
 
-// The end of the input: a line that lacks its newline is answered by refusal 9. Where there is no room for that, the buffer is to be written out first.
+// The record of the line in the splitter, where the input has ended before its newline.
+fn put_unended(view: View, out: &mut [u8], at: usize, s: Splitter) -> usize
+    requires { ⌜ (s .line ≤ requestLines) × (at + lineRoom ≤ length (now out)) ⌝ }
+    ensures { λ r. ⌜ Wrote at r (viewed view (unended s)) (now (out .entry)) (now (out .exit)) ⌝ }
+{
+    put_bad(view, out, at, s.line, torn_field(s))
+}
+
+// The end of the input: a line that lacks its newline is answered by refusal 9, with the field at fault. Where there is no room for that, the buffer is to be written out first.
 pub fn finish(view: View, c: Clerk, out: &mut [u8], at: usize) -> Finished
     ensures { λ r. ⌜ (r ≡ finishOf view c (now (out .entry)) at .finished) × (now (out .exit) ≡ finishOf view c (now (out .entry)) at .out) ⌝ }
 {
@@ -183,7 +208,7 @@ pub fn finish(view: View, c: Clerk, out: &mut [u8], at: usize) -> Finished
     if !has_room(out.len(), at, LINE_ROOM) {
         return Finished { at, full: true };
     }
-    let next = put_bad(view, out, at, s.line);
+    let next = put_unended(view, out, at, s);
     Finished {
         at: next,
         full: false,

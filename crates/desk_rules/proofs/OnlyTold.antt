@@ -70,4 +70,4 @@ unfolding chainNumbers
 same-chained (Jobs n) (Jobs m) e = ap Jobs (head-same (tail-same e))
 same-chained (Jobs n) (No y) e = let h = head-same e in let w = within-table y in absurd (omega arith)
 same-chained (No x) (Jobs m) e = let h = head-same e in let w = within-table x in absurd (omega arith)
-same-chained (No x) (No y) e = ap No (same-number x y (head-same e))
+same-chained (No x) (No y) e = ap No (same-number x y (head-same e) (head-same (tail-same e)))

@@ -22,7 +22,7 @@ use Rattle.desk_rules.specs.Table.{holds, order, dueBy, dueOf, Due, Answ
 use Rattle.desk_rules.specs.Course.{from}
 use Rattle.desk_rules.specs.Refuses.{Refuses}
 use Rattle.desk_rules.proofs.TableMeant.{Meant, step-meant}
-use Rattle.desk_rules.proofs.AnswerNumbers.{beside-is-job}
+use Rattle.desk_rules.proofs.AnswerNumbers.{beside-is-job, no-field}
 use Rattle.desk_rules.proofs.Fields.{step-alike, records-alike}
 use Rattle.desk_rules.proofs.AnswerTells.{ask-waited, ask-back}
 
@@ -69,7 +69,7 @@ row-number l s c d SentBack h = omega arith
 row-number l s c d AllOpen h = omega arith
 row-number l s c d NoNumberLeft h = omega arith
 row-number l s c d Running h = omega arith
-row-number l s c d BadLine h = not-both h refl
+row-number l s c d (BadLine field) h = not-both h refl
 row-number l s c d StartedAtZero h = not-both h refl
 row-number l s c d TooManyLines h = not-both h refl
 row-number l s c d JobOutside h = not-both h refl
@@ -78,6 +78,13 @@ row-number l s c d ShortOrder h = not-both h refl
 row-number l s c d NoRoom h = not-both h refl
 row-number l s c d TooLong h = not-both h refl
 row-number l s c d ShortList h = not-both h refl
+
+-- so a step gives only the refusals 1 to 8
+step-number : (d : Desk) (r : Request) (why : Refusal) → step d r .said ≡ No why → (1 ≤ numberOf why) × (numberOf why ≤ 8)
+unfolding dueOf dueBy
+step-number d r why e =
+    let q = meant-refuses d (named d r) (dueOf d r) (step d r) (step-meant d r) why e in
+    row-number (letterOf (r .kind)) (d .stat (r .job)) (r .cell) d why (first-holds (holds (letterOf (r .kind)) (d .stat (r .job)) (r .cell) d) (order (letterOf (r .kind))) why q)
 
 -- a wait and a back are answers to requests for a cell alone
 only-go : (d : Desk) (r : Request) → letterIs asksNoCell (letterOf (r .kind)) ≡ true → (x : Answer) {j : ℕ} → step d r .said ≡ x → Answers x j → x ≡ Go j
@@ -100,9 +107,8 @@ refuses d = record {
   answers-go = λ r k e. only-go d r k (step d r .said) refl (subst (λ v. Meant d (named d r) v (step d r)) e (step-meant d r));
   no-with-number = λ r why e. let q = due-refused d r why e in (ap (λ o. wordOf (o .said)) q, ap (λ o. numberBeside (o .said)) q);
   job-beside = λ r e. beside-is-job (subst (λ v. Meant d (named d r) v (step d r)) e (step-meant d r));
-  one-to-eight = λ r why e.
-      let q = meant-refuses d (named d r) (dueOf d r) (step d r) (step-meant d r) why e in
-      row-number (letterOf (r .kind)) (d .stat (r .job)) (r .cell) d why (first-holds (holds (letterOf (r .kind)) (d .stat (r .job)) (r .cell) d) (order (letterOf (r .kind))) why q);
+  one-to-eight = step-number d;
+  no-field = λ r. no-field (step d r .said) (λ why e. step-number d r why e .1);
   unread = λ r s k e.
       let q : step d r ≡ step d s = step-alike d r s (letterOf (r .kind)) e ∙ ap (λ b. stepBy d s (letterOf b)) k in
       (q, rw (q, records-alike r s (step d s .said) k e));

@@ -1,8 +1,8 @@
--- An answer in the paper's words and numbers: its word, and the number beside it (01, Refusals by number; 01, Lines).
+-- An answer in the paper's words and numbers: its word, the number beside it, and the field of a bad line (01, Refusals by number; 01, Lines; 02, No. 5).
 use Prim.Native.Nat.{ℕ}
 use Rattle.terms.specs.declared.words.Word.{Word}
 use Rattle.terms.specs.declared.words.Word.the-variants.{Go, Wait, Back, No}
-use Rattle.terms.specs.Refusals.{numberOf}
+use Rattle.terms.specs.Refusals.{numberOf, fieldOf}
 use Rattle.desk_rules.specs.declared.Answer.{Answer}
 use Rattle.desk_rules.specs.declared.Answer.the-variants.{Go as goes, Wait as waits, Back as back, No as refuses}
 
@@ -19,3 +19,10 @@ numberBeside (goes j) = j
 numberBeside (waits j) = j
 numberBeside (back j) = j
 numberBeside (refuses why) = numberOf why
+
+-- the field beside that: the field at fault of a bad line, and 0 where there is none (02, No. 5)
+unfoldable pub fieldBeside : Answer → ℕ
+fieldBeside (goes j) = 0
+fieldBeside (waits j) = 0
+fieldBeside (back j) = 0
+fieldBeside (refuses why) = fieldOf why

@@ -8,7 +8,7 @@ use lib.ListN.{length}
 use Rattle.laws.specs.Lists.{firstOf, filled}
 use Rattle.terms.specs.declared.refusals.Refusal.{Refusal}
 use Rattle.terms.specs.declared.refusals.Refusal.the-variants.{UnknownKind, CellAbove, NotOpen, Waiting, SentBack, AllOpen, NoNumberLeft, Running, BadLine, StartedAtZero, TooManyLines, JobOutside, Ended, ShortOrder, NoRoom, TooLong, ShortList}
-use Rattle.terms.specs.Refusals.{numberOf}
+use Rattle.terms.specs.Refusals.{numberOf, fieldOf}
 use Rattle.terms.specs.Limits.{places}
 use Rattle.desk_rules.specs.declared.Chained.{Chained}
 use Rattle.desk_rules.specs.declared.Chained.the-variants.{Jobs, No}
@@ -26,7 +26,7 @@ chainHolds s n SentBack = isSentBack s
 chainHolds s n AllOpen = false
 chainHolds s n NoNumberLeft = false
 chainHolds s n Running = false
-chainHolds s n BadLine = false
+chainHolds s n (BadLine field) = false
 chainHolds s n StartedAtZero = false
 chainHolds s n TooManyLines = false
 chainHolds s n JobOutside = false
@@ -58,7 +58,7 @@ chainTold js list none = record { said = Jobs (length js); list = filled js list
 unfoldable pub askChain : Desk → ℕ → List ℕ → ChainTold
 askChain d j list = chainTold (chainOf d j) list (chainDue (d .stat j) (length list))
 
--- the answer in two numbers: 0 with how many jobs, or the refusal's number
+-- the answer in two numbers: 0 with how many jobs, or the refusal's number, and the field of a 9, which is never given here
 unfoldable pub chainNumbers : Chained → List ℕ
 chainNumbers (Jobs n) = 0 ∷ n ∷ []
-chainNumbers (No why) = numberOf why ∷ 0 ∷ []
+chainNumbers (No why) = numberOf why ∷ fieldOf why ∷ []

@@ -9,7 +9,7 @@ use Rattle.terms.specs.declared.words.Word.the-variants.{No as no-word}
 use Rattle.terms.specs.Letters.{letterOf}
 use Rattle.terms.specs.Refusals.{numberOf}
 use Rattle.desk_rules.specs.declared.Answer.the-variants.{Go, No}
-use Rattle.desk_rules.specs.AnswerWords.{wordOf, numberBeside}
+use Rattle.desk_rules.specs.AnswerWords.{wordOf, numberBeside, fieldBeside}
 use Rattle.desk_rules.specs.Desk.{Request}
 use Rattle.desk_rules.specs.Asked.{Alike}
 use Rattle.desk_rules.specs.Table.{holds, Due, NothingDue, Answers, named, letterIs, asksNoCell}
@@ -27,9 +27,10 @@ pub record Refuses (k : Course) : Type 0 where
   pub answer-names : (r : Request) (j : ℕ) → Answers (to k r .said) j → j ≡ named (now k) r
   -- begin, commit, give-up and retry go where nothing is due
   pub answers-go : (r : Request) → letterIs asksNoCell (letterOf (r .kind)) ≡ true → NothingDue (now k) r → to k r .said ≡ Go (named (now k) r)
-  -- the number beside the word is the refusal's, or the job's; a step gives only the refusals 1 to 8
+  -- the number beside the word is the refusal's, or the job's; a step gives only the refusals 1 to 8, and so tells no field
   pub no-with-number : (r : Request) (why : Refusal) → Due (now k) r why → (wordOf (to k r .said) ≡ no-word) × (numberBeside (to k r .said) ≡ numberOf why)
   pub job-beside : (r : Request) → NothingDue (now k) r → numberBeside (to k r .said) ≡ named (now k) r
   pub one-to-eight : (r : Request) (why : Refusal) → to k r .said ≡ No why → (1 ≤ numberOf why) × (numberOf why ≤ 8)
+  pub no-field : (r : Request) → fieldBeside (to k r .said) ≡ 0
   -- requests of one kind that agree in the fields which the kind uses make the same step, and write the same
   pub unread : (r s : Request) → r .kind ≡ s .kind → Alike (letterOf (r .kind)) r s → (to k r ≡ to k s) × (records k r ≡ records k s)

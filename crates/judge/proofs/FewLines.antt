@@ -54,7 +54,7 @@ number-few n ended (l ∷ ls) f h e =
 -- a line says at most one event
 one-event : (r : Reading) → length (eventOf r) ≤ 1
 unfolding eventOf
-one-event Bad = omega arith
+one-event (Bad at) = omega arith
 one-event (Good Begin job cell) = omega arith
 one-event (Good Commit job cell) = omega arith
 one-event (Good GiveUp job cell) = omega arith

@@ -130,7 +130,7 @@ read-kept : (n : ℕ) (flags : List Bool) (ended line : List ℕ) (code job cell
 unfolding lookedRead
 read-kept n flags ended line code job cell (Good l j x) long a most g e =
     good-kept-as n flags ended line code job cell l j x long a most g (good-kept flags l j x code job cell e)
-read-kept n flags ended line code job cell Bad long a most g e = not-kept e
+read-kept n flags ended line code job cell (Bad at) long a most g e = not-kept e
 
 -- a line that is kept says what is kept of it, and the flags say after it who has ended
 pub kept-as : (n : ℕ) (flags : List Bool) (ended line : List ℕ) (code job cell : ℕ) → length flags ≡ 256 → Flagged flags ended →

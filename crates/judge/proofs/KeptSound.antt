@@ -111,7 +111,7 @@ passed n before h e f = rw f
 reading-sound : (r : Reading) (n k : ℕ) (ended : List ℕ) (before h : History) → k ≤ n → n ≤ judgedLines → Known ended before → faultOf ended r ≡ none →
     ((m : ℕ) (after : History) → m ≤ suc n → Known (endedAfter ended r) after → firstFault m after h ≡ Faultless) → firstFault k before (eventOf r ++ h) ≡ Faultless
 unfolding faultOf endedAfter eventOf
-reading-sound Bad n k ended before h a few kn f next = not-none f
+reading-sound (Bad at) n k ended before h a few kn f next = not-none f
 reading-sound (Good Begin job cell) n k ended before h a few kn f next = next k before (omega arith) kn
 reading-sound (Good Commit job cell) n k ended before h a few kn f next =
     passed k before h (Ends commits job) (event-table ended before kn k Commit job cell (Ends commits job) (omega arith) (ends-job commits job) (ends-above commits job) ∙ f)

@@ -11,6 +11,7 @@ use lib.Dec.{eqb, ltb, leb}
 use lib.ListN.{getD}
 use Rattle.laws.specs.Choice.{by-test}
 use Rattle.terms.specs.declared.letters.Letter.{Letter}
+use Rattle.terms.specs.declared.refusals.Field.{Field}
 use Rattle.terms.specs.declared.refusals.Refusal.{Refusal}
 use Rattle.terms.specs.Letters.{ofHistories, hasCell}
 use Rattle.terms.specs.Limits.{cells, judgedJobs, judgedLines}
@@ -29,9 +30,9 @@ pub look-good : (flags : List Bool) (x y : Reading) (r : Looked) (l : Letter) (j
 unfolding lookedRead
 look-good flags x y r l job cell e g h = rw (← e, g) h
 
--- a line that reads as bad is refused
-pub look-bad : (flags : List Bool) (x y : Reading) (r : Looked) → x ≡ y → x ≡ Bad → r ≡ lookedRead flags Bad → r ≡ lookedRead flags y
-look-bad flags x y r e g h = rw (← e, g) h
+-- a line that reads as bad is refused, at that field
+pub look-bad : (flags : List Bool) (x y : Reading) (r : Looked) (at : Field) → x ≡ y → x ≡ Bad at → r ≡ lookedRead flags (Bad at) → r ≡ lookedRead flags y
+look-bad flags x y r at e g h = rw (← e, g) h
 
 -- why a line is refused, if it is
 refusalOf : Looked → Option Refusal
@@ -60,7 +61,7 @@ good-fault flags ended l job cell a h =
 read-fault : (flags : List Bool) (ended line : List ℕ) (r : Reading) → readLine ofHistories line ≡ r → Flagged flags ended → faultOf ended r ≡ refusalOf (lookedRead flags r)
 unfolding faultOf lookedRead refusalOf
 read-fault flags ended line (Good l job cell) e a = good-fault flags ended l job cell a (good-is-record ofHistories line l job cell e .5)
-read-fault flags ended line Bad e a = refl
+read-fault flags ended line (Bad at) e a = refl
 
 -- line n is refused as the paper says
 line-fault : (n : ℕ) (flags : List Bool) (ended line : List ℕ) → Flagged flags ended → lineFault n ended (readLine ofHistories line) ≡ refusalOf (lookedAt n flags (readLine ofHistories line))

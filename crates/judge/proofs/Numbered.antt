@@ -1,4 +1,4 @@
--- A verdict in three numbers: each case has its numbers, and the numbers of a small one fit 32 bits.
+-- A verdict in four numbers: each case has its numbers, and the numbers of a small one fit 32 bits.
 -- Assumes nothing.
 use Prim.Native.Nat.{ℕ}
 use mathlib.Core.Path.{_≡_, subst}
@@ -6,7 +6,7 @@ use mathlib.Core.List.{[], _∷_}
 use mir.Syntax.{w32}
 use mir.Val.{Fits}
 use Rattle.terms.specs.declared.refusals.Refusal.{Refusal}
-use Rattle.terms.specs.Refusals.{numberOf}
+use Rattle.terms.specs.Refusals.{numberOf, fieldOf}
 use Rattle.judge_rules.specs.declared.verdict.Verdict.{Verdict}
 use Rattle.judge_rules.specs.declared.verdict.Verdict.the-variants.{Orderly, Knot, Dirty, No}
 use Rattle.judge_rules.specs.Judgement.{inNumbers}
@@ -26,21 +26,21 @@ module _ (v : Verdict) where
   line-fits line why s e = record { fits = subst Small e s }
 
   -- the numbers of an order
-  pub orderly-numbers : (n : ℕ) → v ≡ Orderly n → 0 ∷ n ∷ 0 ∷ [] ≡ inNumbers v
+  pub orderly-numbers : (n : ℕ) → v ≡ Orderly n → 0 ∷ n ∷ 0 ∷ 0 ∷ [] ≡ inNumbers v
   unfolding inNumbers
   orderly-numbers n e = rw e
 
   -- the numbers of a knot
-  pub knot-numbers : (n : ℕ) → v ≡ Knot n → 1 ∷ n ∷ 0 ∷ [] ≡ inNumbers v
+  pub knot-numbers : (n : ℕ) → v ≡ Knot n → 1 ∷ n ∷ 0 ∷ 0 ∷ [] ≡ inNumbers v
   unfolding inNumbers
   knot-numbers n e = rw e
 
   -- the numbers of a dirty read
-  pub dirty-numbers : (reader writer : ℕ) → v ≡ Dirty reader writer → 3 ∷ reader ∷ writer ∷ [] ≡ inNumbers v
+  pub dirty-numbers : (reader writer : ℕ) → v ≡ Dirty reader writer → 3 ∷ reader ∷ writer ∷ 0 ∷ [] ≡ inNumbers v
   unfolding inNumbers
   dirty-numbers reader writer e = rw e
 
   -- the numbers of a refusal
-  pub refusal-numbers : (line m : ℕ) (why : Refusal) → v ≡ No line why → m ≡ numberOf why → 2 ∷ m ∷ line ∷ [] ≡ inNumbers v
+  pub refusal-numbers : (line m f : ℕ) (why : Refusal) → v ≡ No line why → m ≡ numberOf why → f ≡ fieldOf why → 2 ∷ m ∷ line ∷ f ∷ [] ≡ inNumbers v
   unfolding inNumbers
-  refusal-numbers line m why e h = rw (e, h)
+  refusal-numbers line m f why e h g = rw (e, h, g)

@@ -9,7 +9,7 @@ use Rattle.judge_rules.specs.declared.verdict.Verdict.the-variants.{Orderly, Kn
 use Rattle.judge_rules.specs.Judgement.{judgementOf, lineFrom}
 use Rattle.judge.specs.declared.entry.Judged.{Judged}
 
--- the numbers of a verdict are small enough for three places of 32 bits; reader and writer are bytes already
+-- the numbers of a verdict are small enough for four places of 32 bits; reader and writer are bytes already, and so are a refusal's number and field
 abbrev pub Small : Verdict → Type 0
 Small (Orderly n) = n < 2 ^ 32
 Small (Knot n) = n < 2 ^ 32

@@ -41,7 +41,7 @@ lookedGood flags l job cell =
 -- a line as it reads
 unfoldable pub lookedRead : List Bool → Reading → Looked
 lookedRead flags (Good l job cell) = lookedGood flags l job cell
-lookedRead flags Bad = Refused BadLine
+lookedRead flags (Bad at) = Refused (BadLine at)
 
 -- line n, as it reads
 unfoldable pub lookedAt : ℕ → List Bool → Reading → Looked

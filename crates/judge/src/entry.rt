@@ -1,4 +1,4 @@
-// The judge's two entries: one tells the verdict, and one hands back the faulty line too, with the verdict in three numbers (01, The judge's rules).
+// The judge's two entries: one tells the verdict, and one hands back the faulty line too, with the verdict in four numbers (01, The judge's rules; 02, No. 5).
 use crate::scan::Scanned;
 use crate::scan::scan;
 use judge_core::kept::judge_kept;
@@ -6,6 +6,7 @@ use judge_rules::verdict::Verdict;
 use terms::limits::JUDGED_JOBS;
 use terms::limits::JUDGED_LINES;
 use terms::refusals::Refusal;
+use terms::refusals::field_of;
 use terms::refusals::number_of;
 ghost use mathlib.Core.Path.{_≡_};
 ghost use denote.Ref.{ptr};
@@ -58,16 +59,16 @@ fn judgement(text: &[u8], order: &mut [u8]) -> Judged
     }
 }
 
-// A verdict in three numbers.
-fn in_numbers(said: Verdict) -> [u32; 3]
+// A verdict in four numbers; the fourth is the field at fault of refusal 9, and else 0 (02, No. 5).
+fn in_numbers(said: Verdict) -> [u32; 4]
     requires { ⌜ Small said ⌝ }
     ensures { λ r. ⌜ r ≡ inNumbers said ⌝ }
 {
     match said {
-        Verdict::Orderly(n) => [0, n as u32, 0],
-        Verdict::Knot(n) => [1, n as u32, 0],
-        Verdict::Dirty { reader, writer } => [3, reader as u32, writer as u32],
-        Verdict::No { line, why } => [2, number_of(why) as u32, line as u32],
+        Verdict::Orderly(n) => [0, n as u32, 0, 0],
+        Verdict::Knot(n) => [1, n as u32, 0, 0],
+        Verdict::Dirty { reader, writer } => [3, reader as u32, writer as u32, 0],
+        Verdict::No { line, why } => [2, number_of(why) as u32, line as u32, field_of(why) as u32],
     }
 }
 
@@ -80,8 +81,8 @@ pub fn judge_text(text: &[u8], order: &mut [u8]) -> Verdict
     found.said
 }
 
-// The same with the verdict in three numbers, and the faulty line handed back as it stands in the text, without its newline, behind the lines before it; an empty part at the text's start where none is faulty.
-pub fn judge<'a>(text: &'a [u8], order: &mut [u8], answer: &mut [u32; 3]) -> &'a [u8]
+// The same with the verdict in four numbers, and the faulty line handed back as it stands in the text, without its newline, behind the lines before it; an empty part at the text's start where none is faulty.
+pub fn judge<'a>(text: &'a [u8], order: &mut [u8], answer: &mut [u32; 4]) -> &'a [u8]
     ensures line { λ r. ⌜ now r ≡ judgementOf (now (text .entry)) (now (order .entry)) .line ⌝ }
     ensures place { λ r. ⌜ ptr r ≡ linePlace (ptr (text .entry)) (now (text .entry)) (now (order .entry)) ⌝ }
     ensures order { λ r. ⌜ now (order .exit) ≡ judgementOf (now (text .entry)) (now (order .entry)) .order ⌝ }

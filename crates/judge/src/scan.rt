@@ -84,7 +84,7 @@ fn look_good(ended: &[bool; 256], letter: Letter, job: u32, cell: u32) -> Looked
     }
 }
 
-// Line n of a history, given the jobs that have committed or given up: 11, then 9, then what a good line has.
+// Line n of a history, given the jobs that have committed or given up: 11, then 9 with the field at fault, then what a good line has.
 fn look(line: &[u8], n: usize, ended: &[bool; 256]) -> Looked
     ensures { λ r. ⌜ r ≡ lookedAt n (now (ended .entry)) (readLine ofHistories (now (line .entry))) ⌝ }
 {
@@ -93,7 +93,7 @@ fn look(line: &[u8], n: usize, ended: &[bool; 256]) -> Looked
     }
     match read_history(line) {
         Reading::Good { letter, job, cell } => look_good(ended, letter, job, cell),
-        Reading::Bad => Looked::Refused(Refusal::BadLine),
+        Reading::Bad(field) => Looked::Refused(Refusal::BadLine(field)),
     }
 }
 

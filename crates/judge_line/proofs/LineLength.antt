@@ -19,15 +19,15 @@ use Rattle.terms.specs.declared.refusals.Refusal.the-variants.{TooLong}
 use Rattle.terms.specs.declared.words.Word as word
 use Rattle.terms.specs.declared.words.Word.{Word}
 use Rattle.terms.specs.Limits.{judgedJobs, judgedLines, judgedBytes}
-use Rattle.terms.specs.Refusals.{numberOf}
+use Rattle.terms.specs.Refusals.{numberOf, fieldOf}
 use Rattle.terms.specs.Words.{tab}
-use Rattle.terms.proofs.Numbers.{within-table}
+use Rattle.terms.proofs.Numbers.{within-table, beside-at-most-4}
 use Rattle.conflict.specs.History.{isCommit, marked}
 use Rattle.conflict.specs.Dirty.{ReadOf, dirtyOf}
 use Rattle.conflict.proofs.DirtyFound.{dirty-exactly}
 use Rattle.text_rules.specs.declared.Written.the-variants.{Next}
 use Rattle.text_rules.specs.Decimal.{decimal}
-use Rattle.text_rules.specs.Records.{fits, told, left, tabbed, wordLine}
+use Rattle.text_rules.specs.Records.{fits, told, left, tabbed, wordLine, given}
 use Rattle.text_rules.specs.declared.Reading.{Reading}
 use Rattle.text_rules.proofs.DigitLaws.{digits-at-most}
 use Rattle.text.proofs.WordLaws.{word-at-most-7}
@@ -43,7 +43,7 @@ use Rattle.judge_rules.proofs.LineFaults.{finds-fault}
 use Rattle.judge.proofs.FewLines.{number-few}
 use Rattle.judge_rules.specs.VerdictLine.{sayLine, judgedLine, verdictOf, lineLimit}
 use Rattle.judge_rules.proofs.DirtyJobs.{dirty-within}
-use Rattle.judge_line.proofs.WordLines.{word-line-length, two-numbers-length}
+use Rattle.judge_line.proofs.WordLines.{word-line-length, two-numbers-length, given-at-most-2}
 
 -- jobs of at most three digits have at most four bytes each, the tab among them
 tabbed-at-most : (js : List ℕ) → ((j : ℕ) → member j js ≡ true → j ≤ judgedJobs) → length (tabbed js) ≤ 4 * length js
@@ -63,11 +63,18 @@ jobs-at-most : (w : Word) (js : List ℕ) → distinct js ≡ true → ((j : ℕ
 jobs-at-most w js once r =
     omega (arith, word-line-length w js, word-at-most-7 w, tabbed-at-most js (λ j m. r j m .1), at-most-255 js once r)
 
--- a line of the word no, a line number up to 4,097 and a refusal
-no-at-most : (n : ℕ) (why : Refusal) → n ≤ suc judgedLines → length (wordLine word.the-variants.No (n ∷ numberOf why ∷ [])) ≤ lineLimit
+-- a line of the word no, a line number up to 4,097, a refusal, and of a bad line the field at fault
+no-at-most : (n : ℕ) (why : Refusal) → n ≤ suc judgedLines → length (wordLine word.the-variants.No (n ∷ numberOf why ∷ given (fieldOf why))) ≤ lineLimit
 no-at-most n why h =
     let r = within-table why in
-    omega (arith, two-numbers-length word.the-variants.No n (numberOf why), digits-at-most 3 n (omega arith), digits-at-most 1 (numberOf why) (omega arith))
+    let f = beside-at-most-4 why in
+    omega (
+      arith,
+      two-numbers-length word.the-variants.No n (numberOf why) (given (fieldOf why)),
+      digits-at-most 3 n (omega arith),
+      digits-at-most 1 (numberOf why) (omega arith),
+      given-at-most-2 (fieldOf why) (omega arith),
+    )
 
 module _ (ls : List Reading) (e : firstFaulty 1 [] ls ≡ none) (buffer : List ℕ) where
   -- no line has a fault
@@ -99,11 +106,12 @@ module _ (ls : List Reading) (e : firstFaulty 1 [] ls ≡ none) (buffer : List �
 
   -- the line of a dirty read
   dirty-at-most : (d : ReadOf) → dirtyOf (eventsIn ls) ≡ some d → length (wordLine word.the-variants.Dirty (d .reader ∷ d .writer ∷ [])) ≤ lineLimit
+  unfolding tabbed
   dirty-at-most d v =
       let w = dirty-within ls faultless (d .reader) (d .writer) (dirty-exactly (eventsIn ls) (d .reader) (d .writer) .1 v) in
       omega (
         arith,
-        two-numbers-length word.the-variants.Dirty (d .reader) (d .writer),
+        two-numbers-length word.the-variants.Dirty (d .reader) (d .writer) [],
         digits-at-most 2 (d .reader) (omega (arith, w .0 .1)),
         digits-at-most 2 (d .writer) (omega (arith, w .1 .1)),
       )
@@ -133,7 +141,7 @@ judged-at-most text = buffer-at-most text (replicate judgedJobs 0) (omega (arith
 
 -- the verdict's line on any text has at most 1,028 bytes
 pub verdict-at-most : (text : List ℕ) → length (verdictOf text) ≤ 1_028
-unfolding verdictOf
+unfolding verdictOf given
 verdict-at-most text =
     by-test (ltb judgedBytes (length text)) (λ t. rw t (no-at-most 0 TooLong (omega arith))) (λ f. rw f (judged-at-most text))
 

@@ -9,9 +9,9 @@ use Rattle.terms.specs.declared.refusals.Refusal.{Refusal}
 use Rattle.terms.specs.declared.refusals.Refusal.the-variants.{TooLong}
 use Rattle.terms.specs.declared.words.Word as word
 use Rattle.terms.specs.Limits.{judgedBytes, judgedJobs}
-use Rattle.terms.specs.Refusals.{numberOf}
+use Rattle.terms.specs.Refusals.{numberOf, fieldOf}
 use Rattle.text_rules.specs.declared.Written.{Written}
-use Rattle.text_rules.specs.Records.{told, left, wordLine}
+use Rattle.text_rules.specs.Records.{told, left, wordLine, given}
 use Rattle.judge_rules.specs.declared.verdict.Verdict.{Verdict}
 use Rattle.judge_rules.specs.declared.verdict.Verdict.the-variants.{Orderly, Knot, Dirty, No}
 use Rattle.judge_rules.specs.Judgement.{judgementOf}
@@ -44,15 +44,16 @@ unfolding sayLine
 says-dirty v reader writer order b e s = says-as b _ _ (ap (λ u. sayLine u order) (sym e)) s
 
 -- a refusal
-pub says-no : {w : Written} {m : List ℕ} (v : Verdict) (line number : ℕ) (why : Refusal) (order b : List ℕ) → v ≡ No line why → number ≡ numberOf why →
-    Says w m b (wordLine word.the-variants.No (line ∷ number ∷ [])) → Says w m b (sayLine v order)
+pub says-no : {w : Written} {m : List ℕ} (v : Verdict) (line number fault : ℕ) (why : Refusal) (order b : List ℕ) → v ≡ No line why → number ≡ numberOf why → fault ≡ fieldOf why →
+    Says w m b (wordLine word.the-variants.No (line ∷ number ∷ given fault)) → Says w m b (sayLine v order)
 unfolding sayLine
-says-no v line number why order b e f s = says-as b _ _ (ap (λ k. wordLine word.the-variants.No (line ∷ k ∷ [])) f ∙ ap (λ u. sayLine u order) (sym e)) s
+says-no v line number fault why order b e f g s =
+    says-as b _ _ (ap₂ (λ k j. wordLine word.the-variants.No (line ∷ k ∷ given j)) f g ∙ ap (λ u. sayLine u order) (sym e)) s
 
 -- a text that is too long
 pub says-too-long : {w : Written} {m : List ℕ} (text b : List ℕ) (number : ℕ) → judgedBytes < length text → number ≡ numberOf TooLong →
-    Says w m b (wordLine word.the-variants.No (0 ∷ number ∷ [])) → Says w m b (verdictOf text)
-unfolding verdictOf
+    Says w m b (wordLine word.the-variants.No (0 ∷ number ∷ given 0)) → Says w m b (verdictOf text)
+unfolding verdictOf given
 says-too-long text b number h f s =
     says-as b _ _ (ap (λ k. wordLine word.the-variants.No (0 ∷ k ∷ [])) f ∙ rw (lt-ltb judgedBytes (length text) h) refl) s
 

@@ -15,7 +15,7 @@ ghost use lib.ListN.{length};
 ghost use Rattle.terms.specs.declared.words.Word.the-variants.{No};
 ghost use Rattle.terms.specs.Words.{tab, newline, spelt};
 ghost use Rattle.text_rules.specs.Decimal.{decimal};
-ghost use Rattle.text_rules.specs.Records.{told, left, tabbed, wordLine};
+ghost use Rattle.text_rules.specs.Records.{told, left, tabbed, wordLine, given};
 ghost use Rattle.text_rules.specs.Wrote.{Wrote};
 
 // A word that there is room for, and the place after it.
@@ -104,16 +104,32 @@ pub fn write_jobs(out: &mut [u8], word: Word, jobs: &[u8]) -> Written
     }
 }
 
-// The word no and two numbers, tab before each: a line number and a refusal's number.
-pub fn write_no(out: &mut [u8], line: u64, number: u64) -> Written
-    ensures { λ r. ⌜ (r ≡ told (now (out .entry)) 0 (wordLine No (line ∷ number ∷ []))) × (now (out .exit) ≡ left (now (out .entry)) 0 (wordLine No (line ∷ number ∷ []))) ⌝ }
+// How many bytes a number has that is written where it is not 0: a tab and its digits, or none.
+fn given_width(n: u64) -> usize
+    ensures { λ r. ⌜ r ≡ length (tabbed (given n)) ⌝ }
+{
+    if 0 < n { width(n) + 1 } else { 0 }
+}
+
+// A further field where the number is not 0 and there is room for it, and the place after it.
+fn put_given(out: &mut [u8], at: usize, n: u64) -> usize
+    requires { ⌜ at + length (tabbed (given n)) ≤ length (now out) ⌝ }
+    ensures { λ r. ⌜ Wrote at r (tabbed (given n)) (now (out .entry)) (now (out .exit)) ⌝ }
+{
+    if 0 < n { put_field(out, at, n) } else { at }
+}
+
+// The word no and its numbers, tab before each: a line number, a refusal's number, and the field at fault where it is not 0 (02, No. 5).
+pub fn write_no(out: &mut [u8], line: u64, number: u64, fault: u64) -> Written
+    ensures { λ r. ⌜ (r ≡ told (now (out .entry)) 0 (wordLine No (line ∷ number ∷ given fault))) × (now (out .exit) ≡ left (now (out .entry)) 0 (wordLine No (line ∷ number ∷ given fault))) ⌝ }
 {
     let room = out.len();
-    if width(line) + width(number) + 5 <= room {
+    if width(line) + width(number) + given_width(fault) + 5 <= room {
         let a = put_word(out, 0, Word::No);
         let b = put_field(out, a, line);
         let c = put_field(out, b, number);
-        Written::Next(put_end(out, c))
+        let d = put_given(out, c, fault);
+        Written::Next(put_end(out, d))
     } else {
         Written::Refused(Refusal::NoRoom)
     }

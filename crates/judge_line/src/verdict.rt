@@ -1,10 +1,11 @@
-// The verdict as a line: orderly or knot and the jobs, dirty and reader and writer, or no, line number, refusal (01, The judge's rules; 02, No. 2).
+// The verdict as a line: orderly or knot and the jobs, dirty and reader and writer, or no, line number, refusal, and of refusal 9 the field at fault (01, The judge's rules; 02, No. 2 and No. 5).
 use crate::lines::write_jobs;
 use crate::lines::write_no;
 use judge::entry::judge_text;
 use judge_rules::verdict::Verdict;
 use terms::Refusal;
 use terms::Word;
+use terms::field_of;
 use terms::limits::JUDGED_BYTES;
 use terms::limits::JUDGED_JOBS;
 use terms::number_of;
@@ -29,7 +30,12 @@ pub fn write_verdict(said: Verdict, order: &[u8], out: &mut [u8]) -> Written
         Verdict::Orderly(n) => write_jobs(out, Word::Orderly, first_places(order, n)),
         Verdict::Knot(n) => write_jobs(out, Word::Knot, first_places(order, n)),
         Verdict::Dirty { reader, writer } => write_jobs(out, Word::Dirty, &[reader, writer]),
-        Verdict::No { line, why } => write_no(out, line as u64, number_of(why) as u64),
+        Verdict::No { line, why } => write_no(
+            out,
+            line as u64,
+            number_of(why) as u64,
+            field_of(why) as u64,
+        ),
     }
 }
 
@@ -38,7 +44,7 @@ pub fn verdict_line(text: &[u8], out: &mut [u8]) -> Written
     ensures { λ r. ⌜ (r ≡ told (now (out .entry)) 0 (verdictOf (now (text .entry)))) × (now (out .exit) ≡ left (now (out .entry)) 0 (verdictOf (now (text .entry)))) ⌝ }
 {
     if text.len() > JUDGED_BYTES {
-        return write_no(out, 0, number_of(Refusal::TooLong) as u64);
+        return write_no(out, 0, number_of(Refusal::TooLong) as u64, 0);
     }
     let mut order = [0u8; JUDGED_JOBS];
     let said = judge_text(text, &mut order);

@@ -1,7 +1,7 @@
--- The judge in the paper's words and numbers: which texts are faultless, which line is refused and with which number, and of which texts dirty, orderly and a knot are said; each both ways (01, Refusals by number; 01, The judge's rules; 02, No. 2).
+-- The judge in the paper's words and numbers: which texts are faultless, which line is refused, with which number and at which field, and of which texts dirty, orderly and a knot are said; each both ways (01, Refusals by number; 01, The judge's rules; 02, No. 2 and No. 5).
 -- Assumes nothing.
 use Prim.Native.Nat.{ℕ, _-_, _≤_, _<_}
-use mathlib.Core.Path.{_≡_, refl, ap, _∙_}
+use mathlib.Core.Path.{_≡_, refl, sym, ap, _∙_, subst}
 use mathlib.Core.Logic.{_↔_, _⊎_, inl, inr, ⊎-elim}
 use mathlib.Core.List.{List, [], _∷_}
 use native.Mathlib.Omega.{arith}
@@ -9,27 +9,32 @@ use lib.Dec.{leb}
 use lib.ListN.{length}
 use borrow.Author.Tests.{leb-true, leb-false}
 use Rattle.laws.specs.Choice.{by-test, not-both}
+use Rattle.terms.specs.declared.refusals.Field.{Field}
 use Rattle.terms.specs.declared.refusals.Refusal.{Refusal}
-use Rattle.terms.specs.declared.refusals.Refusal.the-variants.{TooManyLines, ShortOrder}
-use Rattle.terms.specs.Refusals.{numberOf}
+use Rattle.terms.specs.declared.refusals.Refusal.the-variants.{BadLine, TooManyLines, ShortOrder}
+use Rattle.terms.specs.Letters.{ofHistories}
+use Rattle.terms.specs.Refusals.{numberOf, fieldNumber, fieldOf}
+use Rattle.terms.proofs.Numbers.{same-number}
 use Rattle.conflict.specs.Schedule.{ConflictSerializable}
 use Rattle.conflict.specs.History.{History, committedPart}
 use Rattle.conflict.specs.Dirty.{IsDirty, FirstDirty}
 use Rattle.conflict.proofs.DirtyFound.{first-is-dirty}
+use Rattle.text_rules.specs.FieldFaults.{AtFault}
 use Rattle.text_rules.specs.Split.{linesOf}
 use Rattle.judge_rules.specs.declared.verdict.Verdict.{Verdict}
 use Rattle.judge_rules.specs.declared.verdict.Verdict.the-variants.{Orderly, Knot, Dirty, No}
-use Rattle.judge_rules.specs.HistoryText.{readingsOf, eventsIn}
+use Rattle.judge_rules.specs.HistoryText.{readingsOf, lineAt, eventsIn}
 use Rattle.judge_rules.specs.Judgement.{judgementOf, inNumbers}
 use Rattle.judge_rules.specs.LineTable.{readingAt, linesBefore, Faultless, FirstFault, AllFaultless}
 use Rattle.judge_rules.specs.AsWorded.{SoundTo, SoundText, RefusesLine, Refused, Dirtied, Ordered, Knotted}
-use Rattle.judge_rules.specs.AsWorded.RefusedAs.{too-many}
+use Rattle.judge_rules.specs.AsWorded.RefusedAs.{too-many, bad}
 use Rattle.judge_rules.proofs.Readings.{readings-length}
 use Rattle.judge_rules.proofs.CleanLines.{clean-line}
 use Rattle.judge_rules.proofs.OneAnswer.{no-fault}
 use Rattle.judge_rules.proofs.Refusing.{short-exactly, line-0-short, refused-exactly}
 use Rattle.judge_rules.proofs.VerdictNumbers.{same-verdict}
 use Rattle.judge_rules.proofs.JudgedTexts.{dirty-said, orderly-said, knot-said, dirty-said-exactly, orderly-said-exactly, knot-said-exactly}
+use Rattle.judge_rules.proofs.BadLines.{nine-fault}
 use Rattle.judge_rules.proofs.WordedLines.{faultless-sound, sound-faultless, due-worded, worded-due}
 
 module _ (text : List ℕ) where
@@ -52,8 +57,8 @@ module _ (text : List ℕ) where
     λ s n a b. sound-faultless text n (omega (arith, s .few, readings-length text)) (s .each n a (omega (arith, readings-length text))),
   )
 
-  -- the first faulty line is the paper's, with its refusal's number
-  first-worded : (n : ℕ) (why : Refusal) → FirstFault (readingsOf text) n why → RefusesLine text n (numberOf why)
+  -- the first faulty line is the paper's, with its refusal's number and field
+  first-worded : (n : ℕ) (why : Refusal) → FirstFault (readingsOf text) n why → RefusesLine text n (numberOf why) (fieldOf why)
   first-worded n why f =
       let few : n ≤ 4_097 = few-before n (f .before) in
       record {
@@ -64,30 +69,43 @@ module _ (text : List ℕ) where
       }
 
   -- and the line that the paper refuses is the first faulty one
-  worded-first : (n : ℕ) (why : Refusal) → RefusesLine text n (numberOf why) → FirstFault (readingsOf text) n why
+  worded-first : (n : ℕ) (why : Refusal) → RefusesLine text n (numberOf why) (fieldOf why) → FirstFault (readingsOf text) n why
   worded-first n why r =
       record {
         from = r .from;
         to = omega (arith, r .to, readings-length text);
         before = λ m a b. sound-faultless text m (omega (arith, r .before .few)) (r .before .each m a (omega arith));
-        due = worded-due text n (r .fault) why refl;
+        due = worded-due text n (r .fault) why refl refl;
       }
 
 module _ (text buffer : List ℕ) where
-  -- A REFUSED LINE: with 255 places, line n is refused with a number exactly where the paper says so
-  pub refused-as-worded : (n : ℕ) (why : Refusal) → 1 ≤ n → (judgementOf text buffer .said ≡ No n why) ↔ ((255 ≤ length buffer) × RefusesLine text n (numberOf why))
+  -- A REFUSED LINE: with 255 places, line n is refused with a number, and of 9 with a field, exactly where the paper says so
+  pub refused-as-worded : (n : ℕ) (why : Refusal) → 1 ≤ n → (judgementOf text buffer .said ≡ No n why) ↔ ((255 ≤ length buffer) × RefusesLine text n (numberOf why) (fieldOf why))
   refused-as-worded n why h = (
     λ e. let p = refused-exactly text buffer n why h .0 e in (p .0, first-worded text n why (p .1)),
     λ p. refused-exactly text buffer n why h .1 (p .0, worded-first text n why (p .1)),
   )
 
   -- LINE 4,097: 11 is given with line number 4,097 exactly where there is a line 4,097, good or bad, and the 4,096 before it are faultless
-  pub too-many-exactly : 255 ≤ length buffer → (inNumbers (judgementOf text buffer .said) ≡ 2 ∷ 11 ∷ 4_097 ∷ []) ↔ ((4_097 ≤ length (linesOf text)) × SoundTo (linesOf text) 4_096)
+  pub too-many-exactly : 255 ≤ length buffer → (inNumbers (judgementOf text buffer .said) ≡ 2 ∷ 11 ∷ 4_097 ∷ 0 ∷ []) ↔ ((4_097 ≤ length (linesOf text)) × SoundTo (linesOf text) 4_096)
   too-many-exactly room = (
     λ e.
         let r = refused-as-worded 4_097 TooManyLines (omega arith) .0 (same-verdict (judgementOf text buffer .said) (No 4_097 TooManyLines) (unfold inNumbers in e)) .1 in
         (r .to, r .before),
     λ p. unfold inNumbers in ap inNumbers (refused-as-worded 4_097 TooManyLines (omega arith) .1 (room, record { from = omega arith; to = p .0; before = p .1; fault = too-many refl })),
+  )
+
+  -- WHICH FIELD: 9 is given with line n and a field's number exactly where the lines before are faultless, line n is one of the first 4,096, and that field of it is at fault (02, No. 5)
+  pub nine-as-worded : (n : ℕ) (at : Field) → 1 ≤ n → (inNumbers (judgementOf text buffer .said) ≡ 2 ∷ 9 ∷ n ∷ fieldNumber at ∷ [])
+      ↔ ((255 ≤ length buffer) × (n ≤ 4_096) × (n ≤ length (linesOf text)) × SoundTo (linesOf text) (n - 1) × AtFault ofHistories (lineAt (linesOf text) n) at)
+  nine-as-worded n at h = (
+    λ e.
+        let r = refused-as-worded n (BadLine at) h .0 (same-verdict (judgementOf text buffer .said) (No n (BadLine at)) (unfold inNumbers in e)) in
+        let f = nine-fault text n (r .1 .fault) refl in
+        let same : BadLine (f .1) ≡ BadLine at = same-number (BadLine (f .1)) (BadLine at) refl (sym (f .2)) in
+        let q : f .1 ≡ at = cc in
+        (r .0, f .0, r .1 .to, r .1 .before, subst (λ field. AtFault ofHistories (lineAt (linesOf text) n) field) q (f .3)),
+    λ p. unfold inNumbers in ap inNumbers (refused-as-worded n (BadLine at) h .1 (p .0, record { from = h; to = p .2; before = p .3; fault = bad (p .1) at (p .4) })),
   )
 
   -- the history that the text says
@@ -109,8 +127,8 @@ module _ (text buffer : List ℕ) where
     λ p. dirty-said-exactly text buffer (p .0) (faultless-exactly text .1 (p .1)) i j .1 (p .2),
   )
 
-  -- in numbers it is 3, reader, writer
-  pub dirty-in-numbers : (i j : ℕ) → (inNumbers (judgementOf text buffer .said) ≡ 3 ∷ i ∷ j ∷ []) ↔ ((255 ≤ length buffer) × SoundText text × FirstDirty says i j)
+  -- in numbers it is 3, reader, writer, 0
+  pub dirty-in-numbers : (i j : ℕ) → (inNumbers (judgementOf text buffer .said) ≡ 3 ∷ i ∷ j ∷ 0 ∷ []) ↔ ((255 ≤ length buffer) × SoundText text × FirstDirty says i j)
   dirty-in-numbers i j = (
     λ e. dirty-as-worded i j .0 (same-verdict (judgementOf text buffer .said) (Dirty i j) (unfold inNumbers in e)),
     λ p. unfold inNumbers in ap inNumbers (dirty-as-worded i j .1 p),

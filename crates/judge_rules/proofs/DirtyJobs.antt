@@ -7,6 +7,7 @@ use mathlib.Core.List.{List, [], _∷_, _++_, append-assoc}
 use native.Mathlib.Omega.{arith}
 use lib.ListN.{length, getD}
 use Rattle.terms.specs.declared.letters.Letter.the-variants.{Begin, Commit, GiveUp, Retry, Back, Asks}
+use Rattle.terms.specs.declared.refusals.Field.the-variants.{First}
 use Rattle.terms.specs.Limits.{judgedJobs}
 use Rattle.conflict.specs.declared.action.Action.{Action}
 use Rattle.conflict.specs.declared.action.Mark.{Mark}
@@ -41,7 +42,7 @@ module _ {P : Type 0} (h before : History) (a : Action) (after : History) (later
   -- what a line says stands before the rest
   line-or-later : (r : Reading) → outside r ≡ false → eventOf r ++ h ≡ before ++ Does a ∷ after → (Judged (a .job) → P) → P
   unfolding eventOf
-  line-or-later Bad o q one = later before q
+  line-or-later (Bad at) o q one = later before q
   line-or-later (Good Begin job cell) o q one = later before q
   line-or-later (Good Commit job cell) o q one = not-a-mark _ job q
   line-or-later (Good GiveUp job cell) o q one = not-a-mark _ job q
@@ -51,7 +52,7 @@ module _ {P : Type 0} (h before : History) (a : Action) (after : History) (later
       first-or-later _ q (λ e. let j : job ≡ a .job = cc in one (subst Judged j (not-outside job o)))
 
 -- a job that acts on lines of which none has a job outside is 1 to 255
-acts-within : (rs : List Reading) → ((k : ℕ) → k < length rs → outside (getD rs k Bad) ≡ false) → (before : History) (a : Action) (after : History) → eventsIn rs ≡ before ++ Does a ∷ after → Judged (a .job)
+acts-within : (rs : List Reading) → ((k : ℕ) → k < length rs → outside (getD rs k (Bad First)) ≡ false) → (before : History) (a : Action) (after : History) → eventsIn rs ≡ before ++ Does a ∷ after → Judged (a .job)
 unfolding eventsIn
 acts-within [] all [] a after q = let z : _≡_ {A = ℕ} 0 1 = cc in absurd (omega arith)
 acts-within [] all (b ∷ before) a after q = let z : _≡_ {A = ℕ} 0 1 = cc in absurd (omega arith)
@@ -59,10 +60,10 @@ acts-within (r ∷ rs) all before a after q =
     line-or-later (eventsIn rs) before a after (λ ahead e. acts-within rs (λ k h. all (suc k) (omega arith)) ahead a after e) r (all 0 (omega arith)) q (λ w. w)
 
 -- no line of a faultless text has a job outside
-all-inside : (rs : List Reading) → AllFaultless rs → (k : ℕ) → k < length rs → outside (getD rs k Bad) ≡ false
+all-inside : (rs : List Reading) → AllFaultless rs → (k : ℕ) → k < length rs → outside (getD rs k (Bad First)) ≡ false
 all-inside rs all k h =
     let less-one : suc k - 1 ≡ k = omega arith in
-    subst (λ i. outside (getD rs i Bad) ≡ false) less-one (clean-line (suc k) (linesBefore rs (suc k)) (readingAt rs (suc k)) (all (suc k) (omega arith) h) .inside)
+    subst (λ i. outside (getD rs i (Bad First)) ≡ false) less-one (clean-line (suc k) (linesBefore rs (suc k)) (readingAt rs (suc k)) (all (suc k) (omega arith) h) .inside)
 
 -- reader and writer of a faultless text's first dirty read are 1 to 255
 pub dirty-within : (rs : List Reading) → AllFaultless rs → (reader writer : ℕ) → FirstDirty (eventsIn rs) reader writer → Judged reader × Judged writer

@@ -15,7 +15,7 @@ use Rattle.conflict.specs.History.{History, isCommit, isBack, marked, partOf, c
 use Rattle.conflict.specs.Runs.{isEnd, ended}
 use Rattle.conflict.specs.Dirty.{changes, spoils, lookBack, writerOf, readOrLater, dirtyFrom, dirtyOf}
 use Rattle.text_rules.specs.Quoted.{bytes}
-use Rattle.text_rules.specs.Lines.{isDigit, digitsOf, afterDigits, valueFrom, shortest, numberThen, ending, cellPart, jobPart, letterPart, readLine}
+use Rattle.text_rules.specs.Lines.{parts, fieldAhead, afterField, isDigit, digitsOnly, valueFrom, shortest, isNumber, numberThen, ending, cellPart, jobPart, letterIn, letterPart, readLine}
 use Rattle.text_rules.specs.Split.{inFront, linesOf}
 use Rattle.judge_rules.specs.Order.{preceded, first, ready, without, ends, leads, taken, orderOf, stuck}
 use Rattle.judge_rules.specs.Knot.{predecessor, upTo, from, walk, least, turnTo, turn, knotIn}
@@ -100,5 +100,5 @@ tried = refl
 
 -- each of these texts is told so
 pub all-told : map tells cases ≡ map told cases
-unfolding bytes isDigit digitsOf afterDigits valueFrom shortest numberThen ending cellPart jobPart letterPart readLine inFront linesOf member put recorded agree conflicts keep touches edge isCommit isBack marked partOf committedPart commitOrder preceded first ready without ends leads taken orderOf stuck predecessor upTo from walk least turnTo turn knotIn findingBy judged insert sorted jobsOf findingOf readingsOf faultOfGood faultOf lineFault endedAfter orLater firstFaulty eventOf eventsIn bare commits isEnd ended changes spoils lookBack writerOf readOrLater dirtyFrom dirtyOf filled sayFinding sayHistory sayLines judgementOf inNumbers
+unfolding bytes parts fieldAhead afterField isDigit digitsOnly valueFrom shortest isNumber numberThen ending cellPart jobPart letterIn letterPart readLine inFront linesOf member put recorded agree conflicts keep touches edge isCommit isBack marked partOf committedPart commitOrder preceded first ready without ends leads taken orderOf stuck predecessor upTo from walk least turnTo turn knotIn findingBy judged insert sorted jobsOf findingOf readingsOf faultOfGood faultOf lineFault endedAfter orLater firstFaulty eventOf eventsIn bare commits isEnd ended changes spoils lookBack writerOf readOrLater dirtyFrom dirtyOf filled sayFinding sayHistory sayLines judgementOf inNumbers
 all-told = refl

@@ -13,6 +13,7 @@ use Rattle.laws.specs.Choice.{by-test, not-both}
 use Rattle.laws.specs.Lists.{member, distinct}
 use Rattle.laws.proofs.Parts.{and-first, and-second, or-either}
 use Rattle.terms.specs.declared.letters.Letter.the-variants.{Begin, Commit, GiveUp, Retry, Back, Asks}
+use Rattle.terms.specs.declared.refusals.Field.the-variants.{First}
 use Rattle.terms.specs.Limits.{judgedJobs}
 use Rattle.conflict.specs.declared.action.Mark.{Mark}
 use Rattle.conflict.specs.declared.action.Mark.the-variants.{Commit as commits, GiveUp as gives-up, Back as goes-back}
@@ -65,7 +66,7 @@ marked-here m job j h e one′ two′ =
 marked-line : {P : Type 0} (r : Reading) (h : History) (j : ℕ) → outside r ≡ false → marked isCommit j (eventOf r ++ h) ≡ true →
     ((1 ≤ j) × (j ≤ judgedJobs) → P) → (marked isCommit j h ≡ true → P) → P
 unfolding eventOf
-marked-line Bad h j o e one′ two′ = two′ e
+marked-line (Bad at) h j o e one′ two′ = two′ e
 marked-line (Good Begin job cell) h j o e one′ two′ = two′ e
 marked-line (Good Commit job cell) h j o e one′ two′ = marked-here commits job j h e (λ q. one′ (subst (λ x. (1 ≤ x) × (x ≤ judgedJobs)) q (not-outside job o))) two′
 marked-line (Good GiveUp job cell) h j o e one′ two′ = marked-here gives-up job j h e (λ q. one′ (subst (λ x. (1 ≤ x) × (x ≤ judgedJobs)) q (not-outside job o))) two′
@@ -74,7 +75,7 @@ marked-line (Good Back job cell) h j o e one′ two′ = marked-here goes-back j
 marked-line (Good (Asks a) job cell) h j o e one′ two′ = two′ (sym (marked-does isCommit j _ h) ∙ e)
 
 -- a job with a c on lines of which none has a job outside is 1 to 255
-marked-within : (rs : List Reading) → ((k : ℕ) → k < length rs → outside (getD rs k Bad) ≡ false) → (j : ℕ) → marked isCommit j (eventsIn rs) ≡ true → (1 ≤ j) × (j ≤ judgedJobs)
+marked-within : (rs : List Reading) → ((k : ℕ) → k < length rs → outside (getD rs k (Bad First)) ≡ false) → (j : ℕ) → marked isCommit j (eventsIn rs) ≡ true → (1 ≤ j) × (j ≤ judgedJobs)
 unfolding eventsIn
 marked-within [] all j e = not-both e (marked-none isCommit j)
 marked-within (r ∷ rs) all j e =
@@ -84,7 +85,7 @@ marked-within (r ∷ rs) all j e =
 pub committed-within : (rs : List Reading) → AllFaultless rs → (j : ℕ) → marked isCommit j (eventsIn rs) ≡ true → (1 ≤ j) × (j ≤ judgedJobs)
 committed-within rs all j m =
     marked-within rs
-    (λ k h. subst (λ i. outside (getD rs i Bad) ≡ false) (less-one k) (clean-line (suc k) (linesBefore rs (suc k)) (readingAt rs (suc k)) (all (suc k) (omega arith) h) .inside)) j m
+    (λ k h. subst (λ i. outside (getD rs i (Bad First)) ≡ false) (less-one k) (clean-line (suc k) (linesBefore rs (suc k)) (readingAt rs (suc k)) (all (suc k) (omega arith) h) .inside)) j m
   where
     less-one : (k : ℕ) → suc k - 1 ≡ k
     less-one k = omega arith

@@ -26,6 +26,7 @@ pub mod Refusing
 pub mod VerdictNumbers
 pub mod JudgedTexts
 pub mod OverBefore
+pub mod BadLines
 pub mod WordedLines
 pub mod AsWorded
 pub mod RecordsSay

@@ -15,6 +15,7 @@ use Rattle.laws.specs.Choice.{pick, by-test}
 use Rattle.laws.specs.Lists.{member, firstOf}
 use Rattle.laws.proofs.Parts.{or-swap}
 use Rattle.terms.specs.declared.letters.Letter.the-variants.{Begin, Commit, GiveUp, Retry, Back, Asks}
+use Rattle.terms.specs.declared.refusals.Field.the-variants.{First, Second, Third, Fourth}
 use Rattle.terms.specs.declared.refusals.Refusal.{Refusal}
 use Rattle.terms.specs.declared.refusals.Refusal.the-variants.{TooManyLines}
 use Rattle.terms.specs.Limits.{judgedJobs, judgedLines}
@@ -41,7 +42,7 @@ ended-more j (b ∷ before) r = ap (λ x. ends j b || x) (ended-more j before r)
 -- a line that reads so adds its job where it is a c or an a
 keeps-reading : (ended : List ℕ) (j : ℕ) (r : Reading) → member j (endedAfter ended r) ≡ (ends j r || member j ended)
 unfolding endedAfter ends member
-keeps-reading ended j Bad = refl
+keeps-reading ended j (Bad at) = refl
 keeps-reading ended j (Good Begin job cell) = refl
 keeps-reading ended j (Good Commit job cell) = refl
 keeps-reading ended j (Good GiveUp job cell) = refl
@@ -74,7 +75,10 @@ too-many-is n h =
 reading-fault : (n : ℕ) (ended : List ℕ) (before : List Reading) (r : Reading) → n ≤ suc judgedLines → Keeps ended before →
     pick (ltb judgedLines n) (some TooManyLines) (faultOf ended r) ≡ firstOf (holds n before r) order
 unfolding faultOf faultOfGood holds firstOf order
-reading-fault n ended before Bad h k = rw (too-many-is n h)
+reading-fault n ended before (Bad First) h k = rw (too-many-is n h)
+reading-fault n ended before (Bad Second) h k = rw (too-many-is n h)
+reading-fault n ended before (Bad Third) h k = rw (too-many-is n h)
+reading-fault n ended before (Bad Fourth) h k = rw (too-many-is n h)
 reading-fault n ended before (Good l job cell) h k = rw (too-many-is n h, outside-is job, k job)
 
 -- the judge's fault of a line is the table's
@@ -94,7 +98,7 @@ said-of : (before : List Reading) (r : Reading) (after : List Reading) → let n
     (tableSays n (linesBefore (before ++ r ∷ after) n) (readingAt (before ++ r ∷ after) n) ≡ tableSays n before r)
 said-of before r after =
     ap₂ (tableSays (suc (length before))) (take-at before (r ∷ after) (suc (length before) - 1) (omega arith))
-    (getD-at before r after Bad (suc (length before) - 1) (omega arith))
+    (getD-at before r after (Bad First) (suc (length before) - 1) (omega arith))
 
 module _ (whole before : List Reading) (l : Reading) (ls : List Reading) (n : ℕ) (ended : List ℕ) (w : whole ≡ before ++ l ∷ ls)
     (e : n ≡ suc (length before)) (h : n ≤ suc judgedLines) (k : Keeps ended before) (good : (m : ℕ) → 1 ≤ m → m < n → Faultless whole m) where

@@ -12,6 +12,7 @@ use Rattle.laws.specs.Choice.{not-both}
 use Rattle.laws.proofs.Parts.{or-either, or-first, or-second}
 use Rattle.terms.specs.declared.letters.Letter.{Letter}
 use Rattle.terms.specs.declared.letters.Letter.the-variants.{Begin, Commit, GiveUp, Retry, Back, Asks}
+use Rattle.terms.specs.declared.refusals.Field.the-variants.{First}
 use Rattle.terms.specs.Letters.{ofHistories}
 use Rattle.text_rules.specs.declared.Reading.{Reading}
 use Rattle.text_rules.specs.declared.Reading.the-variants.{Good, Bad}
@@ -25,7 +26,7 @@ use Rattle.judge_rules.proofs.Readings.{reading-at}
 -- a reading that ends a job is a c or an a of it
 ends-letter : {P : Type 0} (j : ℕ) (r : Reading) → ends j r ≡ true → ((cell : ℕ) → r ≡ Good Commit j cell → P) → ((cell : ℕ) → r ≡ Good GiveUp j cell → P) → P
 unfolding ends
-ends-letter j Bad e one′ two′ = not-both e refl
+ends-letter j (Bad at) e one′ two′ = not-both e refl
 ends-letter j (Good Begin job cell) e one′ two′ = not-both e refl
 ends-letter j (Good Commit job cell) e one′ two′ = one′ cell (ap (λ i. Good Commit i cell) (eqb-true job j e))
 ends-letter j (Good GiveUp job cell) e one′ two′ = two′ cell (ap (λ i. Good GiveUp i cell) (eqb-true job j e))
@@ -34,7 +35,7 @@ ends-letter j (Good Back job cell) e one′ two′ = not-both e refl
 ends-letter j (Good (Asks a) job cell) e one′ two′ = not-both e refl
 
 -- a job that has ended on the first k lines has done so on one of them
-ended-at : (j k : ℕ) (rs : List Reading) → endedIn j (take k rs) ≡ true → (i : ℕ) × (i < k) × (ends j (getD rs i Bad) ≡ true)
+ended-at : (j k : ℕ) (rs : List Reading) → endedIn j (take k rs) ≡ true → (i : ℕ) × (i < k) × (ends j (getD rs i (Bad First)) ≡ true)
 unfolding endedIn
 ended-at j zero rs e = not-both e refl
 ended-at j (suc k) [] e = not-both e refl
@@ -42,7 +43,7 @@ ended-at j (suc k) (r ∷ rs) e =
     or-either (ends j r) (endedIn j (take k rs)) e (λ t. (0, omega arith, t)) (λ t. let p = ended-at j k rs t in (suc (p .0), omega (arith, p .1), p .2))
 
 -- and one of them is enough
-at-ended : (j k i : ℕ) (rs : List Reading) → i < k → ends j (getD rs i Bad) ≡ true → endedIn j (take k rs) ≡ true
+at-ended : (j k i : ℕ) (rs : List Reading) → i < k → ends j (getD rs i (Bad First)) ≡ true → endedIn j (take k rs) ≡ true
 unfolding endedIn ends
 at-ended j zero i rs h e = absurd (omega arith)
 at-ended j (suc k) i [] h e = not-both e refl
@@ -67,7 +68,7 @@ module _ (text : List ℕ) where
   ended-over n job e =
       let p = ended-at job (n - 1) (readingsOf text) e in
       let m : ℕ = suc (p .0) in
-      let q : ends job (readingAt (readingsOf text) m) ≡ true = subst (λ i. ends job (getD (readingsOf text) i Bad) ≡ true) (less-one (p .0)) (p .2) in
+      let q : ends job (readingAt (readingsOf text) m) ≡ true = subst (λ i. ends job (getD (readingsOf text) i (Bad First)) ≡ true) (less-one (p .0)) (p .2) in
       record {
         at = m;
         from = omega arith;

@@ -1,22 +1,24 @@
--- What the verdict program prints of every text, byte by byte: of one that is too long, that has a faulty line, that is dirty, that is orderly, and of a knot (01, The judge's rules; 02, No. 2).
+-- What the verdict program prints of every text, byte by byte: of one that is too long, that has a faulty line, a bad one among them, that is dirty, that is orderly, and of a knot (01, The judge's rules; 02, No. 2 and No. 5).
 -- Assumes nothing.
-use Prim.Native.Nat.{ℕ, _≤_, _<_}
+use Prim.Native.Nat.{ℕ, _+_, _≤_, _<_}
 use mathlib.Core.Path.{_≡_, ap, _∙_}
 use mathlib.Core.List.{List, [], _∷_, _++_, map}
 use native.Mathlib.Omega.{arith}
 use borrow.Author.Tests.{lt-ltb, le-ltb}
 use lib.ListN.{length, take, replicate, length-replicate}
 use Rattle.terms.specs.declared.words.Word.the-variants.{Orderly as the-word-orderly, Knot as the-word-knot, Dirty as the-word-dirty, No as the-word-no}
+use Rattle.terms.specs.declared.refusals.Field.{Field}
 use Rattle.terms.specs.declared.refusals.Refusal.{Refusal}
+use Rattle.terms.specs.declared.refusals.Refusal.the-variants.{BadLine}
 use Rattle.terms.specs.Limits.{judgedBytes, judgedJobs}
-use Rattle.terms.specs.Refusals.{numberOf}
+use Rattle.terms.specs.Refusals.{numberOf, fieldNumber, fieldOf}
 use Rattle.conflict.specs.Schedule.{ConflictSerializable, edge}
 use Rattle.conflict.specs.History.{History, committedPart}
 use Rattle.conflict.specs.Dirty.{IsDirty, FirstDirty}
 use Rattle.text_rules.specs.Decimal.{decimal, digitsIn}
-use Rattle.text_rules.specs.Records.{tabbed, wordLine}
+use Rattle.text_rules.specs.Records.{tabbed, wordLine, given}
 use Rattle.text_rules.specs.Split.{joined}
-use Rattle.text_rules.proofs.RecordBytes.{orderly-bytes, knot-bytes, dirty-bytes, refusal-bytes}
+use Rattle.text_rules.proofs.RecordBytes.{orderly-bytes, knot-bytes, dirty-bytes, refusal-bytes, nine-line-bytes}
 use Rattle.judge_rules.specs.declared.verdict.Verdict.{Verdict}
 use Rattle.judge_rules.specs.declared.verdict.Verdict.the-variants.{Orderly, Knot, Dirty, No}
 use Rattle.judge_rules.specs.Judged.{jobsOf}
@@ -54,9 +56,14 @@ said-dirty : (v : Verdict) (order : List ℕ) (i j : ℕ) → v ≡ Dirty i j �
 unfolding sayLine
 said-dirty v order i j e = rw e
 
-said-refusal : (v : Verdict) (order : List ℕ) (n : ℕ) (why : Refusal) → v ≡ No n why → sayLine v order ≡ wordLine the-word-no (n ∷ numberOf why ∷ [])
+said-refusal : (v : Verdict) (order : List ℕ) (n : ℕ) (why : Refusal) → v ≡ No n why → sayLine v order ≡ wordLine the-word-no (n ∷ numberOf why ∷ given (fieldOf why))
 unfolding sayLine
 said-refusal v order n why e = rw e
+
+-- a refusal that tells no field is printed with its number alone
+no-field : (n m f : ℕ) → f ≡ 0 → wordLine the-word-no (n ∷ m ∷ given f) ≡ wordLine the-word-no (n ∷ m ∷ [])
+unfolding given
+no-field n m f z = rw z
 
 -- TOO LONG: of a text of more than 65,536 bytes no, 0, 16 is printed, whatever it says
 pub printed-too-long : (text : List ℕ) → 65_536 < length text → verdictOf text ≡ 110 ∷ 111 ∷ 9 ∷ 48 ∷ 9 ∷ 49 ∷ 54 ∷ 10 ∷ []
@@ -68,11 +75,19 @@ module _ (text : List ℕ) (short : length text ≤ 65_536) where
   abbrev says : History
   says = eventsIn (readingsOf text)
 
-  -- REFUSED: of the first faulty line no, its number and the refusal's are printed
-  pub printed-refusal : (n : ℕ) (why : Refusal) → FirstFault (readingsOf text) n why → verdictOf text ≡ 110 ∷ 111 ∷ 9 ∷ decimal n ++ 9 ∷ decimal (numberOf why) ++ 10 ∷ []
-  printed-refusal n why f =
+  -- the line of the first faulty line's refusal
+  refusal-line : (n : ℕ) (why : Refusal) → FirstFault (readingsOf text) n why → verdictOf text ≡ wordLine the-word-no (n ∷ numberOf why ∷ given (fieldOf why))
+  refusal-line n why f =
       let e = refused-exactly text places n why (f .from) .1 (room, f) in
-      short-text text short ∙ said-refusal (judgementOf text places .said) (judgementOf text places .order) n why e ∙ refusal-bytes n (numberOf why)
+      short-text text short ∙ said-refusal (judgementOf text places .said) (judgementOf text places .order) n why e
+
+  -- REFUSED: of the first faulty line no, its number and the refusal's are printed, where the refusal tells no field, as all but 9 do
+  pub printed-refusal : (n : ℕ) (why : Refusal) → FirstFault (readingsOf text) n why → fieldOf why ≡ 0 → verdictOf text ≡ 110 ∷ 111 ∷ 9 ∷ decimal n ++ 9 ∷ decimal (numberOf why) ++ 10 ∷ []
+  printed-refusal n why f z = refusal-line n why f ∙ no-field n (numberOf why) (fieldOf why) z ∙ refusal-bytes n (numberOf why)
+
+  -- A BAD LINE: of a 9 no, the line's number, 9 and the number of the field at fault are printed (02, No. 5)
+  pub printed-bad-line : (n : ℕ) (at : Field) → FirstFault (readingsOf text) n (BadLine at) → verdictOf text ≡ 110 ∷ 111 ∷ 9 ∷ decimal n ++ 9 ∷ 57 ∷ 9 ∷ (48 + fieldNumber at) ∷ 10 ∷ []
+  printed-bad-line n at f = refusal-line n (BadLine at) f ∙ nine-line-bytes n at
 
   module _ (all : AllFaultless (readingsOf text)) where
     -- DIRTY: of a faultless text dirty, reader and writer of its first dirty read are printed, a tab before each

@@ -11,6 +11,8 @@ use lib.ListN.{length, length-map}
 use lib.Seq.{take-at, getD-at}
 use borrow.Author.Tests.{eqb-true, eqb-false, le-ltb}
 use Rattle.laws.specs.Choice.{by-test, not-both}
+use Rattle.terms.specs.declared.refusals.Field.{Field}
+use Rattle.terms.specs.declared.refusals.Field.the-variants.{First}
 use Rattle.terms.specs.declared.refusals.Refusal.{Refusal}
 use Rattle.terms.specs.declared.refusals.Refusal.the-variants.{UnknownKind, CellAbove, NotOpen, Waiting, SentBack, AllOpen, NoNumberLeft, Running, BadLine, StartedAtZero, TooManyLines, JobOutside, Ended, ShortOrder, NoRoom, TooLong, ShortList}
 use Rattle.terms.specs.Letters.{ofHistories, hasCell}
@@ -85,20 +87,20 @@ mark-no-cell goes-back = refl
 
 -- a record behind some others is no bad line, has no cell above 63, and its job has not ended on them
 record-rows : (h : History) (e : Event) (k : History) → allWithin lastNumber (h ++ e ∷ k) ≡ true → endsForGood (h ++ e ∷ k) ≡ true → let r = eventReads e in
-    (isBad r ≡ false) × (above r ≡ false) × (overAlready (map eventReads h) r ≡ false)
+    ((at : Field) → isBad at r ≡ false) × (above r ≡ false) × (overAlready (map eventReads h) r ≡ false)
 unfolding allWithin
 record-rows h (Does a) k w g =
     let p = parts-within lastNumber h (Does a ∷ k) w in
     let own : within lastNumber (Does a) ≡ true = and-first (within lastNumber (Does a)) (allWithin lastNumber k) (p .1) in
     rw (reads-action a own) (
-      refl,
+      λ at. refl,
       le-ltb 63 (a .cell) (omega (arith, action-within lastNumber a own .2)),
       not-ended h (Does a ∷ k) (a .job) (p .0) g (line-does (a .job) a k ∙ or-first (eqb (a .job) (a .job)) (lineOf (a .job) k) (same-refl (a .job))),
     )
 record-rows h (Ends m i) k w g =
     let p = parts-within lastNumber h (Ends m i ∷ k) w in
     rw (reads-mark m i (and-first (within lastNumber (Ends m i)) (allWithin lastNumber k) (p .1))) (
-      refl,
+      λ at. refl,
       rw (mark-no-cell m),
       not-ended h (Ends m i ∷ k) i (p .0) g (line-ends i m i k ∙ or-first (eqb i i) (lineOf i k) (same-refl i)),
     )
@@ -133,7 +135,7 @@ line-of h n from to =
       after = k;
       parts = p;
       ahead = rw rs (take-at (map eventReads b) (eventReads e ∷ map eventReads k) (n - 1) size);
-      reads = rw rs (getD-at (map eventReads b) (eventReads e) (map eventReads k) Bad (n - 1) size);
+      reads = rw rs (getD-at (map eventReads b) (eventReads e) (map eventReads k) (Bad First) (n - 1) size);
     })
 
 -- the event of a line is within the limit that the history is within
@@ -152,13 +154,13 @@ unfolding holds
 written-read-back h w g n from to =
     let l = line-of h n from to in
     let r = record-rows (l .before) (l .event) (l .after) (subst (λ x. allWithin lastNumber x ≡ true) (l .parts) w) (subst (λ x. endsForGood x ≡ true) (l .parts) g) in
-    (row-of h n l BadLine ∙ r .0, row-of h n l CellAbove ∙ r .1, row-of h n l Ended ∙ r .2)
+    (λ at. row-of h n l (BadLine at) ∙ r .0 at, row-of h n l CellAbove ∙ r .1, row-of h n l Ended ∙ r .2)
 
 -- of lines that are read back the judge refuses one only as line 4,097 or for a job outside 1 to 255
 pub only-limits : (ls : List Reading) → AllReadBack ls → (n : ℕ) (why : Refusal) → FirstFault ls n why → (why ≡ TooManyLines) ⊎ (why ≡ JobOutside)
 only-limits ls all n why f = by-row why (due-holds ls n why (f .due))
   where
-    rows : (holdsAt ls n BadLine ≡ false) × (holdsAt ls n CellAbove ≡ false) × (holdsAt ls n Ended ≡ false)
+    rows : ((at : Field) → holdsAt ls n (BadLine at) ≡ false) × (holdsAt ls n CellAbove ≡ false) × (holdsAt ls n Ended ≡ false)
     rows = all n (f .from) (f .to)
 
     by-row : (x : Refusal) → holdsAt ls n x ≡ true → (x ≡ TooManyLines) ⊎ (x ≡ JobOutside)
@@ -170,7 +172,7 @@ only-limits ls all n why f = by-row why (due-holds ls n why (f .due))
     by-row AllOpen t = unfold holds in not-both t refl
     by-row NoNumberLeft t = unfold holds in not-both t refl
     by-row Running t = unfold holds in not-both t refl
-    by-row BadLine t = not-both t (rows .0)
+    by-row (BadLine at) t = not-both t (rows .0 at)
     by-row StartedAtZero t = unfold holds in not-both t refl
     by-row TooManyLines t = inl refl
     by-row JobOutside t = inr refl

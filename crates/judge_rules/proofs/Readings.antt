@@ -5,7 +5,7 @@ use mathlib.Core.Path.{_≡_, ap}
 use mathlib.Core.List.{List, [], _∷_, map}
 use lib.ListN.{length, drop, length-map, List·getD-map}
 use Rattle.terms.specs.Letters.{ofHistories}
-use Rattle.text_rules.specs.Lines.{readLine}
+use Rattle.text_rules.specs.Lines.{fieldAhead, letterIn, letterPart, readLine}
 use Rattle.text_rules.specs.Split.{linesOf, part, used}
 use Rattle.text_rules.proofs.TextLines.{next-line}
 use Rattle.judge_rules.specs.HistoryText.{readingsOf, lineAt}
@@ -18,7 +18,7 @@ readings-length text = length-map (linesOf text) (readLine ofHistories)
 
 -- each is what the reader makes of its line
 pub reading-at : (text : List ℕ) (n : ℕ) → readingAt (readingsOf text) n ≡ readLine ofHistories (lineAt (linesOf text) n)
-unfolding readingsOf readLine
+unfolding readingsOf readLine letterPart letterIn fieldAhead
 reading-at text n = List·getD-map (readLine ofHistories) (linesOf text) (n - 1) []
 
 -- the readings from a place of a text on, for a caller who goes from line end to line end

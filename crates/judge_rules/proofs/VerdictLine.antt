@@ -15,7 +15,7 @@ use Rattle.terms.specs.declared.words.Word.the-variants.{Go, Wait, Back, No, Wa
 use Rattle.terms.specs.declared.refusals.Refusal.{Refusal}
 use Rattle.terms.specs.declared.refusals.Refusal.the-variants.{TooLong}
 use Rattle.terms.specs.Limits.{judgedBytes, judgedJobs}
-use Rattle.terms.specs.Refusals.{numberOf}
+use Rattle.terms.specs.Refusals.{numberOf, fieldOf}
 use Rattle.terms.specs.Words.{tab, newline, spelt}
 use Rattle.text_rules.specs.Lines.{shortest, valueFrom}
 use Rattle.text_rules.specs.Decimal.{decimal}
@@ -23,7 +23,7 @@ use Rattle.text_rules.proofs.DigitLaws.{decimal-0}
 use Rattle.text_rules.proofs.DecimalLaws.{decimal-digits, decimal-shortest, decimal-value}
 use Rattle.judge_rules.specs.declared.verdict.Verdict.{Verdict}
 use Rattle.judge_rules.specs.declared.verdict.Verdict.the-variants.{Orderly as is-orderly, Knot as is-knot, Dirty as is-dirty, No as is-refused}
-use Rattle.text_rules.specs.Records.{tabbed, wordLine}
+use Rattle.text_rules.specs.Records.{tabbed, wordLine, given}
 use Rattle.text_rules.specs.Split.{noNewline}
 use Rattle.judge_rules.specs.Judgement.{judgementOf}
 use Rattle.text_rules.proofs.RecordLines.{digits-plain, plain-append}
@@ -63,7 +63,7 @@ unfolding sayLine
 said-one-line (is-orderly n) order = word-one-line Orderly (take n order)
 said-one-line (is-knot n) order = word-one-line Knot (take n order)
 said-one-line (is-dirty i j) order = word-one-line Dirty (i ∷ j ∷ [])
-said-one-line (is-refused line why) order = word-one-line No (line ∷ numberOf why ∷ [])
+said-one-line (is-refused line why) order = word-one-line No (line ∷ numberOf why ∷ given (fieldOf why))
 
 -- digits that begin with 0 and are shortest are the single 0
 zero-alone : (n : ℕ) (ds rest more : List ℕ) → decimal n ≡ ds → getD ((ds ++ tab ∷ rest) ++ more) 0 0 ≡ 48 → n ≡ 0
@@ -73,10 +73,10 @@ zero-alone n (d ∷ c ∷ ds) rest more e h =
     absurd (eqb-false d 48 (not-true (eqb d 48) (unfold shortest in sym (ap shortest e) ∙ decimal-shortest n)) h)
 
 -- a refusal that is printed as no, 0, 16 has line number 0
-printed-line-0 : (n m : ℕ) → wordLine No (n ∷ m ∷ []) ≡ wordLine No (0 ∷ 16 ∷ []) → n ≡ 0
+printed-line-0 : (n m : ℕ) (more : List ℕ) → wordLine No (n ∷ m ∷ more) ≡ wordLine No (0 ∷ 16 ∷ []) → n ≡ 0
 unfolding wordLine tabbed
-printed-line-0 n m e =
-    zero-alone n (decimal n) (decimal m ++ []) (newline ∷ []) refl
+printed-line-0 n m more e =
+    zero-alone n (decimal n) (decimal m ++ tabbed more) (newline ∷ []) refl
     (ap (λ t. getD t 3 0) e ∙ ap (λ ds. getD ((ds ++ tab ∷ (decimal 16 ++ [])) ++ newline ∷ []) 0 0) decimal-0)
 
 -- another word is printed otherwise
@@ -98,7 +98,7 @@ module _ (text : List ℕ) where
   not-16 (is-orderly n) order e p = other-word Orderly (take n order) p refl
   not-16 (is-knot n) order e p = other-word Knot (take n order) p refl
   not-16 (is-dirty i j) order e p = other-word Dirty (i ∷ j ∷ []) p refl
-  not-16 (is-refused n why) order e p = refused-line n why e (printed-line-0 n (numberOf why) p)
+  not-16 (is-refused n why) order e p = refused-line n why e (printed-line-0 n (numberOf why) (given (fieldOf why)) p)
 
 -- SIXTEEN EXACTLY FOR A LONGER TEXT: no, 0, 16 is printed of a text exactly where it has more than 65,536 bytes
 pub too-long-exactly : (text : List ℕ) → (verdictOf text ≡ wordLine No (0 ∷ 16 ∷ [])) ↔ (65_536 < length text)

@@ -16,7 +16,7 @@ use Rattle.terms.specs.declared.letters.Letter.{Letter}
 use Rattle.terms.specs.declared.refusals.Refusal.{Refusal}
 use Rattle.terms.specs.declared.refusals.Refusal.the-variants.{BadLine, CellAbove, TooManyLines, JobOutside, Ended}
 use Rattle.terms.specs.Letters.{hasCell}
-use Rattle.terms.specs.Refusals.{numberOf}
+use Rattle.terms.specs.Refusals.{numberOf, fieldNumber, fieldOf}
 use Rattle.terms.proofs.Numbers.{same-number}
 use Rattle.text_rules.specs.declared.Reading.{Reading}
 use Rattle.text_rules.specs.declared.Reading.the-variants.{Good, Bad}
@@ -28,6 +28,7 @@ use Rattle.judge_rules.specs.AsWorded.RefusedAs.{too-many, bad, outside,
 use Rattle.judge_rules.proofs.FewJobs.{not-outside}
 use Rattle.judge_rules.proofs.CleanLines.{Clean, clean-line, line-clean}
 use Rattle.judge_rules.proofs.OverBefore.{good-at, at-good, ended-over, over-ended}
+use Rattle.judge_rules.proofs.BadLines.{bad-says, bad-at, at-bad}
 
 -- a job from 1 to 255 is not outside
 inside : (job : ℕ) → 1 ≤ job → job ≤ 255 → not (leb 1 job && leb job 255) ≡ false
@@ -72,7 +73,7 @@ by-rows false false false why e one′ two′ three′ = let z : _≡_ {A = ℕ}
 module _ (text : List ℕ) (n : ℕ) where
   -- a faultless line by its reading
   read-sound : (r : Reading) → readingAt (readingsOf text) n ≡ r → Clean n (linesBefore (readingsOf text) n) r → Sound (linesOf text) n
-  read-sound Bad e c = not-both refl (c .good)
+  read-sound (Bad at) e c = not-both (eq-eqb (fieldNumber at) (fieldNumber at) refl) (c .good at)
   read-sound (Good l job cell) e c =
       let g = good-at text n l job cell e in
       let j = not-outside job (c .inside) in
@@ -98,7 +99,7 @@ module _ (text : List ℕ) (n : ℕ) where
       subst (λ x. tableSays n (linesBefore (readingsOf text) n) x ≡ none) (sym r) (line-clean n (linesBefore (readingsOf text) n) (Good (s .letter) (s .job) (s .cell))
       (record {
         few = ne-eqb n 4_097 (omega arith);
-        good = refl;
+        good = λ at. refl;
         inside = inside (s .job) (s .first) (s .last);
         below = low-cell (s .letter) (s .cell) (s .below);
         open′ = by-test (endedIn (s .job) (linesBefore (readingsOf text) n)) (λ t. absurd (s .open′ (ended-over text n (s .job) t))) (λ f. f);
@@ -106,7 +107,8 @@ module _ (text : List ℕ) (n : ℕ) where
 
   -- what a good line is refused with
   good-refused : n ≤ 4_096 → (l : Letter) (job cell : ℕ) (why : Refusal) → LineIs (linesOf text) n l job cell →
-      rowsOf (not (leb 1 job && leb job 255)) (hasCell l && leb 64 cell) (endedIn job (linesBefore (readingsOf text) n)) ≡ some why → RefusedAs (linesOf text) n (numberOf why)
+      rowsOf (not (leb 1 job && leb job 255)) (hasCell l && leb 64 cell) (endedIn job (linesBefore (readingsOf text) n)) ≡ some why →
+      RefusedAs (linesOf text) n (numberOf why) (fieldOf why)
   good-refused h l job cell why g e =
       by-rows (not (leb 1 job && leb job 255)) (hasCell l && leb 64 cell) (endedIn job (linesBefore (readingsOf text) n)) why e
       (λ a q. rw q (outside l job cell h g (which-side job a)))
@@ -114,17 +116,18 @@ module _ (text : List ℕ) (n : ℕ) where
       (λ a b c q. let j = not-outside job a in rw q (over l job cell h g (j .0) (j .1) (cell-low l cell (g .5) b) (ended-over text n job c)))
 
   -- what a line is refused with, by its reading
-  read-refused : n ≤ 4_096 → (r : Reading) (why : Refusal) → readingAt (readingsOf text) n ≡ r → tableSays n (linesBefore (readingsOf text) n) r ≡ some why → RefusedAs (linesOf text) n (numberOf why)
+  read-refused : n ≤ 4_096 → (r : Reading) (why : Refusal) → readingAt (readingsOf text) n ≡ r → tableSays n (linesBefore (readingsOf text) n) r ≡ some why →
+      RefusedAs (linesOf text) n (numberOf why) (fieldOf why)
   unfolding tableSays firstOf holds order
-  read-refused h Bad why e d =
-      let q : some BadLine ≡ some why = rw (ne-eqb n 4_097 (omega arith)) at d in
-      let w : why ≡ BadLine = cc in
-      rw w (bad h (λ l job cell g. let z : Bad ≡ Good l job cell = sym e ∙ at-good text n l job cell g in let y : _≡_ {A = ℕ} 0 1 = cc in omega arith))
+  read-refused h (Bad at) why e d =
+      let q : some (BadLine at) ≡ some why = sym (bad-says n (linesBefore (readingsOf text) n) at h) ∙ d in
+      let w : why ≡ BadLine at = cc in
+      rw w (bad h at (bad-at text n at e))
   read-refused h (Good l job cell) why e d =
       good-refused h l job cell why (good-at text n l job cell e) (unfold rowsOf in rw (ne-eqb n 4_097 (omega arith)) at d)
 
   -- a refusal that is due for a line up to 4,097 is the paper's
-  pub due-worded : n ≤ 4_097 → (why : Refusal) → Due (readingsOf text) n why → RefusedAs (linesOf text) n (numberOf why)
+  pub due-worded : n ≤ 4_097 → (why : Refusal) → Due (readingsOf text) n why → RefusedAs (linesOf text) n (numberOf why) (fieldOf why)
   unfolding tableSays firstOf holds order
   due-worded h why d =
       by-test (eqb n 4_097)
@@ -140,19 +143,14 @@ module _ (text : List ℕ) (n : ℕ) where
   unfolding tableSays firstOf holds order rowsOf
   good-says h l job cell g = rw (at-good text n l job cell g, ne-eqb n 4_097 (omega arith))
 
-  -- a line that is none of the good ones reads as bad
-  reads-bad : ((l : Letter) (job cell : ℕ) → LineIs (linesOf text) n l job cell → ⊥) → (r : Reading) → readingAt (readingsOf text) n ≡ r → readingAt (readingsOf text) n ≡ Bad
-  reads-bad other Bad e = e
-  reads-bad other (Good l job cell) e = absurd (other l job cell (good-at text n l job cell e))
-
   -- and the paper's refusal of a line is due for it
-  pub worded-due : {k : ℕ} → RefusedAs (linesOf text) n k → (why : Refusal) → numberOf why ≡ k → Due (readingsOf text) n why
+  pub worded-due : {k m : ℕ} → RefusedAs (linesOf text) n k m → (why : Refusal) → numberOf why ≡ k → fieldOf why ≡ m → Due (readingsOf text) n why
   unfolding tableSays firstOf holds order rowsOf
-  worded-due (too-many e) why q = rw (eq-eqb n 4_097 e) (ap some (sym (same-number why TooManyLines q)))
-  worded-due (bad h other) why q =
-      rw (reads-bad other (readingAt (readingsOf text) n) refl, ne-eqb n 4_097 (omega arith)) (ap some (sym (same-number why BadLine q)))
-  worded-due (outside l job cell h g o) why q = good-says h l job cell g ∙ rw (not-inside job o) (ap some (sym (same-number why JobOutside q)))
-  worded-due (above l job cell h g a b c) why q =
-      good-says h l job cell g ∙ rw (inside job a b, high-cell l cell (g .5) c) (ap some (sym (same-number why CellAbove q)))
-  worded-due (over l job cell h g a b c o) why q =
-      good-says h l job cell g ∙ rw (inside job a b, low-cell l cell c, over-ended text n job o) (ap some (sym (same-number why Ended q)))
+  worded-due (too-many e) why q f = rw (eq-eqb n 4_097 e) (ap some (sym (same-number why TooManyLines q f)))
+  worded-due (bad h at b) why q f =
+      ap (tableSays n (linesBefore (readingsOf text) n)) (at-bad text n at b) ∙ bad-says n (linesBefore (readingsOf text) n) at h ∙ ap some (sym (same-number why (BadLine at) q f))
+  worded-due (outside l job cell h g o) why q f = good-says h l job cell g ∙ rw (not-inside job o) (ap some (sym (same-number why JobOutside q f)))
+  worded-due (above l job cell h g a b c) why q f =
+      good-says h l job cell g ∙ rw (inside job a b, high-cell l cell (g .5) c) (ap some (sym (same-number why CellAbove q f)))
+  worded-due (over l job cell h g a b c o) why q f =
+      good-says h l job cell g ∙ rw (inside job a b, low-cell l cell c, over-ended text n job o) (ap some (sym (same-number why Ended q f)))

@@ -1,4 +1,4 @@
--- What a faultless text is, when a line gets which refusal, and what each kind of answer is given for, in the paper's words and numbers: by good lines and where they stand alone, with no test and no order of tests (01, Refusals by number; 01, Lines; 02, No. 2).
+-- What a faultless text is, when a line gets which refusal, and what each kind of answer is given for, in the paper's words and numbers: by good lines, the field at fault and where they stand alone, with no test and no order of tests (01, Refusals by number; 01, Lines; 02, No. 2 and No. 5).
 -- The numbers are written out, since these are the words of promises.
 use Prim.Native.Nat.{ℕ, _-_, _≤_, _<_}
 use mathlib.Core.Path.{_≡_}
@@ -7,11 +7,14 @@ use mathlib.Core.List.{List}
 use lib.ListN.{length}
 use Rattle.terms.specs.declared.letters.Letter.{Letter}
 use Rattle.terms.specs.declared.letters.Letter.the-variants.{Commit, GiveUp}
+use Rattle.terms.specs.declared.refusals.Field.{Field}
 use Rattle.terms.specs.Letters.{ofHistories}
+use Rattle.terms.specs.Refusals.{fieldNumber}
 use Rattle.conflict.specs.Schedule.{ConflictSerializable}
 use Rattle.conflict.specs.History.{committedPart}
 use Rattle.conflict.specs.Dirty.{IsDirty}
 use Rattle.text_rules.specs.GoodLine.{GoodLine}
+use Rattle.text_rules.specs.FieldFaults.{AtFault}
 use Rattle.text_rules.specs.Split.{linesOf}
 use Rattle.judge_rules.specs.HistoryText.{readingsOf, lineAt, eventsIn}
 
@@ -46,21 +49,22 @@ pub record SoundTo (ls : List (List ℕ)) (k : ℕ) : Type 0 where
 abbrev pub SoundText : List ℕ → Type 0
 SoundText text = SoundTo (linesOf text) (length (linesOf text))
 
--- the refusal of line n by its number: 11 for line 4,097 whatever it is; of any other 9 where it is no good line, 12 where its job is 0 or above 255,
--- 2 where its job is neither and its cell is above 63, and 13 where both are as they should be and a line before it is a c or an a of its job
-pub data RefusedAs (ls : List (List ℕ)) (n : ℕ) : ℕ → Type 0 where
-  too-many : n ≡ 4_097 → RefusedAs ls n 11
-  bad : n ≤ 4_096 → ((l : Letter) (job cell : ℕ) → LineIs ls n l job cell → ⊥) → RefusedAs ls n 9
-  outside : (l : Letter) (job cell : ℕ) → n ≤ 4_096 → LineIs ls n l job cell → (job ≡ 0) ⊎ (255 < job) → RefusedAs ls n 12
-  above : (l : Letter) (job cell : ℕ) → n ≤ 4_096 → LineIs ls n l job cell → 1 ≤ job → job ≤ 255 → 63 < cell → RefusedAs ls n 2
-  over : (l : Letter) (job cell : ℕ) → n ≤ 4_096 → LineIs ls n l job cell → 1 ≤ job → job ≤ 255 → cell ≤ 63 → OverBefore ls n job → RefusedAs ls n 13
+-- the refusal of line n by its number, and the field of a 9, 0 of any other: 11 for line 4,097 whatever it is; of any other line 9 where a field of it is at fault, with the lowest that is
+-- (02, No. 5; that is where it is no good line: `nine-exactly`), 12 where its job is 0 or above 255, 2 where its job is neither and its cell is above 63,
+-- and 13 where both are as they should be and a line before it is a c or an a of its job
+pub data RefusedAs (ls : List (List ℕ)) (n : ℕ) : ℕ → ℕ → Type 0 where
+  too-many : n ≡ 4_097 → RefusedAs ls n 11 0
+  bad : n ≤ 4_096 → (at : Field) → AtFault ofHistories (lineAt ls n) at → RefusedAs ls n 9 (fieldNumber at)
+  outside : (l : Letter) (job cell : ℕ) → n ≤ 4_096 → LineIs ls n l job cell → (job ≡ 0) ⊎ (255 < job) → RefusedAs ls n 12 0
+  above : (l : Letter) (job cell : ℕ) → n ≤ 4_096 → LineIs ls n l job cell → 1 ≤ job → job ≤ 255 → 63 < cell → RefusedAs ls n 2 0
+  over : (l : Letter) (job cell : ℕ) → n ≤ 4_096 → LineIs ls n l job cell → 1 ≤ job → job ≤ 255 → cell ≤ 63 → OverBefore ls n job → RefusedAs ls n 13 0
 
--- what the paper asks of line n where it refuses it: the lines before it are faultless, it is there, and it has the fault of that number and none that is tested before
-pub record RefusesLine (text : List ℕ) (n number : ℕ) : Type 0 where
+-- what the paper asks of line n where it refuses it: the lines before it are faultless, it is there, and it has the fault of that number, of a 9 at that field, and none that is tested before
+pub record RefusesLine (text : List ℕ) (n number field : ℕ) : Type 0 where
   pub from : 1 ≤ n
   pub to : n ≤ length (linesOf text)
   pub before : SoundTo (linesOf text) (n - 1)
-  pub fault : RefusedAs (linesOf text) n number
+  pub fault : RefusedAs (linesOf text) n number field
 
 -- what the four kinds of answer are given for. A refusal: the buffer has fewer than 255 places, or the text is not faultless
 abbrev pub Refused : List ℕ → List ℕ → Type 0

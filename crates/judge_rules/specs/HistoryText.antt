@@ -38,9 +38,9 @@ faultOfGood ended l job cell =
     pick (eqb job 0 || ltb judgedJobs job) (some JobOutside)
     (pick (hasCell l && leb cells cell) (some CellAbove) (pick (member job ended) (some Ended) none))
 
--- the fault of a line as it reads: 9 where it is bad, as the reader has it
+-- the fault of a line as it reads: 9 where it is bad, at the field that the reader has (02, No. 5)
 unfoldable pub faultOf : List ℕ → Reading → Option Refusal
-faultOf ended Bad = refusalOf Bad
+faultOf ended (Bad at) = refusalOf (Bad at)
 faultOf ended (Good l job cell) = faultOfGood ended l job cell
 
 -- the fault of line n: 11 where it is line 4,097, before anything else on it
@@ -49,7 +49,7 @@ lineFault n ended r = pick (ltb judgedLines n) (some TooManyLines) (faultOf ende
 
 -- the jobs that have committed or given up, after one more line
 unfoldable pub endedAfter : List ℕ → Reading → List ℕ
-endedAfter ended Bad = ended
+endedAfter ended (Bad at) = ended
 endedAfter ended (Good Begin job cell) = ended
 endedAfter ended (Good Commit job cell) = job ∷ ended
 endedAfter ended (Good GiveUp job cell) = job ∷ ended
@@ -76,7 +76,7 @@ firstFaulty n ended (r ∷ rs) =
 
 -- the event that a line says: an action, or the end of a run
 unfoldable pub eventOf : Reading → History
-eventOf Bad = []
+eventOf (Bad at) = []
 eventOf (Good Begin job cell) = []
 eventOf (Good Commit job cell) = Ends commits job ∷ []
 eventOf (Good GiveUp job cell) = Ends gives-up job ∷ []

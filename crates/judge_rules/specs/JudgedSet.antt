@@ -1,4 +1,4 @@
--- The judge at texts of bytes: every refusal of a line and of the buffer, each two neighbours of 9, 12, 2, 13 on one line, what is no fault, and what is judged then (01, Refusals by number; 01, Lines; 02, No. 2).
+-- The judge at texts of bytes: every refusal of a line and of the buffer, 9 with each field at fault, each two neighbours of 9, 12, 2, 13 on one line, what is no fault, and what is judged then (01, Refusals by number; 01, Lines; 02, No. 2 and No. 5).
 -- One list, with the answer in numbers, the line handed back and the buffer; that each is told so is `all-told` (proofs/Examples.antt). Refusal 11 is at line 4,097 of any text: `too-many-exactly` (proofs/AsWorded.antt).
 use Prim.Native.Nat.{ℕ, _-_}
 use Prim.Native.String.{String}
@@ -7,7 +7,7 @@ use lib.ListN.{length, replicate}
 use Rattle.text_rules.specs.Quoted.{bytes}
 use Rattle.judge_rules.specs.Judgement.{judgementOf, inNumbers}
 
--- what is told of a text: the answer in three numbers (0 orderly and 1 knot with the length, 2 a refusal with its number and line number, 3 dirty with reader and writer), the line handed back, and the buffer
+-- what is told of a text: the answer in four numbers (0 orderly and 1 knot with the length, 2 a refusal with its number, line number and, of 9, the field at fault, 3 dirty with reader and writer), the line handed back, and the buffer
 pub record Telling : Type 0 where
   pub answer : List ℕ
   pub line : List ℕ
@@ -21,41 +21,61 @@ pub record Case : Type 0 where
   pub line : String
   pub jobs : List ℕ
 
--- a text that has a faulty line, with room for every job: the refusal's number, the line number and the line
+-- a text that has a faulty line which is no bad one, with room for every job: the refusal's number, the line number and the line
 abbrev pub faulty : String → ℕ → ℕ → String → Case
-faulty text number n line = record { text = text; places = 255; answer = 2 ∷ number ∷ n ∷ []; line = line; jobs = [] }
+faulty text number n line = record { text = text; places = 255; answer = 2 ∷ number ∷ n ∷ 0 ∷ []; line = line; jobs = [] }
+
+-- a text that has a bad line: the line number, the field at fault (1 letter, 2 job, 3 cell, 4 what follows the last field that the letter has) and the line (02, No. 5)
+abbrev pub badAt : String → ℕ → ℕ → String → Case
+badAt text n field line = record { text = text; places = 255; answer = 2 ∷ 9 ∷ n ∷ field ∷ []; line = line; jobs = [] }
 
 -- a text in which there is no fault, no dirty read and no knot: so many jobs, in this order
 abbrev pub fine : String → ℕ → List ℕ → Case
-fine text n jobs = record { text = text; places = 255; answer = 0 ∷ n ∷ 0 ∷ []; line = ""; jobs = jobs }
+fine text n jobs = record { text = text; places = 255; answer = 0 ∷ n ∷ 0 ∷ 0 ∷ []; line = ""; jobs = jobs }
 
 -- a text in which there is no fault, no dirty read and a knot: so many jobs, in this order
 abbrev pub tied : String → ℕ → List ℕ → Case
-tied text n jobs = record { text = text; places = 255; answer = 1 ∷ n ∷ 0 ∷ []; line = ""; jobs = jobs }
+tied text n jobs = record { text = text; places = 255; answer = 1 ∷ n ∷ 0 ∷ 0 ∷ []; line = ""; jobs = jobs }
 
 -- a text in which there is no fault and a dirty read: its reader and its writer (02, No. 2)
 abbrev pub soiled : String → ℕ → ℕ → Case
-soiled text reader writer = record { text = text; places = 255; answer = 3 ∷ reader ∷ writer ∷ []; line = ""; jobs = reader ∷ writer ∷ [] }
+soiled text reader writer = record { text = text; places = 255; answer = 3 ∷ reader ∷ writer ∷ 0 ∷ []; line = ""; jobs = reader ∷ writer ∷ [] }
 
 -- the texts, with what is told of each
 abbrev pub cases : List Case
 cases =
     -- 14 for 254 places, before anything else and with line number 0; 255 are taken, and more stay
-    record { text = "x\n"; places = 254; answer = 2 ∷ 14 ∷ 0 ∷ []; line = ""; jobs = [] }
-    ∷ record { text = ""; places = 254; answer = 2 ∷ 14 ∷ 0 ∷ []; line = ""; jobs = [] }
-    ∷ record { text = "c\t1\n"; places = 256; answer = 0 ∷ 1 ∷ 0 ∷ []; line = ""; jobs = 1 ∷ [] }
+    record { text = "x\n"; places = 254; answer = 2 ∷ 14 ∷ 0 ∷ 0 ∷ []; line = ""; jobs = [] }
+    ∷ record { text = ""; places = 254; answer = 2 ∷ 14 ∷ 0 ∷ 0 ∷ []; line = ""; jobs = [] }
+    ∷ record { text = "c\t1\n"; places = 256; answer = 0 ∷ 1 ∷ 0 ∷ 0 ∷ []; line = ""; jobs = 1 ∷ [] }
     ∷ fine "" 0 []
-    -- 9: another letter, u, which a history records as r (02, No. 1), an empty line, a field too many, a cell of three digits, a last line without its newline
-    ∷ faulty "x\n" 9 1 "x"
-    ∷ faulty "r\t1\t5\nu\t1\t5\nc\t1\n" 9 2 "u\t1\t5"
-    ∷ faulty "c\t1\n\nc\t2\n" 9 2 ""
-    ∷ faulty "c\t1\t5\n" 9 1 "c\t1\t5"
-    ∷ faulty "r\t7\t100\n" 9 1 "r\t7\t100"
-    ∷ faulty "r\t1\t5\nc\t1" 9 2 "c\t1"
+    -- 9 with the letter at fault: another letter, u, which a history records as r (02, No. 1), an empty line, a letter with more behind it
+    ∷ badAt "x\n" 1 1 "x"
+    ∷ badAt "r\t1\t0\nu\t1\t0\n" 2 1 "u\t1\t0"
+    ∷ badAt "r\t1\t5\nu\t1\t5\nc\t1\n" 2 1 "u\t1\t5"
+    ∷ badAt "c\t1\n\nc\t2\n" 2 1 ""
+    ∷ badAt "c1\n" 1 1 "c1"
+    -- with the job: it is missing, it is empty, a leading zero, a number that is too large
+    ∷ badAt "c\n" 1 2 "c"
+    ∷ badAt "r\t\t5\n" 1 2 "r\t\t5"
+    ∷ badAt "k\t01\n" 1 2 "k\t01"
+    ∷ badAt "c\t4294967296\n" 1 2 "c\t4294967296"
+    -- with the cell: it is missing, it has three digits, a sign
+    ∷ badAt "r\t7\n" 1 3 "r\t7"
+    ∷ badAt "r\t7\t100\n" 1 3 "r\t7\t100"
+    ∷ badAt "w\t7\t+5\n" 1 3 "w\t7\t+5"
+    -- with what follows the last field that the letter has: a field too many, a tab alone, a last line without its newline
+    ∷ badAt "c\t1\t5\n" 1 4 "c\t1\t5"
+    ∷ badAt "r\t1\t5\t\n" 1 4 "r\t1\t5\t"
+    ∷ badAt "r\t1\t5\nc\t1" 2 4 "c\t1"
+    -- of several faulty fields the lowest
+    ∷ badAt "x\t+1\t100\t5" 1 1 "x\t+1\t100\t5"
+    ∷ badAt "r\t+1\t100\t5" 1 2 "r\t+1\t100\t5"
+    ∷ badAt "r\t1\t100\t5" 1 3 "r\t1\t100\t5"
     -- 9 before 12, before 2 and before 13: a job above 255 and a cell of three digits, a cell above 63 and a field too many, a line of a job that has ended with one
-    ∷ faulty "r\t256\t100\n" 9 1 "r\t256\t100"
-    ∷ faulty "r\t1\t64\t1\n" 9 1 "r\t1\t64\t1"
-    ∷ faulty "c\t1\nk\t1\t5\n" 9 2 "k\t1\t5"
+    ∷ badAt "r\t256\t100\n" 1 3 "r\t256\t100"
+    ∷ badAt "r\t1\t64\t1\n" 1 4 "r\t1\t64\t1"
+    ∷ badAt "c\t1\nk\t1\t5\n" 2 4 "k\t1\t5"
     -- 12: job 0 with each letter, and job 256; 255 is none
     ∷ faulty "r\t0\t5\n" 12 1 "r\t0\t5"
     ∷ faulty "w\t0\t5\n" 12 1 "w\t0\t5"
@@ -109,7 +129,7 @@ cases =
     ∷ fine "w\t1\t0\nr\t2\t0\nk\t2\nk\t1\nc\t2\n" 1 (2 ∷ [])
     ∷ fine "w\t1\t0\nr\t2\t0\nk\t1\n" 0 []
     -- 14 and a fault before dirty
-    ∷ record { text = "w\t1\t0\nr\t2\t0\nc\t2\n"; places = 254; answer = 2 ∷ 14 ∷ 0 ∷ []; line = ""; jobs = [] }
+    ∷ record { text = "w\t1\t0\nr\t2\t0\nc\t2\n"; places = 254; answer = 2 ∷ 14 ∷ 0 ∷ 0 ∷ []; line = ""; jobs = [] }
     ∷ faulty "w\t1\t0\nr\t2\t0\nc\t2\nr\t2\t0\n" 13 4 "r\t2\t0"
     -- the first faulty line decides, whatever follows: 13, then 9
     ∷ faulty "c\t1\nr\t1\t5\nx\n" 13 2 "r\t1\t5"

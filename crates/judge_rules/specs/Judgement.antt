@@ -7,7 +7,7 @@ use lib.ListN.{length}
 use Rattle.laws.specs.Choice.{pick}
 use Rattle.laws.specs.Lists.{filled}
 use Rattle.terms.specs.declared.refusals.Refusal.the-variants.{ShortOrder}
-use Rattle.terms.specs.Refusals.{numberOf}
+use Rattle.terms.specs.Refusals.{numberOf, fieldOf}
 use Rattle.terms.specs.Limits.{judgedJobs}
 use Rattle.conflict.specs.History.{History}
 use Rattle.conflict.specs.Dirty.{ReadOf, dirtyOf}
@@ -53,9 +53,10 @@ lineFrom text (Knot n) = 0
 lineFrom text (Dirty reader writer) = 0
 lineFrom text (No line why) = length (joined (linesBefore (linesOf text) line))
 
--- the answer in three numbers: 0 orderly and 1 knot with the length, 2 a refusal with its number and its line number, 3 dirty with reader and writer
+-- the answer in four numbers: 0 orderly and 1 knot with the length, 2 a refusal with its number, its line number and the field at fault, 3 dirty with reader and writer;
+-- the fourth is 0 but of refusal 9 (02, No. 5)
 unfoldable pub inNumbers : Verdict → List ℕ
-inNumbers (Orderly n) = 0 ∷ n ∷ 0 ∷ []
-inNumbers (Knot n) = 1 ∷ n ∷ 0 ∷ []
-inNumbers (Dirty reader writer) = 3 ∷ reader ∷ writer ∷ []
-inNumbers (No line why) = 2 ∷ numberOf why ∷ line ∷ []
+inNumbers (Orderly n) = 0 ∷ n ∷ 0 ∷ 0 ∷ []
+inNumbers (Knot n) = 1 ∷ n ∷ 0 ∷ 0 ∷ []
+inNumbers (Dirty reader writer) = 3 ∷ reader ∷ writer ∷ 0 ∷ []
+inNumbers (No line why) = 2 ∷ numberOf why ∷ line ∷ fieldOf why ∷ []

@@ -1,23 +1,26 @@
 -- The judge's refusals of a line as the paper's table prints them: each row by itself, then the order in which the rows are tested. Lines are what the reader made of them; nothing here speaks of bytes or of the judge (01, Refusals by number).
 use Prim.Native.Nat.{ℕ, suc, _-_, _≤_, _<_}
 use mathlib.Core.Path.{_≡_}
-use mathlib.Core.Bool.{Bool, true, false, not, _&&_, _||_}
+use mathlib.Core.Bool.{Bool, false, not, _&&_, _||_}
 use mathlib.Core.List.{List, [], _∷_}
 use mathlib.Core.Option.{Option, none, some}
 use lib.Dec.{eqb, leb}
 use lib.ListN.{length, getD, take}
 use Rattle.laws.specs.Lists.{firstOf}
 use Rattle.terms.specs.declared.letters.Letter.the-variants.{Begin, Commit, GiveUp, Retry, Back, Asks}
+use Rattle.terms.specs.declared.refusals.Field.{Field}
+use Rattle.terms.specs.declared.refusals.Field.the-variants.{First, Second, Third, Fourth}
 use Rattle.terms.specs.declared.refusals.Refusal.{Refusal}
 use Rattle.terms.specs.declared.refusals.Refusal.the-variants.{UnknownKind, CellAbove, NotOpen, Waiting, SentBack, AllOpen, NoNumberLeft, Running, BadLine, StartedAtZero, TooManyLines, JobOutside, Ended, ShortOrder, NoRoom, TooLong, ShortList}
 use Rattle.terms.specs.Letters.{hasCell}
 use Rattle.terms.specs.Limits.{cells, judgedJobs, judgedLines}
+use Rattle.terms.specs.Refusals.{fieldNumber}
 use Rattle.text_rules.specs.declared.Reading.{Reading}
 use Rattle.text_rules.specs.declared.Reading.the-variants.{Good, Bad}
 
 -- how line n reads; lines are numbered from 1
 abbrev pub readingAt : List Reading → ℕ → Reading
-readingAt rs n = getD rs (n - 1) Bad
+readingAt rs n = getD rs (n - 1) (Bad First)
 
 -- the lines before line n, as they read or as bytes
 abbrev pub linesBefore : {A : Type 0} → List A → ℕ → List A
@@ -27,24 +30,24 @@ linesBefore ls n = take (n - 1) ls
 abbrev pub tooMany : ℕ → Bool
 tooMany n = eqb n (suc judgedLines)
 
--- 9: bad line
-abbrev pub isBad : Reading → Bool
-isBad Bad = true
-isBad (Good l job cell) = false
+-- 9: bad line, at this field (02, No. 5)
+abbrev pub isBad : Field → Reading → Bool
+isBad field (Bad at) = eqb (fieldNumber field) (fieldNumber at)
+isBad field (Good l job cell) = false
 
 -- 12: job outside 1 to 255
 abbrev pub outside : Reading → Bool
-outside Bad = false
+outside (Bad at) = false
 outside (Good l job cell) = not (leb 1 job && leb job judgedJobs)
 
 -- 2: cell above 63; r, w and i have a cell
 abbrev pub above : Reading → Bool
-above Bad = false
+above (Bad at) = false
 above (Good l job cell) = hasCell l && leb cells cell
 
 -- the line is a c or an a of this job
 unfoldable pub ends : ℕ → Reading → Bool
-ends j Bad = false
+ends j (Bad at) = false
 ends j (Good Begin job cell) = false
 ends j (Good Commit job cell) = eqb job j
 ends j (Good GiveUp job cell) = eqb job j
@@ -59,7 +62,7 @@ endedIn j (r ∷ rs) = ends j r || endedIn j rs
 
 -- 13: line for a job that has committed or given up, on one of the lines before it
 abbrev pub overAlready : List Reading → Reading → Bool
-overAlready before Bad = false
+overAlready before (Bad at) = false
 overAlready before (Good l job cell) = endedIn job before
 
 -- the table: when the row of each refusal holds for line n, by the lines before it and by what it reads. The other rows are not a line's, or not the judge's
@@ -72,7 +75,7 @@ holds n before r SentBack = false
 holds n before r AllOpen = false
 holds n before r NoNumberLeft = false
 holds n before r Running = false
-holds n before r BadLine = isBad r
+holds n before r (BadLine field) = isBad field r
 holds n before r StartedAtZero = false
 holds n before r TooManyLines = tooMany n
 holds n before r JobOutside = outside r
@@ -86,13 +89,13 @@ holds n before r ShortList = false
 abbrev pub holdsAt : List Reading → ℕ → Refusal → Bool
 holdsAt rs n why = holds n (linesBefore rs n) (readingAt rs n) why
 
--- every line is read back: none is a bad line, none has a cell above 63, and none is for a job that has committed or given up before it (01, refusals 9, 2 and 13)
+-- every line is read back: none is a bad line, at whichever field, none has a cell above 63, and none is for a job that has committed or given up before it (01, refusals 9, 2 and 13)
 abbrev pub AllReadBack : List Reading → Type 0
-AllReadBack rs = (n : ℕ) → 1 ≤ n → n ≤ length rs → (holdsAt rs n BadLine ≡ false) × (holdsAt rs n CellAbove ≡ false) × (holdsAt rs n Ended ≡ false)
+AllReadBack rs = (n : ℕ) → 1 ≤ n → n ≤ length rs → ((at : Field) → holdsAt rs n (BadLine at) ≡ false) × (holdsAt rs n CellAbove ≡ false) × (holdsAt rs n Ended ≡ false)
 
--- the order of the tests: on one line 11, 9, 12, 2, 13
+-- the order of the tests: on one line 11, 9, 12, 2, 13; a bad line is bad at one field, so that of the four rows of 9 at most one holds (`bad-at-one`)
 unfoldable pub order : List Refusal
-order = TooManyLines ∷ BadLine ∷ JobOutside ∷ CellAbove ∷ Ended ∷ []
+order = TooManyLines ∷ BadLine First ∷ BadLine Second ∷ BadLine Third ∷ BadLine Fourth ∷ JobOutside ∷ CellAbove ∷ Ended ∷ []
 
 -- what the table says of a line, by its number, the lines before it and how it reads
 unfoldable pub tableSays : ℕ → List Reading → Reading → Option Refusal

@@ -8,21 +8,21 @@ use lib.ListN.{length, take, replicate}
 use Rattle.laws.specs.Choice.{pick}
 use Rattle.terms.specs.declared.words.Word.the-variants.{No, Orderly, Knot, Dirty}
 use Rattle.terms.specs.declared.refusals.Refusal.the-variants.{TooLong}
-use Rattle.terms.specs.Refusals.{numberOf}
+use Rattle.terms.specs.Refusals.{numberOf, fieldOf}
 use Rattle.terms.specs.Limits.{judgedBytes, judgedJobs}
 use Rattle.terms.specs.Words.{newline}
-use Rattle.text_rules.specs.Records.{wordLine}
+use Rattle.text_rules.specs.Records.{wordLine, given}
 use Rattle.text_rules.specs.Split.{noNewline}
 use Rattle.judge_rules.specs.declared.verdict.Verdict.{Verdict}
 use Rattle.judge_rules.specs.declared.verdict.Verdict.the-variants.{Orderly as is-orderly, Knot as is-knot, Dirty as is-dirty, No as is-refused}
 use Rattle.judge_rules.specs.Judgement.{judgementOf}
 
--- the verdict as a line: the word and the jobs; dirty, reader, writer (02, No. 2); or no, line number, refusal (01, The judge's rules)
+-- the verdict as a line: the word and the jobs; dirty, reader, writer (02, No. 2); or no, line number, refusal, and of refusal 9 the field at fault (01, The judge's rules; 02, No. 5)
 unfoldable pub sayLine : Verdict → List ℕ → List ℕ
 sayLine (is-orderly n) order = wordLine Orderly (take n order)
 sayLine (is-knot n) order = wordLine Knot (take n order)
 sayLine (is-dirty reader writer) order = wordLine Dirty (reader ∷ writer ∷ [])
-sayLine (is-refused line why) order = wordLine No (line ∷ numberOf why ∷ [])
+sayLine (is-refused line why) order = wordLine No (line ∷ numberOf why ∷ given (fieldOf why))
 
 -- the verdict on a text with an order buffer of 255 places
 unfoldable pub judgedLine : List ℕ → List ℕ

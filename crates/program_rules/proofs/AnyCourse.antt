@@ -72,7 +72,7 @@ owed-written v false t = refl
 
 -- the record of a line under way that is to be answered although it lacks its newline, if there is one
 abbrev pub owed : View → Splitter → List ℕ
-owed view s = pick (owing s) (viewed view (unended (s .line))) []
+owed view s = pick (owing s) (viewed view (unended s)) []
 
 -- what the end of the input adds
 pub last-records : (view : View) (text : List ℕ) → recordsIn view startedClerk text ++ owed view (afterAll fresh text) ≡ written (viewed view) (arraysRun text)
@@ -82,7 +82,7 @@ last-records view text =
     let fs = foundIn fresh text in
     let s = afterAll fresh text in
     ap (λ l. written (viewed view) (tellings onArrays d fs) ++ l)
-    (sym (ap (written (viewed view)) (last-told onArrays (deskAfter onArrays d fs) s (open-always text)) ∙ owed-written (viewed view) (owing s) (unended (s .line))))
+    (sym (ap (written (viewed view)) (last-told onArrays (deskAfter onArrays d fs) s (open-always text)) ∙ owed-written (viewed view) (owing s) (unended s)))
     ∙ sym (written-append (viewed view) (tellings onArrays d fs) (tellings onArrays (deskAfter onArrays d fs) (foundLast s)))
     ∙ ap (written (viewed view)) (sym (tellings-append onArrays d fs (foundLast s)) ∙ text-told text)
 
@@ -96,7 +96,7 @@ pub finish-take : (view : View) (c : Clerk) (out : List ℕ) (at : ℕ) → at �
     take (finishOf view c out at .finished .at) (finishOf view c out at .out) ≡ take at out ++ owed view (c .splitter)
 unfolding finishOf
 finish-take view c out at h g =
-    by-test (owing (c .splitter)) (λ e. rw (e, g) (put-take out at (viewed view (unended (c .splitter .line))) h)) (λ e. rw e (sym (append-nil (take at out))))
+    by-test (owing (c .splitter)) (λ e. rw (e, g) (put-take out at (viewed view (unended (c .splitter))) h)) (λ e. rw e (sym (append-nil (take at out))))
 
 -- EVERY COURSE TO ITS END: all that has been written out, with what stands in the buffer once the input has ended, is what is written of the run of the text
 pub course-finishes : {view : View} {text sent : List ℕ} {c : Clerk} {out : List ℕ} {at : ℕ} → Course view text sent c out at → roomy out at ≡ true →

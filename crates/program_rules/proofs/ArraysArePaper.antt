@@ -33,7 +33,7 @@ module _ {S T : Type 0} {see : S → T} {does : Stepping S} {new : ℕ → S} {t
   -- one line on both desks, by what it says
   same-line : {d : S} {h : History} → StartedOn does new d h → (n : ℕ) (r : Reading) → seenLine (answered does d n r) ≡ answered theirs (see d) n r
   unfolding answered
-  same-line s n Bad = refl
+  same-line s n (Bad at) = refl
   same-line {d} {h} s n (Good l job cell) =
       let r : Request = record { kind = byteOf l; job = job; cell = cell } in
       ap (λ o. record { desk = o .desk; told = record { line = n; request = r; said = o .said; wakes = o .wakes } }) (f .same d h s r)

@@ -1,4 +1,4 @@
--- The desk programs answer a line with refusal 9 exactly where it is a bad line, and the desk does not see it (01, refusal 9; 01, Lines).
+-- The desk programs answer a line with refusal 9 and a field exactly where it is a bad line at that field, and the desk does not see it (01, refusal 9; 01, Lines; 02, No. 5).
 -- Assumes nothing.
 use Prim.Native.Nat.{ℕ, _+_}
 use mathlib.Core.Path.{_≡_, refl, ap}
@@ -9,6 +9,7 @@ use native.Mathlib.Omega.{arith}
 use lib.Dec.{ltb}
 use borrow.Author.Tests.{ltb-true, ltb-false}
 use Rattle.laws.specs.Choice.{by-test}
+use Rattle.terms.specs.declared.refusals.Field.{Field}
 use Rattle.terms.specs.declared.refusals.Refusal.the-variants.{BadLine}
 use Rattle.terms.specs.Letters.{byteOf, ofRequests}
 use Rattle.terms.specs.Limits.{requestLines}
@@ -25,28 +26,28 @@ use Rattle.program_rules.specs.Programs.{firstNumber, runOn}
 use Rattle.program_rules.specs.LinesTold.{LinesTold, no-line, no-more, a-line}
 
 -- by what the line says: a step never answers 9
-answered-exactly : (d : Desk) (n : ℕ) (r : Reading) → (answered step d n r .told .said ≡ No BadLine) ↔ (refusalOf r ≡ some BadLine)
+answered-exactly : (d : Desk) (n : ℕ) (r : Reading) (at : Field) → (answered step d n r .told .said ≡ No (BadLine at)) ↔ (refusalOf r ≡ some (BadLine at))
 unfolding answered
-answered-exactly d n Bad = (λ _. refl, λ _. refl)
-answered-exactly d n (Good l job cell) = (
-  λ e. let b = refuses d .one-to-eight (record { kind = byteOf l; job = job; cell = cell }) BadLine e in let h = b .1 in absurd (omega arith),
+answered-exactly d n (Bad field) at = (λ e. let q : field ≡ at = cc in ap (λ f. some (BadLine f)) q, λ e. let q : field ≡ at = cc in ap (λ f. No (BadLine f)) q)
+answered-exactly d n (Good l job cell) at = (
+  λ e. let b = refuses d .one-to-eight (record { kind = byteOf l; job = job; cell = cell }) (BadLine at) e in let h = b .1 in absurd (omega arith),
   λ e. let z : _≡_ {A = ℕ} 0 1 = cc in absurd (omega arith),
 )
 
--- a line is answered with 9 exactly where it is bad
-pub line-9-exactly : (d : Desk) (n : ℕ) (l : List ℕ) → (lineBy step d n l .told .said ≡ No BadLine) ↔ (refusalOf (readLine ofRequests l) ≡ some BadLine)
+-- a line is answered with 9 and a field exactly where it is bad at that field
+pub line-9-exactly : (d : Desk) (n : ℕ) (l : List ℕ) (at : Field) → (lineBy step d n l .told .said ≡ No (BadLine at)) ↔ (refusalOf (readLine ofRequests l) ≡ some (BadLine at))
 unfolding lineBy
 line-9-exactly d n l = answered-exactly d n (readLine ofRequests l)
 
 -- and then the desk is as it was, and nobody is woken
-pub bad-line-unseen : (d : Desk) (n : ℕ) (l : List ℕ) → readLine ofRequests l ≡ Bad → (lineBy step d n l .desk ≡ d) × (lineBy step d n l .told .wakes ≡ [])
+pub bad-line-unseen : (d : Desk) (n : ℕ) (l : List ℕ) (at : Field) → readLine ofRequests l ≡ Bad at → (lineBy step d n l .desk ≡ d) × (lineBy step d n l .told .wakes ≡ [])
 unfolding lineBy answered
-bad-line-unseen d n l e = (ap (λ r. answered step d n r .desk) e, ap (λ r. answered step d n r .told .wakes) e)
+bad-line-unseen d n l at e = (ap (λ r. answered step d n r .desk) e, ap (λ r. answered step d n r .told .wakes) e)
 
 -- a line is told under its number
 line-number : (d : Desk) (n : ℕ) (r : Reading) → answered step d n r .told .line ≡ n
 unfolding answered
-line-number d n Bad = refl
+line-number d n (Bad at) = refl
 line-number d n (Good l job cell) = refl
 
 -- all lines
@@ -57,7 +58,7 @@ lines-told d n (l ∷ ls) =
     by-test (ltb requestLines n) (λ t. rw t (no-more (ltb-true requestLines n t)))
     (λ f. rw f (a-line (ltb-false requestLines n f) (line-number d n (readLine ofRequests l)) (answered-exactly d n (readLine ofRequests l)) (lines-told (answered step d n (readLine ofRequests l) .desk) (n + 1) ls)))
 
--- NINE EXACTLY FOR A BAD LINE: each line of a text up to line 1,000,000 has its answer under its number, refusal 9 exactly where the line is bad
+-- NINE EXACTLY FOR A BAD LINE: each line of a text up to line 1,000,000 has its answer under its number, refusal 9 with a field exactly where the line is bad at that field
 pub bad-line-exactly : (text : List ℕ) → LinesTold 1 (linesOf text) (runOn text)
 unfolding runOn
 bad-line-exactly text = lines-told (freshDesk firstNumber) 1 (linesOf text)

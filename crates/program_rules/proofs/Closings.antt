@@ -35,7 +35,7 @@ module _ (view : View) (c : Clerk) (out : List ℕ) (at : ℕ) (h : at + program
   finish-within : (finishOf view c out at .finished .at ≤ length (finishOf view c out at .out)) × (length out ≤ length (finishOf view c out at .out))
   unfolding finishOf
   finish-within =
-      by-test (owing (c .splitter)) (λ e. rw (e, roomy-at) (put-length out at (viewed view (unended (c .splitter .line))) (omega arith))) (λ e. rw e (omega arith, omega arith))
+      by-test (owing (c .splitter)) (λ e. rw (e, roomy-at) (put-length out at (viewed view (unended (c .splitter))) (omega arith))) (λ e. rw e (omega arith, omega arith))
 
 -- the program `chain` writes no record there
 finish-none : (c : Clerk) (out : List ℕ) (at : ℕ) → finishOf Chains c out at .finished .at ≡ at

@@ -90,7 +90,7 @@ writes-no-more view c t h = ap (written (viewed view)) (none-told onArrays (c .d
 read-written : (view : View) (text : List ℕ) → allRead (afterAll fresh text) ≡ true → recordsIn view startedClerk text ≡ written (viewed view) (arraysRun text)
 read-written view text h =
     sym (append-nil (recordsIn view startedClerk text))
-    ∙ ap (λ b. recordsIn view startedClerk text ++ pick b (viewed view (unended (afterAll fresh text .line))) []) (sym (none-owed (afterAll fresh text) h))
+    ∙ ap (λ b. recordsIn view startedClerk text ++ pick b (viewed view (unended (afterAll fresh text))) []) (sym (none-owed (afterAll fresh text) h))
     ∙ last-records view text
 
 -- and of the text with whatever follows

@@ -33,7 +33,7 @@ module _ (view : View) (c : Clerk) (out : List ℕ) (at : ℕ) where
   ends-full e f = (rw (e, f), rw (e, f))
 
   -- the record is written
-  pub ends-put : {to : ℕ} {after : List ℕ} → owing (c .splitter) ≡ true → roomy out at ≡ true → Wrote at to (viewed view (unended (c .splitter .line))) out after →
+  pub ends-put : {to : ℕ} {after : List ℕ} → owing (c .splitter) ≡ true → roomy out at ≡ true → Wrote at to (viewed view (unended (c .splitter))) out after →
       Ends view c out at (record { at = to; full = false }) after
   unfolding finishOf
   ends-put e f w = (rw (e, f) (ap (λ n. record { at = n; full = false }) (w .ends)), rw (e, f) (w .holds ∙ rw (w .ends)))

@@ -27,7 +27,7 @@ use Rattle.program_rules.specs.LinesTold.{requestOf, requestsFrom}
 line-history : (d : Desk) (n : ℕ) (r : Reading) (rs : List Request) (h : History) → h ≡ historyOf (answered step d n r .desk) rs →
     let t = answered step d n r .told in (recordsOf (t .request) (t .said) (t .wakes) ++ h ≡ historyOf d (requestOf r ++ rs))
 unfolding answered requestOf writes recordsBy
-line-history d n Bad rs h e = unfold recordsOf ownRecords wakeRecords in e
+line-history d n (Bad at) rs h e = unfold recordsOf ownRecords wakeRecords in e
 line-history d n (Good l job cell) rs h e = ap (λ k. events d (record { kind = byteOf l; job = job; cell = cell }) ++ k) e
 
 -- all lines
@@ -46,7 +46,7 @@ history-from-one text = run-history (freshDesk 1) 1 (linesOf text)
 -- the desk after one line: a bad one is no request and changes nothing, and a good one is a step
 line-desk : (d : Desk) (n : ℕ) (r : Reading) (rs : List Request) → through step (answered step d n r .desk) rs ≡ through step d (requestOf r ++ rs)
 unfolding answered requestOf
-line-desk d n Bad rs = refl
+line-desk d n (Bad at) rs = refl
 line-desk d n (Good l job cell) rs = refl
 
 -- after all lines

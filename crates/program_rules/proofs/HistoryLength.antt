@@ -25,7 +25,7 @@ use Rattle.program_rules.proofs.StartedHistory.{recorded, bad-records}
 -- the records of a line and those who wait after it are at most one more than those who waited before
 line-few : (D : Desk) (n : ℕ) (r : Reading) → length (recorded (answered step D n r .told)) + waitersOf (answered step D n r .desk) ≤ suc (waitersOf D)
 unfolding answered recordsBy
-line-few D n Bad = omega (arith, ap length bad-records)
+line-few D n (Bad at) = omega (arith, ap length (bad-records at))
 line-few D n (Good l job cell) = few-records D (record { kind = byteOf l; job = job; cell = cell })
 
 -- so all lines have at most one record each, and one for each who waited before them

@@ -15,6 +15,7 @@ use Rattle.text_rules.specs.declared.Reading.{Reading}
 use Rattle.text_rules.specs.declared.Reading.the-variants.{Good, Bad}
 use Rattle.text_rules.specs.Lines.{readLine}
 use Rattle.text_rules.specs.Split.{linesOf}
+use Rattle.terms.specs.declared.refusals.Field.{Field}
 use Rattle.terms.specs.declared.refusals.Refusal.the-variants.{BadLine}
 use Rattle.desk_rules.specs.declared.Answer.the-variants.{No}
 use Rattle.desk_rules.specs.Desk.{Desk, freshDesk}
@@ -33,20 +34,20 @@ abbrev pub recorded : Told → History
 recorded t = recordsOf (t .request) (t .said) (t .wakes)
 
 -- a bad line has none
-pub bad-records : recordsOf noRequest (No BadLine) [] ≡ []
+pub bad-records : (at : Field) → recordsOf noRequest (No (BadLine at)) [] ≡ []
 unfolding recordsOf ownRecords wakeRecords
-bad-records = refl
+bad-records at = refl
 
 -- one line, on any desk: a bad one changes nothing, and a good one is a step
 pub line-started : {S : Type 0} {does : Stepping S} {new : ℕ → S} {d : S} {h : History} → StartedOn does new d h → (n : ℕ) (r : Reading) → StartedOn does new (answered does d n r .desk) (h ++ recorded (answered does d n r .told))
 unfolding answered recordsBy
-line-started {does = does} {new} {d} {h} s n Bad = subst (StartedOn does new d) (sym (append-nil h) ∙ ap (λ k. h ++ k) (sym bad-records)) s
+line-started {does = does} {new} {d} {h} s n (Bad at) = subst (StartedOn does new d) (sym (append-nil h) ∙ ap (λ k. h ++ k) (sym (bad-records at))) s
 line-started s n (Good l job cell) = after s (record { kind = byteOf l; job = job; cell = cell })
 
 -- the next number grows by the numbers that a line gives
 line-next : (D : Desk) (n : ℕ) (r : Reading) → let t = answered step D n r .told in (answered step D n r .desk .next ≡ D .next + length (givenBy (t .request) (t .said)))
 unfolding answered
-line-next D n Bad = unfold givenBy numberIn noRequest in omega arith
+line-next D n (Bad at) = unfold givenBy numberIn noRequest in omega arith
 line-next D n (Good l job cell) = by-gives (step-gives D (record { kind = byteOf l; job = job; cell = cell }))
   where
     by-gives : {ns : List ℕ} {e : Desk} → Gives D ns e → e .next ≡ D .next + length ns

@@ -10,6 +10,7 @@ use lib.ListN.{length, take}
 use borrow.Author.Tests.{lt-ltb, le-ltb, leb-true}
 use Rattle.laws.specs.Choice.{by-test, not-both}
 use Rattle.terms.specs.declared.letters.Letter.{Letter}
+use Rattle.terms.specs.declared.refusals.Field.{Field}
 use Rattle.terms.specs.Letters.{byteOf, ofRequests}
 use Rattle.terms.specs.Limits.{requestLines}
 use Rattle.text_rules.specs.declared.Reading.the-variants.{Good, Bad}
@@ -25,7 +26,7 @@ use Rattle.program_rules.specs.declared.Clerk.{Clerk}
 use Rattle.program_rules.specs.declared.View.{View}
 use Rattle.program_rules.specs.OverLines.{Told, answered, lineBy}
 use Rattle.desk_arrays.specs.Stands.{wakesTold}
-use Rattle.program_rules.specs.Work.{viewed, roomy, due, unended, Turn, answering, turning, cutting, stopped, workBy}
+use Rattle.program_rules.specs.Work.{viewed, roomy, due, toldBad, Turn, answering, turning, cutting, stopped, workBy}
 
 module _ (view : View) (c : Clerk) (chunk : List ℕ) (from : ℕ) (out : List ℕ) (at : ℕ) where
   -- at the chunk's end
@@ -75,10 +76,10 @@ module _ (view : View) (c : Clerk) (out : List ℕ) (at : ℕ) where
   turn-passes e = rw e
 
   -- a bad line
-  pub turn-bad : {to : ℕ} {after : List ℕ} → due (c .splitter) ≡ true → readLine ofRequests (foundAt (c .splitter) .bytes) ≡ Bad →
-      Wrote at to (viewed view (unended (c .splitter .line))) out after →
+  pub turn-bad : {to : ℕ} {after : List ℕ} {field : Field} → due (c .splitter) ≡ true → readLine ofRequests (foundAt (c .splitter) .bytes) ≡ Bad field →
+      Wrote at to (viewed view (toldBad (c .splitter .line) field)) out after →
       turning view c out at ≡ record { clerk = c; at = to; out = after }
-  unfolding turning answering lineBy answered unended
+  unfolding turning answering lineBy answered toldBad
   turn-bad e f w = rw (e, f) (turn-is c w)
 
   -- a good line

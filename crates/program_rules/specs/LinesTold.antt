@@ -6,6 +6,7 @@ use mathlib.Core.List.{List, [], _∷_, _++_}
 use mathlib.Core.Option.{some}
 use lib.Dec.{ltb}
 use Rattle.laws.specs.Choice.{pick}
+use Rattle.terms.specs.declared.refusals.Field.{Field}
 use Rattle.terms.specs.declared.refusals.Refusal.the-variants.{BadLine}
 use Rattle.terms.specs.Letters.{ofRequests}
 use Rattle.terms.specs.Limits.{requestLines}
@@ -16,16 +17,16 @@ use Rattle.desk_rules.specs.declared.Answer.the-variants.{No}
 use Rattle.desk_rules.specs.Desk.{Request}
 use Rattle.program_rules.specs.OverLines.{Told, requestIn}
 
--- of lines numbered from n on: each up to line 1,000,000 has its answer under its number, and that is refusal 9 exactly where the line is bad; what follows has none (01, Lines)
+-- of lines numbered from n on: each up to line 1,000,000 has its answer under its number, and that is refusal 9 with a field exactly where the line is bad at that field; what follows has none (01, Lines; 02, No. 5)
 pub data LinesTold : ℕ → List (List ℕ) → List Told → Type 0 where
   no-line : {n : ℕ} → LinesTold n [] []
   no-more : {n : ℕ} {ls : List (List ℕ)} → requestLines < n → LinesTold n ls []
   a-line : {n : ℕ} {l : List ℕ} {ls : List (List ℕ)} {t : Told} {ts : List Told} → n ≤ requestLines → t .line ≡ n →
-      (t .said ≡ No BadLine) ↔ (refusalOf (readLine ofRequests l) ≡ some BadLine) → LinesTold (n + 1) ls ts → LinesTold n (l ∷ ls) (t ∷ ts)
+      ((at : Field) → (t .said ≡ No (BadLine at)) ↔ (refusalOf (readLine ofRequests l) ≡ some (BadLine at))) → LinesTold (n + 1) ls ts → LinesTold n (l ∷ ls) (t ∷ ts)
 
 -- the request that a line says; a bad line says none
 unfoldable pub requestOf : Reading → List Request
-requestOf Bad = []
+requestOf (Bad at) = []
 requestOf (Good l job cell) = requestIn (Good l job cell) ∷ []
 
 -- the requests that lines numbered from n on say, up to line 1,000,000

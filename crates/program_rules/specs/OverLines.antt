@@ -15,7 +15,7 @@ use Rattle.text_rules.specs.Lines.{refusalOf, readLine}
 use Rattle.text_rules.specs.Records.{answerRecord}
 use Rattle.desk_rules.specs.declared.Answer.{Answer}
 use Rattle.desk_rules.specs.declared.Answer.the-variants.{No}
-use Rattle.desk_rules.specs.AnswerWords.{wordOf, numberBeside}
+use Rattle.desk_rules.specs.AnswerWords.{wordOf, numberBeside, fieldBeside}
 use Rattle.desk_rules.specs.Desk.{Request}
 use Rattle.desk_rules.specs.Stepping.{Stepping}
 use Rattle.desk_rules.specs.Step.{recordsOf}
@@ -39,7 +39,7 @@ pub record Lined (S : Type 0) : Type 0 where
 
 -- the request that a line says; a bad line says none
 abbrev pub requestIn : Reading → Request
-requestIn Bad = noRequest
+requestIn (Bad at) = noRequest
 requestIn (Good l job cell) = record { kind = byteOf l; job = job; cell = cell }
 
 -- a line that the reader refuses is answered by that refusal, and the desk does not see it; any other is a step
@@ -47,7 +47,7 @@ abbrev pub answeredBy : {S : Type 0} → Stepping S → S → ℕ → Request �
 answeredBy step d n r (some why) = record { desk = d; told = record { line = n; request = r; said = No why; wakes = [] } }
 answeredBy step d n r none = let o = step d r in record { desk = o .desk; told = record { line = n; request = r; said = o .said; wakes = o .wakes } }
 
--- a line is answered as it reads: refusal 9 where it is bad, and else a step
+-- a line is answered as it reads: refusal 9 with the field at fault where it is bad, and else a step
 unfoldable pub answered : {S : Type 0} → Stepping S → S → ℕ → Reading → Lined S
 answered step d n r = answeredBy step d n (requestIn r) (refusalOf r)
 
@@ -66,11 +66,11 @@ runOf step d n (l ∷ ls) =
 -- one wake record for each wake (01, Lines)
 unfoldable pub wakeLines : ℕ → List Action → List ℕ
 wakeLines n [] = []
-wakeLines n (a ∷ rest) = answerRecord n Wake (a .job) ++ wakeLines n rest
+wakeLines n (a ∷ rest) = answerRecord n Wake (a .job) 0 ++ wakeLines n rest
 
--- the answer records of a line: its answer, then its wakes (01, Lines)
+-- the answer records of a line: its answer, of refusal 9 with the field at fault, then its wakes (01, Lines; 02, No. 5)
 unfoldable pub answerLines : Told → List ℕ
-answerLines t = answerRecord (t .line) (wordOf (t .said)) (numberBeside (t .said)) ++ wakeLines (t .line) (t .wakes)
+answerLines t = answerRecord (t .line) (wordOf (t .said)) (numberBeside (t .said)) (fieldBeside (t .said)) ++ wakeLines (t .line) (t .wakes)
 
 -- the history records of a line: those of its step (01, Lines)
 unfoldable pub historyLines : Told → List ℕ

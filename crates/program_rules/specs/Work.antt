@@ -5,9 +5,13 @@ use mathlib.Core.List.{List, []}
 use lib.Dec.{ltb, leb}
 use lib.ListN.{length}
 use Rattle.laws.specs.Choice.{pick}
+use Rattle.terms.specs.declared.refusals.Field.{Field}
 use Rattle.terms.specs.declared.refusals.Refusal.the-variants.{BadLine}
+use Rattle.terms.specs.Letters.{ofRequests}
 use Rattle.terms.specs.Limits.{places, requestLines}
 use Rattle.text_rules.specs.declared.splitter.Splitter.{Splitter}
+use Rattle.text_rules.specs.Fields.{lacking}
+use Rattle.text_rules.specs.Lines.{readLine}
 use Rattle.text_rules.specs.Records.{longestRecord}
 use Rattle.text_rules.specs.Split.{fresh, cutOf, foundAt}
 use Rattle.text_rules.specs.Wrote.{putFrom}
@@ -96,9 +100,13 @@ pub record Finishing : Type 0 where
   pub finished : Finished
   pub out : List ℕ
 
--- what is told of a line that lacks its newline: refusal 9 (01, Lines)
-unfoldable pub unended : ℕ → Told
-unended n = record { line = n; request = noRequest; said = No BadLine; wakes = [] }
+-- what is told of a bad line: refusal 9, with the field at fault (01, Lines; 02, No. 5)
+unfoldable pub toldBad : ℕ → Field → Told
+toldBad n at = record { line = n; request = noRequest; said = No (BadLine at); wakes = [] }
+
+-- what is told of the line in the splitter where the input has ended before its newline
+unfoldable pub unended : Splitter → Told
+unended s = toldBad (s .line) (lacking (readLine ofRequests (foundAt s .bytes)))
 
 -- a line is under way that is to be answered although it lacks its newline
 unfoldable pub owing : Splitter → Bool
@@ -108,10 +116,10 @@ owing s = not (s .ended) && leb (s .line) requestLines
 unfoldable pub allRead : Splitter → Bool
 allRead s = pick (s .ended) (leb requestLines (s .line)) (ltb requestLines (s .line))
 
--- the end of the input: a line that lacks its newline is answered by refusal 9 if its number is at most 1,000,000 (01, Lines)
+-- the end of the input: a line that lacks its newline is answered by refusal 9, with the field at fault, if its number is at most 1,000,000 (01, Lines; 02, No. 5)
 unfoldable pub finishOf : View → Clerk → List ℕ → ℕ → Finishing
 finishOf view c out at =
-    let bytes = viewed view (unended (c .splitter .line)) in
+    let bytes = viewed view (unended (c .splitter)) in
     pick (owing (c .splitter))
     (pick (roomy out at)
     (record { finished = record { at = at + length bytes; full = false }; out = putFrom out at bytes })

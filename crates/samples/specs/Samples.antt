@@ -53,6 +53,10 @@ scorers = "b\nb\nu\t2\t5\nu\t1\t5\nw\t2\t5\nc\t2\nw\t1\t5\nc\t1\n"
 abbrev pub scorers-history : String
 scorers-history = "r\t2\t5\nw\t2\t5\nc\t2\nr\t1\t5\nw\t1\t5\nc\t1\n"
 
+-- bad lines, three or four for each field at fault; the last of them lacks its newline (02, No. 5)
+abbrev pub spoilt : String
+spoilt = "\nb \nk\t1\nc\nc\t1 \nr\t7x\t5\nr\t1\t5x\nr\t1\t5\r\nr\t1\nr\t1\t100\nb\t\nc\t1\t5\nb"
+
 -- the starred samples, S1 to S9, then the update lock's case and the chains, and after them ours; jobs are begun first, cell 5 unless said
 abbrev pub samples : List Sample
 samples =
@@ -128,7 +132,7 @@ samples =
     ∷ record {
       program = answers;
       input = returns;
-      output = "1\tgo\t1\n2\tgo\t2\n3\tgo\t1\n4\tback\t2\n5\tgo\t2\n6\tgo\t2\n7\twait\t1\n8\tgo\t2\n8\twake\t1\n9\tno\t8\n10\tgo\t1\n11\tno\t9\n";
+      output = "1\tgo\t1\n2\tgo\t2\n3\tgo\t1\n4\tback\t2\n5\tgo\t2\n6\tgo\t2\n7\twait\t1\n8\tgo\t2\n8\twake\t1\n9\tno\t8\n10\tgo\t1\n11\tno\t9\t1\n";
     }
     ∷ record { program = history; input = returns; output = "r\t1\t5\nk\t2\nr\t2\t5\na\t2\nw\t1\t5\nr\t1\t5\n" }
     -- ours: u beside a read, against another u, and woken; its history has r for u (02, No. 1)
@@ -138,9 +142,19 @@ samples =
       output = "1\tgo\t1\n2\tgo\t2\n3\tgo\t3\n4\tgo\t3\n5\tgo\t2\n6\twait\t1\n7\tback\t3\n8\tgo\t2\n9\tgo\t2\n10\tgo\t2\n10\twake\t1\n";
     }
     ∷ record { program = history; input = updates; output = "r\t3\t5\nr\t2\t5\nk\t3\nr\t2\t5\nw\t2\t5\nc\t2\nr\t1\t5\n" }
+    -- bad lines: each with its field; the last lacks its newline after a letter that stands alone, then after one that does not, and after no letter (02, No. 5)
+    ∷ record {
+      program = answers;
+      input = spoilt;
+      output = "1\tno\t9\t1\n2\tno\t9\t1\n3\tno\t9\t1\n4\tno\t9\t2\n5\tno\t9\t2\n6\tno\t9\t2\n7\tno\t9\t3\n8\tno\t9\t3\n9\tno\t9\t3\n10\tno\t9\t3\n11\tno\t9\t4\n12\tno\t9\t4\n13\tno\t9\t4\n";
+    }
+    ∷ record { program = answers; input = "r"; output = "1\tno\t9\t2\n" }
+    ∷ record { program = answers; input = "r\t1"; output = "1\tno\t9\t3\n" }
+    ∷ record { program = answers; input = "x"; output = "1\tno\t9\t1\n" }
+    ∷ record { program = verdict; input = "r\t1\t0\nr\t7x\t5\n"; output = "no\t2\t9\t2\n" }
     -- ours: what job 1 read before its k does not count; after an a there is no further line; t and u are of no history
     ∷ record { program = verdict; input = "r\t1\t0\nw\t2\t0\nk\t1\nr\t1\t0\nc\t1\nc\t2\n"; output = "orderly\t2\t1\n" }
     ∷ record { program = verdict; input = "r\t1\t0\na\t1\nc\t1\n"; output = "no\t3\t13\n" }
-    ∷ record { program = verdict; input = "r\t1\t0\nt\t1\nc\t1\n"; output = "no\t2\t9\n" }
-    ∷ record { program = verdict; input = "r\t1\t0\nu\t1\t0\nc\t1\n"; output = "no\t2\t9\n" }
+    ∷ record { program = verdict; input = "r\t1\t0\nt\t1\nc\t1\n"; output = "no\t2\t9\t1\n" }
+    ∷ record { program = verdict; input = "r\t1\t0\nu\t1\t0\nc\t1\n"; output = "no\t2\t9\t1\n" }
     ∷ []

@@ -16,6 +16,10 @@ use Rattle.terms.proofs.letters.has_cell.Reads as has-cell
 use Rattle.terms.proofs.letters.has_cell.Kinds as has-cellK
 use Rattle.terms.proofs.refusals.number_of.Reads as number-of
 use Rattle.terms.proofs.refusals.number_of.Kinds as number-ofK
+use Rattle.terms.proofs.refusals.field_number.Reads as field-number
+use Rattle.terms.proofs.refusals.field_number.Kinds as field-numberK
+use Rattle.terms.proofs.refusals.field_of.Reads as field-of
+use Rattle.terms.proofs.refusals.field_of.Kinds as field-ofK
 use Rattle.terms.proofs.words.spelled.Reads as spelled
 use Rattle.terms.proofs.words.spelled.Kinds as spelledK
 use Rattle.terms.proofs.limits.all_limits.Reads as all-limits
@@ -41,6 +45,12 @@ has-cell-unique κs a x y e f p q = p ∙ sym q
 
 pub number-of-unique : Unique number-ofK.ps number-ofK.r number-of.Post
 number-of-unique κs a x y e f p q = p ∙ sym q
+
+pub field-number-unique : Unique field-numberK.ps field-numberK.r field-number.Post
+field-number-unique κs a x y e f p q = p ∙ sym q
+
+pub field-of-unique : Unique field-ofK.ps field-ofK.r field-of.Post
+field-of-unique κs a x y e f p q = p ∙ sym q
 
 pub spelled-unique : Unique spelledK.ps spelledK.r spelled.Post
 spelled-unique κs a x y e f p q = p ∙ sym q

@@ -1,5 +1,7 @@
--- The refusals with their numbers, the one table of them (01, Refusals by number).
+-- The refusals with their numbers, the one table of them, and the field that a bad line's refusal tells (01, Refusals by number; 02, No. 5).
 use Prim.Native.Nat.{ℕ}
+use Rattle.terms.specs.declared.refusals.Field.{Field}
+use Rattle.terms.specs.declared.refusals.Field.the-variants.{First, Second, Third, Fourth}
 use Rattle.terms.specs.declared.refusals.Refusal.{Refusal}
 use Rattle.terms.specs.declared.refusals.Refusal.the-variants.{UnknownKind, CellAbove, NotOpen, Waiting, SentBack, AllOpen, NoNumberLeft, Running, BadLine, StartedAtZero, TooManyLines, JobOutside, Ended, ShortOrder, NoRoom, TooLong, ShortList}
 
@@ -22,7 +24,7 @@ numberOf NoNumberLeft = 7
 -- retry of a running job
 numberOf Running = 8
 -- bad line
-numberOf BadLine = 9
+numberOf (BadLine field) = 9
 -- desk started at number 0
 numberOf StartedAtZero = 10
 -- history has a line 4,097
@@ -39,3 +41,30 @@ numberOf NoRoom = 15
 numberOf TooLong = 16
 -- fewer than 32 places lent for the list of a chain (02, No. 3)
 numberOf ShortList = 18
+
+-- the field at fault: 1 letter, 2 job, 3 cell, 4 anything after the last field that the letter has (02, No. 5)
+abbrev pub fieldNumber : Field → ℕ
+fieldNumber First = 1
+fieldNumber Second = 2
+fieldNumber Third = 3
+fieldNumber Fourth = 4
+
+-- the field beside a refusal's number: a bad line's, and 0 of any other refusal (02, No. 5)
+abbrev pub fieldOf : Refusal → ℕ
+fieldOf UnknownKind = 0
+fieldOf CellAbove = 0
+fieldOf NotOpen = 0
+fieldOf Waiting = 0
+fieldOf SentBack = 0
+fieldOf AllOpen = 0
+fieldOf NoNumberLeft = 0
+fieldOf Running = 0
+fieldOf (BadLine field) = fieldNumber field
+fieldOf StartedAtZero = 0
+fieldOf TooManyLines = 0
+fieldOf JobOutside = 0
+fieldOf Ended = 0
+fieldOf ShortOrder = 0
+fieldOf NoRoom = 0
+fieldOf TooLong = 0
+fieldOf ShortList = 0

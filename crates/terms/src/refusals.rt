@@ -1,6 +1,18 @@
-// The refusals and their numbers (01, Refusals by number).
+// The refusals and their numbers, and the field at fault of a bad line (01, Refusals by number; 02, No. 5).
 ghost use mathlib.Core.Path.{_≡_};
-ghost use Rattle.terms.specs.Refusals.{numberOf};
+ghost use Rattle.terms.specs.Refusals.{numberOf, fieldNumber, fieldOf};
+
+// The field at fault of a bad line.
+pub enum Field {
+    // 1: the letter
+    First,
+    // 2: the job
+    Second,
+    // 3: the cell
+    Third,
+    // 4: what stands after the last field that the letter has
+    Fourth,
+}
 
 // Why a request, a line, a history or a buffer is refused, in the order of the paper's table.
 pub enum Refusal {
@@ -20,8 +32,8 @@ pub enum Refusal {
     NoNumberLeft,
     // 8: retry of a running job
     Running,
-    // 9: bad line
-    BadLine,
+    // 9: bad line, with the field at fault
+    BadLine(Field),
     // 10: desk started at number 0
     StartedAtZero,
     // 11: history has a line 4,097
@@ -53,7 +65,7 @@ pub fn number_of(r: Refusal) -> u8
         Refusal::AllOpen => 6,
         Refusal::NoNumberLeft => 7,
         Refusal::Running => 8,
-        Refusal::BadLine => 9,
+        Refusal::BadLine(_) => 9,
         Refusal::StartedAtZero => 10,
         Refusal::TooManyLines => 11,
         Refusal::JobOutside => 12,
@@ -62,5 +74,42 @@ pub fn number_of(r: Refusal) -> u8
         Refusal::NoRoom => 15,
         Refusal::TooLong => 16,
         Refusal::ShortList => 18,
+    }
+}
+
+// The number of a field.
+pub fn field_number(f: Field) -> u8
+    ensures { λ n. ⌜ n ≡ fieldNumber f ⌝ }
+{
+    match f {
+        Field::First => 1,
+        Field::Second => 2,
+        Field::Third => 3,
+        Field::Fourth => 4,
+    }
+}
+
+// The field beside a refusal's number: that of a bad line, and 0 of any other.
+pub fn field_of(r: Refusal) -> u8
+    ensures { λ n. ⌜ n ≡ fieldOf r ⌝ }
+{
+    match r {
+        Refusal::UnknownKind => 0,
+        Refusal::CellAbove => 0,
+        Refusal::NotOpen => 0,
+        Refusal::Waiting => 0,
+        Refusal::SentBack => 0,
+        Refusal::AllOpen => 0,
+        Refusal::NoNumberLeft => 0,
+        Refusal::Running => 0,
+        Refusal::BadLine(f) => field_number(f),
+        Refusal::StartedAtZero => 0,
+        Refusal::TooManyLines => 0,
+        Refusal::JobOutside => 0,
+        Refusal::Ended => 0,
+        Refusal::ShortOrder => 0,
+        Refusal::NoRoom => 0,
+        Refusal::TooLong => 0,
+        Refusal::ShortList => 0,
     }
 }

@@ -1,5 +1,6 @@
 pub mod NumberFields
 pub mod LineParts
+pub mod TornLines
 pub mod ReaderUnique
 pub mod WordLaws
 pub mod WriterUnique

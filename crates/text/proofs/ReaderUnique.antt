@@ -6,9 +6,14 @@ use Rattle.text.proofs.reader.read_request.Reads as read-request
 use Rattle.text.proofs.reader.read_request.Kinds as read-requestK
 use Rattle.text.proofs.reader.read_history.Reads as read-history
 use Rattle.text.proofs.reader.read_history.Kinds as read-historyK
+use Rattle.text.proofs.reader.torn_request.Reads as torn-request
+use Rattle.text.proofs.reader.torn_request.Kinds as torn-requestK
 
 pub read-request-unique : Unique read-requestK.ps read-requestK.r read-request.Post
 read-request-unique κs a x y e f p q = p ∙ sym q
 
 pub read-history-unique : Unique read-historyK.ps read-historyK.r read-history.Post
 read-history-unique κs a x y e f p q = p ∙ sym q
+
+pub torn-request-unique : Unique torn-requestK.ps torn-requestK.r torn-request.Post
+torn-request-unique κs a x y e f p q = p ∙ sym q

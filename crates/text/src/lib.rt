@@ -4,6 +4,7 @@ pub mod writer;
 
 pub use reader::read_history;
 pub use reader::read_request;
+pub use reader::torn_request;
 pub use writer::has_room;
 pub use writer::width;
 pub use writer::write_answer;

@@ -1,4 +1,5 @@
-// The line reader: what one line of requests or of a history says (01, Lines).
+// The line reader: what one line of requests or of a history says, field by field (01, Lines; 02, No. 5).
+use terms::Field;
 use terms::Letter;
 use terms::Lettered;
 use terms::has_cell;
@@ -14,8 +15,8 @@ use text_rules::Reading;
 ghost use mathlib.Core.Path.{_≡_};
 ghost use lib.ListN.{drop};
 ghost use Rattle.terms.specs.Letters.{ofRequests, ofHistories};
-ghost use Rattle.text_rules.specs.Lines.{isDigit, digitsOf, shortest, ending, cellPart, jobPart, readLine};
-ghost use Rattle.text_rules.specs.Fields.{digitAhead, firstLetter, digitsAt, numberAt};
+ghost use Rattle.text_rules.specs.Lines.{parts, isDigit, shortest, ending, cellPart, jobPart, readLine};
+ghost use Rattle.text_rules.specs.Fields.{digitsOf, digitAhead, endAhead, firstLetter, digitsAt, numberAt, lacking};
 
 // A cell has one or two digits.
 const LAST_CELL: u32 = 99;
@@ -25,6 +26,24 @@ fn is_digit(byte: u8) -> bool
     ensures { λ r. ⌜ r ≡ isDigit byte ⌝ }
 {
     b'0' <= byte && byte <= b'9'
+}
+
+// Whether a field ends before a byte: a tab or a newline.
+fn ends_field(byte: u8) -> bool
+    ensures { λ r. ⌜ r ≡ parts byte ⌝ }
+{
+    byte == TAB || byte == NEWLINE
+}
+
+// Whether a field ends before a place of a line: a tab or a newline stands there, or nothing.
+fn end_ahead(line: &[u8], at: usize) -> bool
+    ensures { λ r. ⌜ r ≡ endAhead (drop at (now (line .entry))) ⌝ }
+{
+    if at < line.len() {
+        ends_field(line[at])
+    } else {
+        true
+    }
 }
 
 // Whether a digit stands at a place of a line.
@@ -54,7 +73,7 @@ fn shortest_at(line: &[u8], from: usize) -> bool
     false
 }
 
-// The number of the digits from a place on, read no further than it can still be small enough.
+// The number of the digits from a place on, which are all of their field, read no further than it can still be small enough.
 fn digits_at(line: &[u8], from: usize, most: u32) -> Numeral
     ensures { λ r. ⌜ r ≡ digitsAt most 0 from (drop from (now (line .entry))) ⌝ }
 {
@@ -63,7 +82,10 @@ fn digits_at(line: &[u8], from: usize, most: u32) -> Numeral
     while next < line.len() {
         let byte = line[next];
         if !is_digit(byte) {
-            return Numeral::Is { value, next };
+            if ends_field(byte) {
+                return Numeral::Is { value, next };
+            }
+            return Numeral::Missing;
         }
         let more = (value as u64) * 10 + ((byte - b'0') as u64);
         if more > most as u64 {
@@ -75,7 +97,7 @@ fn digits_at(line: &[u8], from: usize, most: u32) -> Numeral
     Numeral::Is { value, next }
 }
 
-// The number field at a place of a line: a tab and the digits of a number that is at most so large.
+// The number field at a place of a line: a tab and the digits of a number that is at most so large, and nothing else.
 fn number_at(line: &[u8], from: usize, most: u32) -> Numeral
     ensures { λ r. ⌜ r ≡ numberAt most from (drop from (now (line .entry))) ⌝ }
 {
@@ -97,13 +119,13 @@ fn ending_at(line: &[u8], from: usize, good: Reading) -> Reading
     if from < line.len() {
         let next = from + 1;
         if next < line.len() {
-            return Reading::Bad;
+            return Reading::Bad(Field::Fourth);
         }
         if line[from] == NEWLINE {
             return good;
         }
     }
-    Reading::Bad
+    Reading::Bad(Field::Fourth)
 }
 
 // The rest of a line from a place on, after letter and job: the cell, where the letter has one, and the end.
@@ -121,7 +143,7 @@ fn cell_part(line: &[u8], from: usize, letter: Letter, job: u32) -> Reading
                     cell: value,
                 },
             ),
-            Numeral::Missing => Reading::Bad,
+            Numeral::Missing => Reading::Bad(Field::Third),
         }
     } else {
         ending_at(
@@ -143,22 +165,23 @@ fn job_part(line: &[u8], letter: Letter) -> Reading
     if has_job(letter) {
         match number_at(line, 1, LAST_NUMBER) {
             Numeral::Is { value, next } => cell_part(line, next, letter, value),
-            Numeral::Missing => Reading::Bad,
+            Numeral::Missing => Reading::Bad(Field::Second),
         }
     } else {
         cell_part(line, 1, letter, 0)
     }
 }
 
-// The letter that a line begins with.
+// The letter that a line begins with, where its first field ends after it.
 fn first_letter(line: &[u8]) -> Lettered
     ensures { λ r. ⌜ r ≡ firstLetter (now (line .entry)) ⌝ }
 {
     if 0 < line.len() {
-        letter_of(line[0])
-    } else {
-        Lettered::Unknown
+        if end_ahead(line, 1) {
+            return letter_of(line[0]);
+        }
     }
+    Lettered::Unknown
 }
 
 // What a line of requests says.
@@ -170,10 +193,10 @@ pub fn read_request(line: &[u8]) -> Reading
             if of_requests(letter) {
                 job_part(line, letter)
             } else {
-                Reading::Bad
+                Reading::Bad(Field::First)
             }
         }
-        Lettered::Unknown => Reading::Bad,
+        Lettered::Unknown => Reading::Bad(Field::First),
     }
 }
 
@@ -186,9 +209,53 @@ pub fn read_history(line: &[u8]) -> Reading
             if of_histories(letter) {
                 job_part(line, letter)
             } else {
-                Reading::Bad
+                Reading::Bad(Field::First)
             }
         }
-        Lettered::Unknown => Reading::Bad,
+        Lettered::Unknown => Reading::Bad(Field::First),
+    }
+}
+
+// The field at fault of a line that lacks its newline, after letter and job: the cell, where the letter has one and it is not right, or else the end.
+fn torn_cell(line: &[u8], from: usize, letter: Letter) -> Field
+    ensures { λ r. ⌜ r ≡ lacking (cellPart letter 0 (drop from (now (line .entry)))) ⌝ }
+{
+    if has_cell(letter) {
+        match number_at(line, from, LAST_CELL) {
+            Numeral::Is { value: _, next: _ } => Field::Fourth,
+            Numeral::Missing => Field::Third,
+        }
+    } else {
+        Field::Fourth
+    }
+}
+
+// The same after its letter: the job, where the letter has one and it is not right, or else what follows.
+fn torn_job(line: &[u8], letter: Letter) -> Field
+    ensures { λ r. ⌜ r ≡ lacking (jobPart letter (drop 1 (now (line .entry)))) ⌝ }
+{
+    if has_job(letter) {
+        match number_at(line, 1, LAST_NUMBER) {
+            Numeral::Is { value: _, next } => torn_cell(line, next, letter),
+            Numeral::Missing => Field::Second,
+        }
+    } else {
+        torn_cell(line, 1, letter)
+    }
+}
+
+// The field at fault of a request that lacks its newline.
+pub fn torn_request(line: &[u8]) -> Field
+    ensures { λ r. ⌜ r ≡ lacking (readLine ofRequests (now (line .entry))) ⌝ }
+{
+    match first_letter(line) {
+        Lettered::Known(letter) => {
+            if of_requests(letter) {
+                torn_job(line, letter)
+            } else {
+                Field::First
+            }
+        }
+        Lettered::Unknown => Field::First,
     }
 }

@@ -14,7 +14,7 @@ ghost use mathlib.Core.Path.{_≡_};
 ghost use mathlib.Core.Bool.{true};
 ghost use mathlib.Core.List.{[], _∷_, _++_};
 ghost use Prim.Native.Nat.{_+_, _≤_, _<_};
-ghost use lib.Dec.{leb};
+ghost use lib.Dec.{ltb, leb};
 ghost use lib.ListN.{length};
 ghost use Rattle.terms.specs.Letters.{hasJob, hasCell};
 ghost use Rattle.terms.specs.Words.{tab, newline, spelt};
@@ -22,17 +22,26 @@ ghost use Rattle.text_rules.specs.Decimal.{decimal};
 ghost use Rattle.text_rules.specs.Wrote.{Wrote};
 ghost use Rattle.text_rules.specs.Records.{field, answerRecord, lineRecord, told, left};
 
-// How many digits a number has in shortest decimal.
+// How many digits a number has in shortest decimal: four at a time, and then the few that are left.
 pub fn width(n: u64) -> usize
     ensures { λ r. ⌜ r ≡ length (decimal n) ⌝ }
 {
     let mut w: usize = 1;
     let mut rest = n;
-    while rest >= 10 {
-        rest = rest / 10;
-        w += 1;
+    while rest >= 10_000 {
+        rest = rest / 10_000;
+        w += 4;
     }
-    w
+    if rest < 10 {
+        return w;
+    }
+    if rest < 100 {
+        return w + 1;
+    }
+    if rest < 1_000 {
+        return w + 2;
+    }
+    w + 3
 }
 
 // How many bytes a further field has: a tab and the number, where there is one.
@@ -121,7 +130,7 @@ fn put_last(part: &mut [u8], there: bool, n: u64, len: usize) -> usize
     end + 1
 }
 
-// An answer record, of whose first and third field the lengths are known: each field is written into the part after the one before.
+// An answer record, of whose first, third and fourth field the lengths are known: each field is written into the part after the one before.
 fn put_answer(
     part: &mut [u8],
     line: u64,
@@ -129,13 +138,16 @@ fn put_answer(
     word: Word,
     number: u64,
     third: usize,
+    fault: u64,
+    fourth: usize,
 ) -> usize
-    requires { ⌜ (first ≡ length (decimal line)) × (third ≡ length (field true number)) × (length (answerRecord line word number) ≤ length (now part)) ⌝ }
-    ensures { λ r. ⌜ Wrote 0 r (answerRecord line word number) (now (part .entry)) (now (part .exit)) ⌝ }
+    requires { ⌜ (first ≡ length (decimal line)) × (third ≡ length (field true number)) × (fourth ≡ length (field (ltb 0 fault) fault)) × (length (answerRecord line word number fault) ≤ length (now part)) ⌝ }
+    ensures { λ r. ⌜ Wrote 0 r (answerRecord line word number fault) (now (part .entry)) (now (part .exit)) ⌝ }
 {
     let a = put_number(part, line, first);
     let b = a + put_second(&mut part[a..], word);
-    b + put_last(&mut part[b..], true, number, third)
+    let c = b + put_field(&mut part[b..], true, number, third);
+    c + put_last(&mut part[c..], 0 < fault, fault, fourth)
 }
 
 // The line of a letter, of whose second and third field the lengths are known: each field is written into the part after the one before.
@@ -155,17 +167,34 @@ fn put_line(
     b + put_last(&mut part[b..], has_cell(letter), cell, third)
 }
 
-// An answer record: request line number, word, number.
-pub fn write_answer(buf: &mut [u8], at: usize, line: u64, word: Word, number: u64) -> Written
-    ensures { λ r. ⌜ (r ≡ told (now (buf .entry)) at (answerRecord line word number)) × (now (buf .exit) ≡ left (now (buf .entry)) at (answerRecord line word number)) ⌝ }
+// An answer record: request line number, word, number, and one field more where the fourth number is not 0.
+pub fn write_answer(
+    buf: &mut [u8],
+    at: usize,
+    line: u64,
+    word: Word,
+    number: u64,
+    fault: u64,
+) -> Written
+    ensures { λ r. ⌜ (r ≡ told (now (buf .entry)) at (answerRecord line word number fault)) × (now (buf .exit) ≡ left (now (buf .entry)) at (answerRecord line word number fault)) ⌝ }
 {
     let spelling = spelled(word);
     let second = spelling.len;
     let first = width(line);
     let third = field_width(true, number);
+    let fourth = field_width(0 < fault, fault);
     let room = buf.len();
-    if has_room(room, at, first + second + third + 2) {
-        let n = put_answer(&mut buf[at..], line, first, word, number, third);
+    if has_room(room, at, first + second + third + fourth + 2) {
+        let n = put_answer(
+            &mut buf[at..],
+            line,
+            first,
+            word,
+            number,
+            third,
+            fault,
+            fourth,
+        );
         Written::Next(at + n)
     } else {
         Written::Refused(Refusal::NoRoom)

@@ -67,6 +67,30 @@ counting-next n w rest k h =
       sum = k .sum ∙ ap (λ l. w + length l) (decimal-from-ten rest h) ∙ rw (length-append (decimal (rest / 10))) (omega arith);
     }
 
+-- a number of three digits or more has two digits more than its hundredth
+pub counting-two : (n w rest : ℕ) → Counting n w rest → 100 ≤ rest → Counting n (w + 2) (rest / 100)
+counting-two n w rest k h =
+    let a = counting-next n w rest k (omega arith) in
+    let b = counting-next n (w + 1) (rest / 10) a (omega arith) in
+    let e : rest / 10 / 10 ≡ rest / 100 = omega arith in
+    record { most = k .most; some = rw e at (b .some); sum = omega (arith, rw e at (b .sum)) }
+
+-- a number of four digits or more three more than its thousandth
+pub counting-three : (n w rest : ℕ) → Counting n w rest → 1_000 ≤ rest → Counting n (w + 3) (rest / 1_000)
+counting-three n w rest k h =
+    let a = counting-two n w rest k (omega arith) in
+    let b = counting-next n (w + 2) (rest / 100) a (omega arith) in
+    let e : rest / 100 / 10 ≡ rest / 1_000 = omega arith in
+    record { most = k .most; some = rw e at (b .some); sum = omega (arith, rw e at (b .sum)) }
+
+-- and a number of five digits or more four more than its ten thousandth
+pub counting-four : (n w rest : ℕ) → Counting n w rest → 10_000 ≤ rest → Counting n (w + 4) (rest / 10_000)
+counting-four n w rest k h =
+    let a = counting-two n w rest k (omega arith) in
+    let b = counting-two n (w + 2) (rest / 100) a (omega arith) in
+    let e : rest / 100 / 100 ≡ rest / 10_000 = omega arith in
+    record { most = k .most; some = rw e at (b .some); sum = omega (arith, rw e at (b .sum)) }
+
 -- at last one digit is left, and it has been counted
 pub counting-last : (n w rest : ℕ) → Counting n w rest → rest < 10 → w ≡ length (decimal n)
 counting-last n w rest k h = let e = ap length (decimal-below-ten rest h) in omega arith

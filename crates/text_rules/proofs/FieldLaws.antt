@@ -1,18 +1,20 @@
 -- A further field, where there is one and where there is none, each with its length.
 -- Assumes nothing.
 use Prim.Native.Nat.{ℕ, suc, _+_, _^_, _≤_, _<_}
-use mathlib.Core.Path.{_≡_, refl}
+use mathlib.Core.Path.{_≡_, refl, sym, ap, _∙_}
 use mathlib.Core.Bool.{Bool, true, false}
-use mathlib.Core.List.{[], _∷_, _++_, append-assoc}
+use mathlib.Core.List.{[], _∷_, _++_, append-assoc, append-nil}
 use native.Mathlib.Omega.{arith}
+use lib.Dec.{ltb}
 use lib.ListN.{length}
+use Rattle.laws.specs.Choice.{by-test}
 use Rattle.terms.specs.declared.letters.Letter.{Letter}
 use Rattle.terms.specs.declared.words.Word.{Word}
 use Rattle.terms.specs.Letters.{byteOf, hasJob, hasCell}
 use Rattle.terms.specs.Words.{tab, newline, spelt}
 use Rattle.text_rules.specs.Decimal.{decimal}
 use Rattle.text_rules.proofs.DigitLaws.{decimal-at-most-20, digits-at-most}
-use Rattle.text_rules.specs.Records.{field, answerRecord, lineRecord}
+use Rattle.text_rules.specs.Records.{tabbed, wordLine, given, field, answerRecord, lineRecord}
 
 -- a field that is there is a tab and its number
 pub field-there : (there : Bool) (n : ℕ) → there ≡ true → field there n ≡ tab ∷ decimal n
@@ -42,11 +44,21 @@ pub field-at-most-21 : (there : Bool) (n : ℕ) → n < 2 ^ 64 → length (field
 field-at-most-21 true n h = let d = decimal-at-most-20 n h in omega (arith, field-length true n refl)
 field-at-most-21 false n h = omega (arith, no-field-length false n refl)
 
--- an answer record: the line number, the word behind its tab, and the last field with the newline
-pub answer-is : (line : ℕ) (word : Word) (number : ℕ) →
-    answerRecord line word number ≡ decimal line ++ tab ∷ spelt word ++ (field true number ++ newline ∷ [])
-unfolding answerRecord field
-answer-is line word number = append-assoc (decimal line ++ tab ∷ spelt word) (tab ∷ decimal number) (newline ∷ [])
+-- a number that is given where it is not 0 is a field that is there where it is not 0
+pub given-field : (n : ℕ) → tabbed (given n) ≡ field (ltb 0 n) n
+unfolding given field tabbed
+given-field n = by-test (ltb 0 n) (λ e. rw e (append-nil (tab ∷ decimal n))) (λ e. rw e)
+
+-- an answer record: the line number, the word and the number behind their tabs, and the last field, where there is one, with the newline
+pub answer-is : (line : ℕ) (word : Word) (number fault : ℕ) →
+    answerRecord line word number fault ≡ decimal line ++ tab ∷ spelt word ++ field true number ++ (field (ltb 0 fault) fault ++ newline ∷ [])
+unfolding answerRecord wordLine tabbed field
+answer-is line word number fault =
+    let n = tab ∷ decimal number in
+    let f = field (ltb 0 fault) fault in
+    ap (λ g. decimal line ++ tab ∷ (spelt word ++ (n ++ g) ++ newline ∷ [])) (given-field fault)
+    ∙ ap (λ r. decimal line ++ tab ∷ r) (append-assoc (spelt word) (n ++ f) (newline ∷ []) ∙ ap (λ r. spelt word ++ r) (append-assoc n f (newline ∷ [])))
+    ∙ sym (append-assoc (decimal line ++ tab ∷ spelt word) n (f ++ newline ∷ []) ∙ append-assoc (decimal line) (tab ∷ spelt word) (n ++ (f ++ newline ∷ [])))
 
 -- a letter's line: the letter, the second field where it has one, and the last field with the newline
 pub line-is : (l : Letter) (job cell : ℕ) →

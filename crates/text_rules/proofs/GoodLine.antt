@@ -1,26 +1,29 @@
 -- A line is good only if it is the record of its letter and fields: what is read was written so, and all else is bad.
 -- Assumes nothing.
 use Prim.Native.Nat.{ℕ, _≤_}
-use mathlib.Core.Path.{_≡_, ap, refl, sym, _∙_}
+use mathlib.Core.Path.{_≡_, ap, ap₂, refl, sym, _∙_}
 use mathlib.Core.Bool.{Bool, true, false}
 use mathlib.Core.Logic.{_↔_}
-use mathlib.Core.List.{List, [], _∷_, _++_, append-assoc}
-use mathlib.Core.Option.{none, some}
+use mathlib.Core.List.{List, [], _∷_, _++_}
+use mathlib.Core.Option.{some}
 use native.Mathlib.Omega.{arith}
 use Rattle.laws.specs.Choice.{by-test, not-both}
 use Rattle.terms.specs.declared.letters.Letter.{Letter}
 use Rattle.terms.specs.declared.letters.Lettered.{Lettered}
 use Rattle.terms.specs.declared.letters.Lettered.the-variants.{Known, Unknown}
+use Rattle.terms.specs.declared.refusals.Field.{Field}
+use Rattle.terms.specs.declared.refusals.Field.the-variants.{Second, Third}
 use Rattle.terms.specs.declared.refusals.Refusal.the-variants.{BadLine}
-use Rattle.terms.specs.Letters.{letterOf, hasJob, hasCell}
+use Rattle.terms.specs.Letters.{hasJob, hasCell}
 use Rattle.terms.specs.Words.{newline}
 use Rattle.terms.specs.Limits.{lastNumber}
-use Rattle.terms.proofs.Alphabet.{byte-of-letter}
 use Rattle.text_rules.specs.declared.Reading.{Reading}
 use Rattle.text_rules.specs.declared.Reading.the-variants.{Good, Bad}
 use Rattle.text_rules.specs.Records.{field, lineRecord}
 use Rattle.text_rules.specs.GoodLine.{GoodLine}
-use Rattle.text_rules.specs.Lines.{refusalOf, lastCell, ending, cellPart, jobPart, letterPart, readLine}
+use Rattle.text_rules.specs.Lines.{refusalOf, lastCell, fieldAhead, afterField, ending, cellPart, jobPart, letterIn, letterPart, readLine}
+use Rattle.text_rules.proofs.FieldLaws.{line-is}
+use Rattle.text_rules.proofs.FieldParts.{field-then, letter-field}
 use Rattle.text_rules.proofs.ReadBack.{reads-record}
 use Rattle.text_rules.proofs.WrittenFields.{NumberField, number-written, ending-written, not-bad}
 
@@ -62,7 +65,7 @@ cell-not-there l m given job cell t h e =
 cell-written : (l m : Letter) (given job cell : ℕ) (t : List ℕ) → cellPart l given t ≡ Good m job cell → CellWritten l m given job cell t
 unfolding cellPart
 cell-written l m given job cell t e =
-    by-test (hasCell l) (λ h. cell-there l m given job cell t h (number-written lastCell t _ m job cell (rw h at e)))
+    by-test (hasCell l) (λ h. cell-there l m given job cell t h (number-written lastCell Third t _ m job cell (rw h at e)))
     (λ h. cell-not-there l m given job cell t h (rw h at e))
 
 -- what reading the fields of a line tells
@@ -106,26 +109,25 @@ job-not-there l m job cell t h w =
 fields-written : (l m : Letter) (job cell : ℕ) (t : List ℕ) → jobPart l t ≡ Good m job cell → FieldsWritten l m job cell t
 unfolding jobPart
 fields-written l m job cell t e =
-    by-test (hasJob l) (λ h. job-there l m job cell t h (number-written lastNumber t _ m job cell (rw h at e)))
+    by-test (hasJob l) (λ h. job-there l m job cell t h (number-written lastNumber Second t _ m job cell (rw h at e)))
     (λ h. job-not-there l m job cell t h (cell-written l m 0 job cell t (rw h at e)))
 
 -- the letter of a good line
-letter-written : (which : Letter → Bool) (b : ℕ) (t : List ℕ) (n : Lettered) (m : Letter) (job cell : ℕ) → letterOf b ≡ n → letterPart which n t ≡ Good m job cell → GoodLine which (b ∷ t) m job cell
-unfolding letterPart lineRecord
-letter-written which b t Unknown m job cell k e = not-bad e
-letter-written which b t (Known l) m job cell k e =
+letter-written : (which : Letter → Bool) (bytes : List ℕ) (n : Lettered) (m : Letter) (job cell : ℕ) → letterIn (fieldAhead bytes) ≡ n → letterPart which n (afterField bytes) ≡ Good m job cell → GoodLine which bytes m job cell
+unfolding letterPart
+letter-written which bytes Unknown m job cell k e = not-bad e
+letter-written which bytes (Known l) m job cell k e =
     by-test (which l)
     (λ w.
-    let f = fields-written l m job cell t (rw w at e) in
-    let line : b ∷ t ≡ lineRecord l job cell = rw (byte-of-letter b l k, append-assoc (field (hasJob l) job) (field (hasCell l) cell) (newline ∷ [])) (ap (λ u. b ∷ u) (f .written)) in
+    let f = fields-written l m job cell (afterField bytes) (rw w at e) in
+    let line : bytes ≡ lineRecord l job cell = sym (field-then bytes) ∙ ap₂ (λ a b. a ++ b) (letter-field (fieldAhead bytes) l k) (f .written) ∙ sym (line-is l job cell) in
     rw (← f .letter) (line, w, f .jobs, f .cells, f .no-job, f .no-cell))
     (λ w. not-bad (rw w at e))
 
 -- a good line is the record of its letter and fields
 pub good-is-record : (which : Letter → Bool) (bytes : List ℕ) (l : Letter) (job cell : ℕ) → readLine which bytes ≡ Good l job cell → GoodLine which bytes l job cell
 unfolding readLine
-good-is-record which [] l job cell e = not-bad e
-good-is-record which (b ∷ t) l job cell e = letter-written which b t (letterOf b) l job cell refl e
+good-is-record which bytes l job cell e = letter-written which bytes (letterIn (fieldAhead bytes)) l job cell refl e
 
 -- and the record of a letter and fields is good: a line is good exactly then
 pub good-exactly : (which : Letter → Bool) (bytes : List ℕ) (l : Letter) (job cell : ℕ) → (readLine which bytes ≡ Good l job cell) ↔ GoodLine which bytes l job cell
@@ -139,20 +141,26 @@ pub good-numbers : (which : Letter → Bool) (bytes : List ℕ) (l : Letter) (jo
     (readLine which bytes ≡ Good l job cell) ↔ ((bytes ≡ lineRecord l job cell) × (which l ≡ true) × (job ≤ 4_294_967_295) × (cell ≤ 99) × (hasJob l ≡ false → job ≡ 0) × (hasCell l ≡ false → cell ≡ 0))
 good-numbers = good-exactly
 
--- all else is bad
-pub all-else-bad : (which : Letter → Bool) (bytes : List ℕ) → ((l : Letter) (job cell : ℕ) → GoodLine which bytes l job cell → ⊥) → readLine which bytes ≡ Bad
+-- all else is bad, at some field
+pub all-else-bad : (which : Letter → Bool) (bytes : List ℕ) → ((l : Letter) (job cell : ℕ) → GoodLine which bytes l job cell → ⊥) → (at : Field) × (readLine which bytes ≡ Bad at)
 all-else-bad which bytes other = go (readLine which bytes) refl
   where
-    go : (r : Reading) → readLine which bytes ≡ r → readLine which bytes ≡ Bad
+    go : (r : Reading) → readLine which bytes ≡ r → (at : Field) × (readLine which bytes ≡ Bad at)
     go (Good l job cell) e = absurd (other l job cell (good-is-record which bytes l job cell e))
-    go Bad e = e
+    go (Bad at) e = (at, e)
 
--- ALL ELSE IS REFUSAL 9: a line is refused with 9 exactly where it is no good line
-pub nine-exactly : (which : Letter → Bool) (bytes : List ℕ) → (refusalOf (readLine which bytes) ≡ some BadLine) ↔ ((l : Letter) (job cell : ℕ) → GoodLine which bytes l job cell → ⊥)
-nine-exactly which bytes = (refused-only, λ other. ap refusalOf (all-else-bad which bytes other))
-  where
-    refused-only : refusalOf (readLine which bytes) ≡ some BadLine → (l : Letter) (job cell : ℕ) → GoodLine which bytes l job cell → ⊥
-    refused-only e l job cell g =
-        let q : none ≡ some BadLine = sym (ap refusalOf (good-exactly which bytes l job cell .1 g)) ∙ e in
-        let z : _≡_ {A = ℕ} 0 1 = cc in
-        omega arith
+-- a bad line is no good line
+pub bad-no-good : (which : Letter → Bool) (bytes : List ℕ) (at : Field) → readLine which bytes ≡ Bad at → (l : Letter) (job cell : ℕ) → GoodLine which bytes l job cell → ⊥
+bad-no-good which bytes at e l job cell g = not-bad (sym e ∙ good-exactly which bytes l job cell .1 g)
+
+-- the field at fault of a refusal 9, and of nothing else
+pub nine-field : (r : Reading) (at : Field) → refusalOf r ≡ some (BadLine at) → r ≡ Bad at
+nine-field (Good l job cell) at e = let z : _≡_ {A = ℕ} 0 1 = cc in absurd (omega arith)
+nine-field (Bad field) at e = cc
+
+-- ALL ELSE IS REFUSAL 9: a line is refused with 9, at some field, exactly where it is no good line
+pub nine-exactly : (which : Letter → Bool) (bytes : List ℕ) → ((at : Field) × (refusalOf (readLine which bytes) ≡ some (BadLine at))) ↔ ((l : Letter) (job cell : ℕ) → GoodLine which bytes l job cell → ⊥)
+nine-exactly which bytes = (
+  λ p. bad-no-good which bytes (p .0) (nine-field (readLine which bytes) (p .0) (p .1)),
+  λ other. let b = all-else-bad which bytes other in (b .0, ap refusalOf (b .1)),
+)

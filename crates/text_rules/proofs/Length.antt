@@ -1,12 +1,14 @@
 -- How many bytes a record has: exactly, and at most (01, Lines: the longest answer record has 24).
 -- Assumes nothing.
-use Prim.Native.Nat.{ℕ, _+_, _≤_}
+use Prim.Native.Nat.{ℕ, _+_, _≤_, _<_}
 use mathlib.Core.Path.{_≡_, refl}
 use mathlib.Core.Bool.{true}
 use mathlib.Core.List.{[], _∷_}
 use native.Mathlib.Omega.{arith}
+use lib.Dec.{ltb}
+use borrow.Author.Tests.{ltb-true}
 use lib.ListN.{length, length-append}
-use Rattle.laws.specs.Choice.{not-both}
+use Rattle.laws.specs.Choice.{by-test, not-both}
 use Rattle.terms.specs.declared.letters.Ask.the-variants.{Increment}
 use Rattle.terms.specs.declared.letters.Letter.{Letter}
 use Rattle.terms.specs.declared.letters.Letter.the-variants.{Asks}
@@ -16,16 +18,15 @@ use Rattle.terms.specs.Letters.{hasJob, hasCell}
 use Rattle.terms.specs.Words.{spelt}
 use Rattle.text_rules.specs.Decimal.{decimal, digitsIn}
 use Rattle.text_rules.specs.Lines.{lastCell}
-use Rattle.text_rules.specs.Records.{ofAnswers, answerRecord, longestRecord, field, lineRecord}
+use Rattle.text_rules.specs.Records.{ofAnswers, answerRecord, longestRecord, field, lineRecord, tabbed, wordLine, given}
 use Rattle.text_rules.specs.Split.{kept}
 use Rattle.text_rules.proofs.DigitLaws.{digits-at-most}
-use Rattle.text_rules.proofs.FieldLaws.{field-at-most}
+use Rattle.text_rules.proofs.FieldLaws.{field-at-most, no-field-length, answer-is}
 
--- an answer record has its three fields, a tab and a newline, beside the tab of the third field
-pub answer-length : (line : ℕ) (word : Word) (number : ℕ) →
-    length (answerRecord line word number) ≡ length (decimal line) + length (spelt word) + length (field true number) + 2
-unfolding answerRecord field
-answer-length line word number = simp length-append (omega arith)
+-- an answer record has its fields, a tab and a newline, beside the tabs of the third field and the fourth
+pub answer-length : (line : ℕ) (word : Word) (number fault : ℕ) →
+    length (answerRecord line word number fault) ≡ length (decimal line) + length (spelt word) + length (field true number) + length (field (ltb 0 fault) fault) + 2
+answer-length line word number fault = rw (answer-is line word number fault) (simp length-append (omega arith))
 
 -- a letter's line has its letter, its further fields and a newline
 pub line-length : (l : Letter) (job cell : ℕ) → length (lineRecord l job cell) ≡ length (field (hasJob l) job) + length (field (hasCell l) cell) + 2
@@ -43,21 +44,28 @@ answer-word-at-most-4 Orderly e = not-both e refl
 answer-word-at-most-4 Knot e = not-both e refl
 answer-word-at-most-4 Dirty e = not-both e refl
 
--- no answer record of the desk programs is longer than 24 bytes (01, Lines)
-pub answer-at-most-24 : (line : ℕ) (word : Word) (number : ℕ) → line ≤ 1_000_000 → ofAnswers word ≡ true → number ≤ 4_294_967_295 →
-    length (answerRecord line word number) ≤ 24
-answer-at-most-24 line word number h a g =
+-- what stands behind the word of an answer record has at most eleven bytes: a number of ten digits behind its tab, or a refusal's number of two and the field at fault
+pub besides-at-most-11 : (number fault : ℕ) → number ≤ 4_294_967_295 → fault ≤ 9 → (0 < fault → number ≤ 99) → length (field true number) + length (field (ltb 0 fault) fault) ≤ 11
+besides-at-most-11 number fault h f two =
+    by-test (ltb 0 fault)
+    (λ e. let n = two (ltb-true 0 fault e) in omega (arith, field-at-most 1 true number (omega arith), field-at-most 0 (ltb 0 fault) fault (omega arith)))
+    (λ e. omega (arith, field-at-most 9 true number (omega arith), no-field-length (ltb 0 fault) fault e))
+
+-- no answer record of the desk programs is longer than 24 bytes, one of refusal 9 neither (01, Lines; 02, No. 5)
+pub answer-at-most-24 : (line : ℕ) (word : Word) (number fault : ℕ) → line ≤ 1_000_000 → ofAnswers word ≡ true → number ≤ 4_294_967_295 → fault ≤ 9 → (0 < fault → number ≤ 99) →
+    length (answerRecord line word number fault) ≤ 24
+answer-at-most-24 line word number fault h a g f two =
     omega (
       arith,
-      answer-length line word number,
+      answer-length line word number fault,
       digits-at-most 6 line (omega arith),
       answer-word-at-most-4 word a,
-      field-at-most 9 true number (omega arith),
+      besides-at-most-11 number fault g f two,
     )
 
 -- and one is as long: line 1,000,000, a wake, and a job of ten digits (01, Lines)
-pub answer-24 : length (answerRecord 1_000_000 Wake 4_294_967_295) ≡ 24
-unfolding answerRecord decimal digitsIn
+pub answer-24 : length (answerRecord 1_000_000 Wake 4_294_967_295 0) ≡ 24
+unfolding answerRecord wordLine tabbed given decimal digitsIn
 answer-24 = refl
 
 -- no letter's line that can be read is longer than 16 bytes

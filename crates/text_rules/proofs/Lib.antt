@@ -11,9 +11,16 @@ pub mod Places
 pub mod Digits
 pub mod EnoughPlaces
 pub mod DecimalLaws
+pub mod FieldParts
 pub mod WrittenFields
 pub mod ReadBack
 pub mod GoodLine
+pub mod NumberWords
+pub mod FieldLists
+pub mod FieldSteps
+pub mod LineWalk
+pub mod FieldFaults
+pub mod CutLines
 pub mod ShortLines
 pub mod LineExamples
 pub mod DigitLaws

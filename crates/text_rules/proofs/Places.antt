@@ -14,11 +14,12 @@ use Rattle.text_rules.specs.declared.Reading.{Reading}
 use Rattle.text_rules.specs.declared.Reading.the-variants.{Bad}
 use Rattle.text_rules.specs.declared.Numeral.{Numeral}
 use Rattle.text_rules.specs.declared.Numeral.the-variants.{Missing}
-use Rattle.text_rules.specs.Lines.{isDigit, digitsOf, shortest, ending}
-use Rattle.text_rules.specs.Fields.{digitAhead, firstLetter, digitsAt, numberAt}
+use Rattle.text_rules.specs.Lines.{parts, isDigit, shortest, ending}
+use Rattle.text_rules.specs.Fields.{digitsOf, digitAhead, endAhead, firstLetter, digitsAt, numberAt}
 use Rattle.terms.specs.Words.{tab, newline}
 use Rattle.terms.specs.declared.letters.Lettered.{Lettered}
 use Rattle.terms.specs.declared.letters.Lettered.the-variants.{Unknown}
+use Rattle.terms.specs.declared.refusals.Field.the-variants.{Fourth}
 use Rattle.terms.specs.Letters.{letterOf}
 
 -- within the line, the rest begins with the byte at its place
@@ -35,6 +36,11 @@ by-place f line at =
 pub digit-placed : (line : List ℕ) (at : ℕ) (r : Bool) → r ≡ pick (ltb at (length line)) (isDigit (getD line at 0)) false → r ≡ digitAhead (drop at line)
 unfolding digitAhead
 digit-placed line at r e = e ∙ sym (by-place digitAhead line at)
+
+-- whether a field ends before a place
+pub end-placed : (line : List ℕ) (at : ℕ) (r : Bool) → r ≡ pick (ltb at (length line)) (parts (getD line at 0)) true → r ≡ endAhead (drop at line)
+unfolding endAhead
+end-placed line at r e = e ∙ sym (by-place endAhead line at)
 
 -- digits are shortest if the first is no zero or stands alone
 first-decides : (b : ℕ) (t : List ℕ) → shortest (digitsOf (b ∷ t)) ≡ pick (isDigit b) (pick (eqb b 48) (not (digitAhead t)) true) false
@@ -60,14 +66,14 @@ unfolding numberAt
 number-placed most line at r e = e ∙ sym (by-place (numberAt most at) line at)
 
 -- the end of a line at a place: it is the last place, and a newline stands there
-pub ending-placed : (line : List ℕ) (at : ℕ) (good r : Reading) → r ≡ pick (ltb at (length line)) (pick (ltb (at + 1) (length line)) Bad (pick (eqb (getD line at 0) newline) good Bad)) Bad → r ≡ ending (drop at line) good
+pub ending-placed : (line : List ℕ) (at : ℕ) (good r : Reading) → r ≡ pick (ltb at (length line)) (pick (ltb (at + 1) (length line)) (Bad Fourth) (pick (eqb (getD line at 0) newline) good (Bad Fourth))) (Bad Fourth) → r ≡ ending (drop at line) good
 unfolding ending
 ending-placed line at good r e =
     e
     ∙ sym (by-place (λ t. ending t good) line at
-    ∙ ap (λ x. pick (ltb at (length line)) x Bad) (by-place (λ t. ending (getD line at 0 ∷ t) good) line (at + 1)))
+    ∙ ap (λ x. pick (ltb at (length line)) x (Bad Fourth)) (by-place (λ t. ending (getD line at 0 ∷ t) good) line (at + 1)))
 
--- the letter that a line begins with
-pub letter-placed : (line : List ℕ) (r : Lettered) → r ≡ pick (ltb 0 (length line)) (letterOf (getD line 0 0)) Unknown → r ≡ firstLetter line
+-- the letter that a line begins with, where its field ends after it
+pub letter-placed : (line : List ℕ) (r : Lettered) → r ≡ pick (ltb 0 (length line)) (pick (endAhead (drop 1 line)) (letterOf (getD line 0 0)) Unknown) Unknown → r ≡ firstLetter line
 unfolding firstLetter
 letter-placed line r e = e ∙ sym (by-place firstLetter line 0)

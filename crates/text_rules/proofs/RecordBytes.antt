@@ -1,43 +1,59 @@
 -- The records and lines that go out, byte by byte: 9 is the tab, 10 the newline, and every word and letter stands in its bytes (01, Lines; 01, The judge's rules; 02, No. 2 and No. 3).
 -- Assumes nothing.
-use Prim.Native.Nat.{ℕ}
+use Prim.Native.Nat.{ℕ, _+_}
 use mathlib.Core.Path.{_≡_, refl, ap}
-use mathlib.Core.List.{List, [], _∷_, _++_, map, append-nil}
+use mathlib.Core.List.{List, [], _∷_, _++_, map, append-assoc, append-nil}
 use Rattle.terms.specs.declared.words.Word.the-variants.{Go, Wait, Back, No, Wake, Orderly, Knot, Dirty}
+use Rattle.terms.specs.declared.refusals.Field.{Field}
+use Rattle.terms.specs.declared.refusals.Field.the-variants.{First, Second, Third, Fourth}
+use Rattle.terms.specs.declared.refusals.Refusal.the-variants.{BadLine}
+use Rattle.terms.specs.Refusals.{numberOf, fieldNumber}
 use Rattle.conflict.specs.declared.action.Kind.the-variants.{Read, Write, Increment}
 use Rattle.conflict.specs.declared.action.Mark.the-variants.{Commit as commits, GiveUp as gives-up, Back as goes-back}
 use Rattle.conflict.specs.declared.action.Event.the-variants.{Does, Ends}
-use Rattle.text_rules.specs.Decimal.{decimal}
+use Rattle.text_rules.specs.Decimal.{decimal, digitsIn}
 use Rattle.text_rules.specs.EventRecords.{askBy, markLetter, eventLine}
-use Rattle.text_rules.specs.Records.{answerRecord, field, lineRecord, tabbed, wordLine, tabsBetween, jobsLine}
+use Rattle.text_rules.specs.Records.{given, answerRecord, field, lineRecord, tabbed, wordLine, tabsBetween, jobsLine}
 use Rattle.text_rules.specs.Split.{joined}
 
 -- an answer record: the line number, a tab, the word, a tab, the number, a newline (01, Lines)
 module _ (line number : ℕ) where
+  -- what follows the word, where there is no fourth field
+  three-fields : (word : List ℕ) → decimal line ++ 9 ∷ (word ++ (9 ∷ decimal number ++ []) ++ 10 ∷ []) ≡ decimal line ++ 9 ∷ word ++ 9 ∷ decimal number ++ 10 ∷ []
+  three-fields word = rw append-nil (simp append-assoc)
+
   -- the word go
-  pub go-bytes : answerRecord line Go number ≡ decimal line ++ 9 ∷ 103 ∷ 111 ∷ [] ++ 9 ∷ decimal number ++ 10 ∷ []
-  unfolding answerRecord
-  go-bytes = refl
+  pub go-bytes : answerRecord line Go number 0 ≡ decimal line ++ 9 ∷ 103 ∷ 111 ∷ [] ++ 9 ∷ decimal number ++ 10 ∷ []
+  unfolding answerRecord wordLine tabbed given
+  go-bytes = three-fields (103 ∷ 111 ∷ [])
 
   -- the word wait
-  pub wait-bytes : answerRecord line Wait number ≡ decimal line ++ 9 ∷ 119 ∷ 97 ∷ 105 ∷ 116 ∷ [] ++ 9 ∷ decimal number ++ 10 ∷ []
-  unfolding answerRecord
-  wait-bytes = refl
+  pub wait-bytes : answerRecord line Wait number 0 ≡ decimal line ++ 9 ∷ 119 ∷ 97 ∷ 105 ∷ 116 ∷ [] ++ 9 ∷ decimal number ++ 10 ∷ []
+  unfolding answerRecord wordLine tabbed given
+  wait-bytes = three-fields (119 ∷ 97 ∷ 105 ∷ 116 ∷ [])
 
   -- the word back
-  pub back-bytes : answerRecord line Back number ≡ decimal line ++ 9 ∷ 98 ∷ 97 ∷ 99 ∷ 107 ∷ [] ++ 9 ∷ decimal number ++ 10 ∷ []
-  unfolding answerRecord
-  back-bytes = refl
+  pub back-bytes : answerRecord line Back number 0 ≡ decimal line ++ 9 ∷ 98 ∷ 97 ∷ 99 ∷ 107 ∷ [] ++ 9 ∷ decimal number ++ 10 ∷ []
+  unfolding answerRecord wordLine tabbed given
+  back-bytes = three-fields (98 ∷ 97 ∷ 99 ∷ 107 ∷ [])
 
   -- the word no
-  pub no-bytes : answerRecord line No number ≡ decimal line ++ 9 ∷ 110 ∷ 111 ∷ [] ++ 9 ∷ decimal number ++ 10 ∷ []
-  unfolding answerRecord
-  no-bytes = refl
+  pub no-bytes : answerRecord line No number 0 ≡ decimal line ++ 9 ∷ 110 ∷ 111 ∷ [] ++ 9 ∷ decimal number ++ 10 ∷ []
+  unfolding answerRecord wordLine tabbed given
+  no-bytes = three-fields (110 ∷ 111 ∷ [])
 
   -- the word wake
-  pub wake-bytes : answerRecord line Wake number ≡ decimal line ++ 9 ∷ 119 ∷ 97 ∷ 107 ∷ 101 ∷ [] ++ 9 ∷ decimal number ++ 10 ∷ []
-  unfolding answerRecord
-  wake-bytes = refl
+  pub wake-bytes : answerRecord line Wake number 0 ≡ decimal line ++ 9 ∷ 119 ∷ 97 ∷ 107 ∷ 101 ∷ [] ++ 9 ∷ decimal number ++ 10 ∷ []
+  unfolding answerRecord wordLine tabbed given
+  wake-bytes = three-fields (119 ∷ 97 ∷ 107 ∷ 101 ∷ [])
+
+-- the record of a refusal 9: the line number, a tab, no, a tab, 9, a tab, the number of the field at fault, a newline (02, No. 5)
+pub nine-bytes : (line : ℕ) (at : Field) → answerRecord line No (numberOf (BadLine at)) (fieldNumber at) ≡ decimal line ++ 9 ∷ 110 ∷ 111 ∷ 9 ∷ 57 ∷ 9 ∷ (48 + fieldNumber at) ∷ 10 ∷ []
+unfolding answerRecord wordLine tabbed given decimal digitsIn
+nine-bytes line First = refl
+nine-bytes line Second = refl
+nine-bytes line Third = refl
+nine-bytes line Fourth = refl
 
 -- a history record of an action: r, w or i, a tab, the job, a tab, the cell, a newline (01, Lines)
 module _ (job cell : ℕ) where
@@ -98,6 +114,14 @@ dirty-bytes reader writer = ap (λ t. 100 ∷ 105 ∷ 114 ∷ 116 ∷ 121 ∷ 9 
 pub refusal-bytes : (line number : ℕ) → wordLine No (line ∷ number ∷ []) ≡ 110 ∷ 111 ∷ 9 ∷ decimal line ++ 9 ∷ decimal number ++ 10 ∷ []
 unfolding wordLine tabbed
 refusal-bytes line number = ap (λ t. 110 ∷ 111 ∷ 9 ∷ (decimal line ++ 9 ∷ t) ++ 10 ∷ []) (append-nil (decimal number))
+
+-- of refusal 9 the field at fault follows (02, No. 5)
+pub nine-line-bytes : (line : ℕ) (at : Field) → wordLine No (line ∷ numberOf (BadLine at) ∷ given (fieldNumber at)) ≡ 110 ∷ 111 ∷ 9 ∷ decimal line ++ 9 ∷ 57 ∷ 9 ∷ (48 + fieldNumber at) ∷ 10 ∷ []
+unfolding wordLine tabbed given decimal digitsIn
+nine-line-bytes line First = append-assoc (110 ∷ 111 ∷ 9 ∷ decimal line) (9 ∷ 57 ∷ 9 ∷ 49 ∷ []) (10 ∷ [])
+nine-line-bytes line Second = append-assoc (110 ∷ 111 ∷ 9 ∷ decimal line) (9 ∷ 57 ∷ 9 ∷ 50 ∷ []) (10 ∷ [])
+nine-line-bytes line Third = append-assoc (110 ∷ 111 ∷ 9 ∷ decimal line) (9 ∷ 57 ∷ 9 ∷ 51 ∷ []) (10 ∷ [])
+nine-line-bytes line Fourth = append-assoc (110 ∷ 111 ∷ 9 ∷ decimal line) (9 ∷ 57 ∷ 9 ∷ 52 ∷ []) (10 ∷ [])
 
 -- a chain: the first job, each further one with a tab before it, and a newline (02, No. 3)
 pub chain-bytes : (j : ℕ) (js : List ℕ) → jobsLine (j ∷ js) ≡ decimal j ++ joined (map (λ i. 9 ∷ decimal i) js) ++ 10 ∷ []

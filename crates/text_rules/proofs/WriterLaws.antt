@@ -71,8 +71,8 @@ no-room-exactly b at bs = (refused-there, ⊎-elim (past-the-end b at bs) (λ h.
         (λ g. let h = leb-false (at + length bs) (length b) g in inr (omega arith)))
 
 -- at the end of the buffer every answer record is refused
-pub answer-at-the-end : (b : List ℕ) (line : ℕ) (word : Word) (number : ℕ) → told b (length b) (answerRecord line word number) ≡ Refused NoRoom
-answer-at-the-end b line word number = too-long b (length b) (answerRecord line word number) (let n = answer-length line word number in omega arith)
+pub answer-at-the-end : (b : List ℕ) (line : ℕ) (word : Word) (number fault : ℕ) → told b (length b) (answerRecord line word number fault) ≡ Refused NoRoom
+answer-at-the-end b line word number fault = too-long b (length b) (answerRecord line word number fault) (let n = answer-length line word number fault in omega arith)
 
 -- and so is every letter's line
 pub line-at-the-end : (b : List ℕ) (l : Letter) (job cell : ℕ) → told b (length b) (lineRecord l job cell) ≡ Refused NoRoom

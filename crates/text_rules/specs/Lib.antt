@@ -4,6 +4,7 @@ pub mod Records
 pub mod EventRecords
 pub mod Lines
 pub mod GoodLine
+pub mod FieldFaults
 pub mod Fields
 pub mod Split
 pub mod Quoted

@@ -1,6 +1,6 @@
--- What a line says: the line reader's answer for every string of bytes (01, Lines).
+-- What a line says: the line reader's answer for every string of bytes, field by field (01, Lines; 02, No. 5).
 use Prim.Native.Nat.{ℕ, _+_, _*_, _-_}
-use mathlib.Core.Bool.{Bool, true, false, _&&_, not}
+use mathlib.Core.Bool.{Bool, true, false, _&&_, _||_, not}
 use mathlib.Core.List.{List, [], _∷_}
 use mathlib.Core.Option.{Option, none, some}
 use lib.Dec.{eqb, leb}
@@ -8,6 +8,8 @@ use Rattle.laws.specs.Choice.{pick}
 use Rattle.terms.specs.declared.letters.Letter.{Letter}
 use Rattle.terms.specs.declared.letters.Lettered.{Lettered}
 use Rattle.terms.specs.declared.letters.Lettered.the-variants.{Known, Unknown}
+use Rattle.terms.specs.declared.refusals.Field.{Field}
+use Rattle.terms.specs.declared.refusals.Field.the-variants.{First, Second, Third, Fourth}
 use Rattle.terms.specs.declared.refusals.Refusal.{Refusal}
 use Rattle.terms.specs.declared.refusals.Refusal.the-variants.{BadLine}
 use Rattle.terms.specs.Letters.{letterOf, hasJob, hasCell}
@@ -16,33 +18,37 @@ use Rattle.terms.specs.Limits.{lastNumber}
 use Rattle.text_rules.specs.declared.Reading.{Reading}
 use Rattle.text_rules.specs.declared.Reading.the-variants.{Good, Bad}
 
--- the refusal of a line as it reads: a bad line is refusal 9, and a good one is not refused (01, Lines: all else is refusal 9)
+-- the refusal of a line as it reads: a bad line is refusal 9, with the field at fault, and a good one is not refused (01, Lines: all else is refusal 9; 02, No. 5)
 abbrev pub refusalOf : Reading → Option Refusal
 refusalOf (Good l job cell) = none
-refusalOf Bad = some BadLine
+refusalOf (Bad field) = some (BadLine field)
 
 -- a cell has one or two digits (01, Lines)
 abbrev pub lastCell : ℕ
 lastCell = 99
 
+-- whether a field ends before this byte: a tab parts fields, and a newline ends the line (01, Lines)
+unfoldable pub parts : ℕ → Bool
+parts b = eqb b tab || eqb b newline
+
+-- the field that a text begins with: what stands before its first tab or newline
+unfoldable pub fieldAhead : List ℕ → List ℕ
+fieldAhead [] = []
+fieldAhead (b ∷ t) = pick (parts b) [] (b ∷ fieldAhead t)
+
+-- what follows that field, from its tab or newline on
+unfoldable pub afterField : List ℕ → List ℕ
+afterField [] = []
+afterField (b ∷ t) = pick (parts b) (b ∷ t) (afterField t)
+
 -- whether a byte is a digit
 unfoldable pub isDigit : ℕ → Bool
 isDigit b = leb 48 b && leb b 57
 
--- whether a text has digits only
+-- whether a text has digits only: no sign and no blank (01, Lines)
 unfoldable pub digitsOnly : List ℕ → Bool
 digitsOnly [] = true
 digitsOnly (b ∷ t) = isDigit b && digitsOnly t
-
--- the digits that a text begins with
-unfoldable pub digitsOf : List ℕ → List ℕ
-digitsOf [] = []
-digitsOf (b ∷ t) = pick (isDigit b) (b ∷ digitsOf t) []
-
--- what follows the digits that a text begins with
-unfoldable pub afterDigits : List ℕ → List ℕ
-afterDigits [] = []
-afterDigits (b ∷ t) = pick (isDigit b) (afterDigits t) (b ∷ t)
 
 -- the number that digits stand for, read on from v
 unfoldable pub valueFrom : ℕ → List ℕ → ℕ
@@ -55,35 +61,42 @@ shortest [] = false
 shortest (d ∷ []) = true
 shortest (d ∷ e ∷ ds) = not (eqb d 48)
 
--- a number field: a tab, then the digits of a number that is at most so large, then whatever the rest says; else the line is bad
-unfoldable pub numberThen : ℕ → List ℕ → (ℕ → List ℕ → Reading) → Reading
-numberThen most [] rest = Bad
-numberThen most (b ∷ t) rest =
-    pick (eqb b tab && shortest (digitsOf t) && leb (valueFrom 0 (digitsOf t)) most)
-    (rest (valueFrom 0 (digitsOf t)) (afterDigits t))
-    Bad
+-- a field is a number, at most so large
+unfoldable pub isNumber : ℕ → List ℕ → Bool
+isNumber most field = digitsOnly field && (shortest field && leb (valueFrom 0 field) most)
 
--- the end of a line: one newline and nothing after it; else the line is bad
+-- a field of a number, behind its tab, and then whatever the rest says; where it is missing or is no such number, the line is bad at this field
+unfoldable pub numberThen : ℕ → Field → List ℕ → (ℕ → List ℕ → Reading) → Reading
+numberThen most at [] rest = Bad at
+numberThen most at (b ∷ t) rest =
+    pick (eqb b tab && isNumber most (fieldAhead t)) (rest (valueFrom 0 (fieldAhead t)) (afterField t)) (Bad at)
+
+-- after the last field that the letter has: one newline and nothing after it; else the line is bad there (02, No. 5: a missing newline being 4)
 unfoldable pub ending : List ℕ → Reading → Reading
-ending [] r = Bad
-ending (b ∷ []) r = pick (eqb b newline) r Bad
-ending (b ∷ c ∷ t) r = Bad
+ending [] r = Bad Fourth
+ending (b ∷ []) r = pick (eqb b newline) r (Bad Fourth)
+ending (b ∷ c ∷ t) r = Bad Fourth
 
 -- the third field, where the letter has one: a cell
 unfoldable pub cellPart : Letter → ℕ → List ℕ → Reading
 cellPart l job t =
-    pick (hasCell l) (numberThen lastCell t (λ cell rest. ending rest (Good l job cell))) (ending t (Good l job 0))
+    pick (hasCell l) (numberThen lastCell Third t (λ cell rest. ending rest (Good l job cell))) (ending t (Good l job 0))
 
 -- the second field, where the letter has one: a job, at most 4,294,967,295
 unfoldable pub jobPart : Letter → List ℕ → Reading
-jobPart l t = pick (hasJob l) (numberThen lastNumber t (cellPart l)) (cellPart l 0 t)
+jobPart l t = pick (hasJob l) (numberThen lastNumber Second t (cellPart l)) (cellPart l 0 t)
+
+-- the letter of a first field: one byte, that of a letter
+unfoldable pub letterIn : List ℕ → Lettered
+letterIn [] = Unknown
+letterIn (b ∷ []) = letterOf b
+letterIn (b ∷ c ∷ t) = Unknown
 
 -- the first field: a letter, of those that such lines have
 unfoldable pub letterPart : (Letter → Bool) → Lettered → List ℕ → Reading
-letterPart which (Known l) t = pick (which l) (jobPart l t) Bad
-letterPart which Unknown t = Bad
+letterPart which (Known l) t = pick (which l) (jobPart l t) (Bad First)
+letterPart which Unknown t = Bad First
 
--- a line of requests or of a history, by the letters that it may begin with (01, Lines: all else is refusal 9)
+-- a line of requests or of a history, by the letters that it may begin with; the lowest field at fault counts (01, Lines: all else is refusal 9; 02, No. 5)
 unfoldable pub readLine : (Letter → Bool) → List ℕ → Reading
-readLine which [] = Bad
-readLine which (b ∷ t) = letterPart which (letterOf b) t
+readLine which bytes = letterPart which (letterIn (fieldAhead bytes)) (afterField bytes)

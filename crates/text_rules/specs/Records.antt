@@ -2,7 +2,7 @@
 use Prim.Native.Nat.{ℕ, _+_}
 use mathlib.Core.Bool.{Bool, true, false}
 use mathlib.Core.List.{List, [], _∷_, _++_}
-use lib.Dec.{leb}
+use lib.Dec.{ltb, leb}
 use lib.ListN.{length}
 use Rattle.laws.specs.Choice.{pick}
 use Rattle.terms.specs.declared.letters.Letter.{Letter}
@@ -27,9 +27,22 @@ ofAnswers Orderly = false
 ofAnswers Knot = false
 ofAnswers Dirty = false
 
--- answer record: request line number, word, number (01, Lines)
-unfoldable pub answerRecord : ℕ → Word → ℕ → List ℕ
-answerRecord line word number = decimal line ++ tab ∷ spelt word ++ tab ∷ decimal number ++ newline ∷ []
+-- numbers, a tab before each
+unfoldable pub tabbed : List ℕ → List ℕ
+tabbed [] = []
+tabbed (n ∷ ns) = tab ∷ decimal n ++ tabbed ns
+
+-- a line of a word and numbers: the verdict, and an answer record behind its line number (01, The judge's rules; 01, Lines)
+unfoldable pub wordLine : Word → List ℕ → List ℕ
+wordLine w ns = spelt w ++ tabbed ns ++ newline ∷ []
+
+-- a number, where it is not 0
+unfoldable pub given : ℕ → List ℕ
+given n = pick (ltb 0 n) (n ∷ []) []
+
+-- answer record: request line number, word, number; and one more field where the fourth is not 0, the field at fault of a refusal 9 (01, Lines; 02, No. 5)
+unfoldable pub answerRecord : ℕ → Word → ℕ → ℕ → List ℕ
+answerRecord line word number fault = decimal line ++ tab ∷ wordLine word (number ∷ given fault)
 
 -- no answer record of the desk programs has more bytes, and one has as many: `answer-at-most-24`, `answer-24` (01, Lines: the longest is 24 bytes)
 abbrev pub longestRecord : ℕ
@@ -42,15 +55,6 @@ field there n = pick there (tab ∷ decimal n) []
 -- the line of a letter with the fields it has: a history record, and a request line too (01, Lines)
 unfoldable pub lineRecord : Letter → ℕ → ℕ → List ℕ
 lineRecord l job cell = byteOf l ∷ field (hasJob l) job ++ field (hasCell l) cell ++ newline ∷ []
-
--- numbers, a tab before each
-unfoldable pub tabbed : List ℕ → List ℕ
-tabbed [] = []
-tabbed (n ∷ ns) = tab ∷ decimal n ++ tabbed ns
-
--- a line of a word and numbers: the verdict (01, The judge's rules; 02, No. 2)
-unfoldable pub wordLine : Word → List ℕ → List ℕ
-wordLine w ns = spelt w ++ tabbed ns ++ newline ∷ []
 
 -- numbers, a tab between
 unfoldable pub tabsBetween : List ℕ → List ℕ

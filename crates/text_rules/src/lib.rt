@@ -4,6 +4,7 @@ pub mod splitter;
 pub use splitter::Cut;
 pub use splitter::Splitter;
 pub use splitter::line_end;
+use terms::Field;
 use terms::Letter;
 use terms::Refusal;
 
@@ -11,15 +12,15 @@ use terms::Refusal;
 pub enum Reading {
     // a good line with its letter, job and cell, 0 for a field that the letter does not have
     Good { letter: Letter, job: u32, cell: u32 },
-    // a bad line, which is refusal 9
-    Bad,
+    // a bad line, which is refusal 9, with the field at fault
+    Bad(Field),
 }
 
 // A number field of a line.
 pub enum Numeral {
     // the number, and the place after it
     Is { value: u32, next: usize },
-    // no number stands there, or one that is too large
+    // no field stands there, or what stands there is no number that is small enough
     Missing,
 }
 

@@ -8,6 +8,7 @@ use libc::STDIN_FILENO;
 use libc::STDOUT_FILENO;
 use terms::limits::JUDGED_BYTES;
 use terms::refusals::Refusal;
+use terms::refusals::field_of;
 use terms::refusals::number_of;
 use terms::words::NEWLINE;
 use text_rules::Written;
@@ -41,11 +42,12 @@ struct Case {
     spot: Spot,
 }
 
-// The answer of the entry that hands back a line: the verdict in three numbers, the case first.
+// The answer of the entry that hands back a line: the verdict in four numbers, the case first, and the field at fault of refusal 9 last.
 struct Numbers {
     case: u32,
     second: u32,
     third: u32,
+    fourth: u32,
 }
 
 fn put_bytes(bytes: &[u8]) {
@@ -92,15 +94,23 @@ fn told_places(said: Verdict) -> usize {
 // Whether a verdict in numbers is the verdict.
 fn same_verdict(said: Verdict, numbers: Numbers) -> bool {
     match said {
-        Verdict::Orderly(n) => numbers.case == 0 && numbers.second as usize == n,
-        Verdict::Knot(n) => numbers.case == 1 && numbers.second as usize == n,
+        Verdict::Orderly(n) => {
+            numbers.case == 0 && numbers.second as usize == n && numbers.fourth == 0
+        }
+        Verdict::Knot(n) => {
+            numbers.case == 1 && numbers.second as usize == n && numbers.fourth == 0
+        }
         Verdict::Dirty { reader, writer } => {
-            numbers.case == 3 && numbers.second == reader as u32 && numbers.third == writer as u32
+            numbers.case == 3
+                && numbers.second == reader as u32
+                && numbers.third == writer as u32
+                && numbers.fourth == 0
         }
         Verdict::No { line, why } => {
             numbers.case == 2
                 && numbers.second == number_of(why) as u32
                 && numbers.third as usize == line
+                && numbers.fourth == field_of(why) as u32
         }
     }
 }
@@ -138,12 +148,13 @@ fn report(text: &[u8], places: usize)
     let said = judge_text(text, &mut order[0..places]);
     put_verdict(said, &order);
     let mut again = [UNTOUCHED; ORDER_PLACES];
-    let mut answer = [0u32; 3];
+    let mut answer = [0u32; 4];
     let line = judge(text, &mut again[0..places], &mut answer);
     let numbers = Numbers {
         case: answer[0],
         second: answer[1],
         third: answer[2],
+        fourth: answer[3],
     };
     if numbers.case == 2 && numbers.third > 0 {
         put_line(line);

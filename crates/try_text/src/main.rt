@@ -1,10 +1,12 @@
 // Prints what both line readers say of every line of standard input (01, Lines).
 use libc::STDIN_FILENO;
 use libc::STDOUT_FILENO;
+use terms::Field;
 use terms::Letter;
 use terms::Refusal;
 use terms::Word;
 use terms::byte_of;
+use terms::field_number;
 use terms::has_cell;
 use terms::has_job;
 use terms::number_of;
@@ -29,26 +31,35 @@ struct Progress {
 }
 
 // An answer record, where there is one, and the place after it. A record that does not fit is left out.
-fn answer(out: &mut [u8], at: usize, there: bool, line: u64, word: Word, number: u64) -> usize
+fn answer(
+    out: &mut [u8],
+    at: usize,
+    there: bool,
+    line: u64,
+    word: Word,
+    number: u64,
+    fault: u64,
+) -> usize
     requires { ⌜ at ≤ length (now out) ⌝ }
     ensures { λ r. ⌜ r ≤ length (now (out .exit)) ⌝ }
 {
     if !there {
         return at;
     }
-    match write_answer(out, at, line, word, number) {
+    match write_answer(out, at, line, word, number, fault) {
         Written::Next(next) => next,
         Written::Refused(_) => at,
     }
 }
 
-// The record of a line that a reader calls bad.
-fn bad(out: &mut [u8], at: usize, line: u64, word: Word) -> usize
+// The record of a line that a reader calls bad: refusal 9 and the field at fault.
+fn bad(out: &mut [u8], at: usize, line: u64, word: Word, field: Field) -> usize
     requires { ⌜ at ≤ length (now out) ⌝ }
     ensures { λ r. ⌜ r ≤ length (now (out .exit)) ⌝ }
 {
-    let number = number_of(Refusal::BadLine) as u64;
-    answer(out, at, true, line, word, number)
+    let number = number_of(Refusal::BadLine(field)) as u64;
+    let fault = field_number(field) as u64;
+    answer(out, at, true, line, word, number, fault)
 }
 
 // The records of a good request line: its letter's byte, then the job and the cell that it has.
@@ -57,9 +68,9 @@ fn good_request(out: &mut [u8], at: usize, line: u64, letter: Letter, job: u32, 
     ensures { λ r. ⌜ r ≤ length (now (out .exit)) ⌝ }
 {
     let byte = byte_of(letter) as u64;
-    let a = answer(out, at, true, line, Word::Go, byte);
-    let b = answer(out, a, has_job(letter), line, Word::Wait, job as u64);
-    answer(out, b, has_cell(letter), line, Word::Back, cell as u64)
+    let a = answer(out, at, true, line, Word::Go, byte, 0);
+    let b = answer(out, a, has_job(letter), line, Word::Wait, job as u64, 0);
+    answer(out, b, has_cell(letter), line, Word::Back, cell as u64, 0)
 }
 
 // What the reader of requests says of a line.
@@ -69,7 +80,7 @@ fn request(out: &mut [u8], at: usize, line: u64, bytes: &[u8]) -> usize
 {
     match read_request(bytes) {
         Reading::Good { letter, job, cell } => good_request(out, at, line, letter, job, cell),
-        Reading::Bad => bad(out, at, line, Word::No),
+        Reading::Bad(field) => bad(out, at, line, Word::No, field),
     }
 }
 
@@ -91,7 +102,7 @@ fn history(out: &mut [u8], at: usize, line: u64, bytes: &[u8]) -> usize
 {
     match read_history(bytes) {
         Reading::Good { letter, job, cell } => good_history(out, at, letter, job, cell),
-        Reading::Bad => bad(out, at, line, Word::Wake),
+        Reading::Bad(field) => bad(out, at, line, Word::Wake, field),
     }
 }
 

@@ -23,7 +23,7 @@ returns : tie.Need-returns
 returns c =
     let p = c .before .before .before .before .before .before .before .before .pre in
     let w = c .before .before .before .before .before .write-answer .ensures in
-    added-next (w .0) (c .before .next .given .1) (w .1) (answer-at-most-24 _ _ _ (p .0) (p .1) (p .2))
+    added-next (w .0) (c .before .next .given .1) (w .1) (answer-at-most-24 _ _ _ _ (p .0) (p .1) (p .2 .0) (p .2 .1) (p .2 .2))
 
 same-length-2 : tie.Need-same-length-2
 same-length-2 c = search needs
@@ -31,7 +31,7 @@ same-length-2 c = search needs
 returns-2 : tie.Need-returns-2
 returns-2 c =
     let p = c .before .before .before .before .before .before .before .pre in
-    never-refused _ _ _ longestRecord (c .before .before .before .before .write-answer .ensures .0) (c .enum-told .given .1) (answer-at-most-24 _ _ _ (p .0) (p .1) (p .2)) (p .3)
+    never-refused _ _ _ longestRecord (c .before .before .before .before .write-answer .ensures .0) (c .enum-told .given .1) (answer-at-most-24 _ _ _ _ (p .0) (p .1) (p .2 .0) (p .2 .1) (p .2 .2)) (p .3)
 
 pub put-answer-spec : {M : Type 1} → statement M
 put-answer-spec =

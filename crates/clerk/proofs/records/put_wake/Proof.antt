@@ -1,5 +1,6 @@
 -- `clerk::records::put_wake` meets its contract in each view.
 -- Assumes nothing.
+use mathlib.Core.Path.{refl}
 use borrow.Author.Needs.{needs}
 use native.Mathlib.Omega.{arith}
 use Rattle.clerk.proofs.Adding.{added-none, added-as}
@@ -14,7 +15,7 @@ cast-put-answer : tie.Need-cast-put-answer
 cast-put-answer c = search needs
 
 put-answer-requires : tie.Need-put-answer-requires
-put-answer-requires c κs = search needs
+put-answer-requires c κs = (search needs, refl, (search needs, omega arith, λ h. absurd (omega arith)), search needs)
 
 enum-told-2 : tie.Need-enum-told-2
 enum-told-2 c = search needs

@@ -21,12 +21,12 @@ put-records-requires : tie.Need-put-records-requires
 put-records-requires c κs =
     (due-line (c .before .before .before .before .before .before .before .before .before .before .before .before .before .before .before .before .before .before .args .s) (c .before .before .before .before .before .before .before .before .before .before .before .before .before .before .before .before .before .before .pre .0), c .before .before .before .before .before .before .before .before .before .before .before .before .before .before .before .before .before .before .pre .1)
 
-enum-told : tie.Need-enum-told
-enum-told c = search needs
+enum-known-field : tie.Need-enum-known-field
+enum-known-field c = search needs
 
 put-bad-requires : tie.Need-put-bad-requires
 put-bad-requires c κs =
-    (due-line (c .before .before .before .before .before .args .s) (c .before .before .before .before .before .pre .0), c .before .before .before .before .before .pre .1)
+    (due-line (c .before .before .before .before .before .before .args .s) (c .before .before .before .before .before .before .pre .0), c .before .before .before .before .before .before .pre .1)
 
 same-length : tie.Need-same-length
 same-length c = wrote-length (c .before .before .put-records .ensures)
@@ -41,10 +41,10 @@ same-length-2 c = wrote-length (c .before .before .put-bad .ensures)
 
 returns-2 : tie.Need-returns-2
 returns-2 c =
-    let a = c .before .before .before .before .before .before .before .before .args in
-    (answered-bad (a .view) (a .s) (a .out .now) (a .at) (c .before .before .before .before .before .before .before .before .pre .0) (c .before .before .before .before .before .before .reading-of .ensures) (c .before .before .before .before .enum-told .given .1) (c .before .before .put-bad .ensures), wrote-length (c .before .before .put-bad .ensures))
+    let a = c .before .before .before .before .before .before .before .before .before .args in
+    (answered-bad (a .view) (a .s) (a .out .now) (a .at) (c .before .before .before .before .before .before .before .before .before .pre .0) (c .before .before .before .before .before .before .before .reading-of .ensures) (c .before .before .before .before .before .field .given .1) (c .before .before .put-bad .ensures), wrote-length (c .before .before .put-bad .ensures))
 
 pub answer-line-spec : {M : Type 1} → statement M
 answer-line-spec =
-    let first = tie.spec reading-of-requires enum-known-letter step-for-requires put-records-requires enum-told put-bad-requires same-length returns in
+    let first = tie.spec reading-of-requires enum-known-letter step-for-requires put-records-requires enum-known-field put-bad-requires same-length returns in
     tie.close (first same-length-2 returns-2)

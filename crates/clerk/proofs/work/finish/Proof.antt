@@ -33,8 +33,8 @@ returns-2 c =
     let a = c .before .before .before .before .before .before .args in
     ends-full (a .view) (a .c) (a .out .now) (a .at) (search tests) (search tests)
 
-put-bad-requires : tie.Need-put-bad-requires
-put-bad-requires c κs =
+put-unended-requires : tie.Need-put-unended-requires
+put-unended-requires c κs =
     let a = c .before .before .before .before .before .before .before .args in
     let r : leb (a .at + lineRoom) (length (a .out .now)) ≡ true = search tests in
     (owing-line (a .c .splitter) (search tests), leb-true (a .at + lineRoom) (length (a .out .now)) r)
@@ -46,8 +46,8 @@ returns-3 : tie.Need-returns-3
 unfolding roomy
 returns-3 c =
     let a = c .before .before .before .before .before .before .before .before .before .before .args in
-    ends-put (a .view) (a .c) (a .out .now) (a .at) (search tests) (search tests) (c .before .before .put-bad .ensures)
+    ends-put (a .view) (a .c) (a .out .now) (a .at) (search tests) (search tests) (c .before .before .put-unended .ensures)
 
 pub finish-spec : {M : Type 1} → statement M
 finish-spec =
-    tie.close (tie.spec is-owing-requires returns has-room-requires returns-2 put-bad-requires same-length returns-3)
+    tie.close (tie.spec is-owing-requires returns has-room-requires returns-2 put-unended-requires same-length returns-3)

@@ -4,7 +4,9 @@ use mathlib.Core.Path.{_≡_}
 use native.Mathlib.Omega.{arith}
 use lib.ListN.{length}
 use borrow.Author.Needs.{needs}
-use Rattle.clerk.proofs.Holding.{reads-part, reads-whole}
+use Rattle.terms.specs.Letters.{ofRequests}
+use Rattle.text_rules.specs.Lines.{readLine}
+use Rattle.clerk.proofs.Holding.{held-part, held-whole}
 use Rattle.clerk.proofs.work.reading_of.Statement.{statement}
 use Rattle.clerk.proofs.work.reading_of.Tie as tie
 
@@ -21,7 +23,7 @@ read-request-requires : tie.Need-read-request-requires
 read-request-requires c κs = search needs
 
 returns : tie.Need-returns
-returns c = reads-part (c .before .before .before .before .before .args .s) _ (c .read-request .ensures)
+returns c = held-part (readLine ofRequests) (c .before .before .before .before .before .args .s) _ (c .read-request .ensures)
 
 slice-aggregate-read-request : tie.Need-slice-aggregate-read-request
 slice-aggregate-read-request c = search needs
@@ -32,7 +34,7 @@ read-request-requires-2 c κs = search needs
 returns-2 : tie.Need-returns-2
 returns-2 c =
     let n : length (c .before .before .before .before .args .s .kept) ≡ 16 = search needs in
-    reads-whole (c .before .before .before .before .args .s) _ (omega arith) (c .read-request2 .ensures)
+    held-whole (readLine ofRequests) (c .before .before .before .before .args .s) _ (omega arith) (c .read-request2 .ensures)
 
 pub reading-of-spec : {M : Type 1} → statement M
 reading-of-spec =

@@ -38,6 +38,12 @@ cast-t14 c = search needs
 cast-t15 : tie.Need-cast-t15
 cast-t15 c = search line-fits
 
+field-of-requires : tie.Need-field-of-requires
+field-of-requires c κs = search needs
+
+cast-t17 : tie.Need-cast-t17
+cast-t17 c = search needs
+
 returns : tie.Need-returns
 returns c = search orderly-numbers
 
@@ -53,4 +59,4 @@ returns-4 c = search refusal-numbers
 pub in-numbers-spec : {M : Type 1} → statement M
 in-numbers-spec =
     let first = tie.spec enum-known-said cast-t9 enum-known-said-2 cast-t10 enum-known-said-3 cast-t11 cast-t12 enum-known-said-4 number-of-requires cast-t14 in
-    tie.close (first cast-t15 returns returns-2 returns-3 returns-4)
+    tie.close (first cast-t15 field-of-requires cast-t17 returns returns-2 returns-3 returns-4)

@@ -20,8 +20,8 @@ enum-known-letter c = search needs
 look-good-requires : tie.Need-look-good-requires
 look-good-requires c κs = search needs
 
-enum-told : tie.Need-enum-told
-enum-told c = search needs
+enum-known-field : tie.Need-enum-known-field
+enum-known-field c = search needs
 
 returns-2 : tie.Need-returns-2
 unfolding lookedAt
@@ -33,4 +33,4 @@ returns-3 c = search (look-bad, cases)
 
 pub look-spec : {M : Type 1} → statement M
 look-spec =
-    tie.close (tie.spec returns read-history-requires enum-known-letter look-good-requires enum-told returns-2 returns-3)
+    tie.close (tie.spec returns read-history-requires enum-known-letter look-good-requires enum-known-field returns-2 returns-3)

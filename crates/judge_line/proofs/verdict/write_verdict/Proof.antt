@@ -41,6 +41,12 @@ number-of-requires c κs = search needs
 cast-write-no : tie.Need-cast-write-no
 cast-write-no c = search needs
 
+field-of-requires : tie.Need-field-of-requires
+field-of-requires c κs = search needs
+
+cast-write-no-2 : tie.Need-cast-write-no-2
+cast-write-no-2 c = search needs
+
 write-no-requires : tie.Need-write-no-requires
 write-no-requires c κs = search needs
 
@@ -66,10 +72,10 @@ same-length-4 : tie.Need-same-length-4
 same-length-4 c = search needs
 
 returns-4 : tie.Need-returns-4
-returns-4 c = says-no _ _ _ _ _ _ (c .before .before .before .before .before .before .said4 .given .1) (c .before .before .before .number-of .ensures) (c .before .before .write-no .ensures)
+returns-4 c = says-no _ _ _ _ _ _ _ (c .before .before .before .before .before .before .before .said4 .given .1) (c .before .before .before .before .number-of .ensures) (c .before .before .before .field-of .ensures) (c .before .before .write-no .ensures)
 
 pub write-verdict-spec : {M : Type 1} → statement M
 write-verdict-spec =
     let first = tie.spec enum-known-said first-places-requires write-jobs-requires enum-known-said-2 first-places-requires-2 write-jobs-requires-2 in
-    let second = first enum-known-said-3 slice-aggregate-write-jobs write-jobs-requires-3 enum-known-said-4 number-of-requires cast-write-no write-no-requires in
-    tie.close (second same-length returns same-length-2 returns-2 same-length-3 returns-3 same-length-4 returns-4)
+    let second = first enum-known-said-3 slice-aggregate-write-jobs write-jobs-requires-3 enum-known-said-4 number-of-requires cast-write-no in
+    tie.close (second field-of-requires cast-write-no-2 write-no-requires same-length returns same-length-2 returns-2 same-length-3 returns-3 same-length-4 returns-4)
