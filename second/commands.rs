@@ -1,9 +1,10 @@
 //! The commands that read standard input, and the steps drawn for the bench.
 
 use crate::chain::{put_chains, put_question, QUESTION};
-use crate::desk::{history_of, Answer, Desk, Outcome};
+use crate::desk::{history_of, Answer, AnyDesk, Desk, Outcome};
 use crate::judge::{judge, Verdict};
 use crate::lines::{put_bad, put_event, put_field, put_outcome, put_record, words_of, Reader};
+use crate::stamps::Stamps;
 use crate::words::*;
 use std::io::{self, ErrorKind, Read, Write};
 
@@ -78,13 +79,14 @@ pub fn each_line<T: Clone>(
 pub type Done = Result<(Line, Outcome), u8>;
 
 /// 01, What is delivered: the desk programs, started at 1, which read 1,000,000 lines and
-/// stop. `put` puts the records of one line; handed back is the desk as it is at the end.
-pub fn desk_program(
+/// stop, for either desk (02, No. 6). `put` puts the records of one line; handed back is the desk as it
+/// is at the end.
+pub fn desk_program<D: AnyDesk>(
     input: impl Read,
     output: &mut impl Write,
     put: impl Fn(&mut Vec<u8>, u64, &Done),
-) -> io::Result<Desk> {
-    let mut desk = Desk::start(1).expect("1 is a number to start at");
+) -> io::Result<D> {
+    let mut desk = D::start(1).expect("1 is a number to start at");
     let mut number = 0;
     each_line(input, output, Reader::of(REQUEST_LETTERS), Reader::take, |read, newline, out| {
         number += 1;
@@ -94,18 +96,18 @@ pub fn desk_program(
     Ok(desk)
 }
 
-/// The program that prints the desk's answers.
-pub fn answers(input: impl Read, output: &mut impl Write) -> io::Result<()> {
-    desk_program(input, output, |out, number, done| match done {
+/// The program that prints a desk's answers.
+pub fn answers<D: AnyDesk>(input: impl Read, output: &mut impl Write) -> io::Result<()> {
+    desk_program::<D>(input, output, |out, number, done| match done {
         Ok((_, outcome)) => put_outcome(out, number, outcome),
         Err(field) => put_bad(out, number, "no", *field),
     })
     .map(drop)
 }
 
-/// The program that prints the desk's history.
-pub fn history(input: impl Read, output: &mut impl Write) -> io::Result<()> {
-    desk_program(input, output, |out, _, done| {
+/// The program that prints a desk's history.
+pub fn history<D: AnyDesk>(input: impl Read, output: &mut impl Write) -> io::Result<()> {
+    desk_program::<D>(input, output, |out, _, done| {
         if let Ok((asked, outcome)) = done {
             history_of(*asked, outcome).into_iter().for_each(|event| put_event(out, event));
         }
@@ -135,7 +137,7 @@ impl<R: Read> Read for Remember<R> {
 /// its 1,000,000 lines are; and nothing before. After a read that failed it prints nothing at all.
 pub fn chain(input: impl Read, output: &mut impl Write) -> io::Result<()> {
     let mut input = Remember { input, failed: None };
-    let desk = desk_program(&mut input, output, |_, _, _| {})?;
+    let desk = desk_program::<Desk>(&mut input, output, |_, _, _| {})?;
     if let Some(failure) = input.failed {
         eprintln!("second: the input could not be read to its end: {failure}");
         return Ok(());
@@ -271,10 +273,31 @@ pub fn put_history_reading(out: &mut Vec<u8>, number: u64, read: Result<Line, u8
     }
 }
 
-/// For tests of the desk by numbers: one step a line, `kind job cell`, or a question after a chain,
-/// `256 job places`. True if every line was one of these; the first that was not ends it.
+/// For tests of the lock desk by numbers: steps, and questions after chains, `256 job places`.
 pub fn steps(first: u32, input: impl Read, output: &mut impl Write) -> io::Result<bool> {
-    let mut desk = match Desk::start(first) {
+    by_numbers(first, input, output, |desk: &Desk, line, out| {
+        let question = read_question(line);
+        if let Some((job, places)) = question {
+            put_question(out, desk, job, places);
+        }
+        question.is_some()
+    })
+}
+
+/// For tests of the timestamp desk by numbers (02, No. 6): steps alone.
+pub fn stamp_steps(first: u32, input: impl Read, output: &mut impl Write) -> io::Result<bool> {
+    by_numbers(first, input, output, |_: &Stamps, _, _| false)
+}
+
+/// One step a line, `kind job cell`, or a line that `other` knows and answers. True if every line was one
+/// of these; the first that was not ends it.
+pub fn by_numbers<D: AnyDesk>(
+    first: u32,
+    input: impl Read,
+    output: &mut impl Write,
+    other: impl Fn(&D, &[u8], &mut Vec<u8>) -> bool,
+) -> io::Result<bool> {
+    let mut desk = match D::start(first) {
         Ok(desk) => desk,
         Err(refusal) => {
             let mut out = b"no".to_vec();
@@ -288,10 +311,8 @@ pub fn steps(first: u32, input: impl Read, output: &mut impl Write) -> io::Resul
     each_line(input, output, Vec::new(), keep, |line, _, out| {
         if let Some(asked) = read_step(&line) {
             put_step(out, &desk.step(asked));
-        } else if let Some((job, places)) = read_question(&line) {
-            put_question(out, &desk, job, places);
         } else {
-            all_steps = false;
+            all_steps = other(&desk, &line, out);
         }
         all_steps
     })?;
@@ -339,19 +360,31 @@ pub fn put_step(out: &mut Vec<u8>, outcome: &Outcome) {
     out.push(b'\n');
 }
 
+/// Of 32 draws 15 read, 6 write, 4 increment, 5 commit, 1 gives up and 1 retries.
+pub fn drawn_letter(drawn: u32) -> u8 {
+    match drawn {
+        0..=14 => READ,
+        15..=20 => WRITE,
+        21..=24 => INCREMENT,
+        25..=29 => COMMIT,
+        30 => GIVE_UP,
+        _ => RETRY,
+    }
+}
+
 /// For the bench: 24 hands, each with a job of its own, and a mix of steps drawn from a fixed
 /// sequence (x becomes 1,103,515,245 x + 12,345 modulo 2^32, and a draw is its upper half modulo a
-/// limit): hand, kind, cell. A hand without a job begins one, a hand whose job was sent back retries;
-/// of 32 other steps 15 read, 6 write, 4 increment, 5 commit, 1 gives up and 1 retries. Tells how many
-/// went, waited, went back and were refused, and how many woke.
-pub fn mix(count: u32) -> [usize; 5] {
+/// limit): hand, kind, cell. A hand without a job begins one, a hand whose job was sent back retries, or
+/// on the timestamp desk has no job any more. Tells how many went, waited, went back and were refused, and
+/// how many woke.
+pub fn mix<D: AnyDesk>(count: u32) -> [usize; 5] {
     let mut x: u32 = 1;
     let mut draw = |limit: u32| {
         let drawn = (x >> 16) % limit;
         x = x.wrapping_mul(1_103_515_245).wrapping_add(12_345);
         drawn
     };
-    let mut desk = Desk::start(1).expect("1 is a first number");
+    let mut desk = D::start(1).expect("1 is a first number");
     let mut jobs = [0; 24];
     let mut backs = [false; 24];
     let mut tally = [0; 5];
@@ -360,12 +393,7 @@ pub fn mix(count: u32) -> [usize; 5] {
         let letter = match draw(32) {
             _ if jobs[hand] == 0 => BEGIN,
             _ if backs[hand] => RETRY,
-            0..=14 => READ,
-            15..=20 => WRITE,
-            21..=24 => INCREMENT,
-            25..=29 => COMMIT,
-            30 => GIVE_UP,
-            _ => RETRY,
+            drawn => drawn_letter(drawn),
         };
         let outcome = desk.step(Line { letter, job: jobs[hand], cell: draw(64) });
         let place = match outcome.answer {
@@ -378,6 +406,9 @@ pub fn mix(count: u32) -> [usize; 5] {
             Answer::No(_) => 3,
         };
         backs[hand] = place == 2;
+        if backs[hand] && !D::KEEPS_SENT_BACK {
+            jobs[hand] = 0;
+        }
         tally[place] += 1;
         tally[4] += outcome.wakes.len();
     }

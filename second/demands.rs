@@ -1,7 +1,7 @@
 //! The demands, held against a random run of the desk by brute force. They read with the larger
 //! matrix of 02, No. 1; what that request promises of its own stands in `demands/update.rs`, what is
 //! demanded of the history in `demands/history.rs`, and what No. 3 promises of chains in
-//! `demands/chain.rs`.
+//! `demands/chain.rs`. What No. 6 promises of the timestamp desk stands in `demands/stamps.rs`.
 
 use crate::desk::{history_of, Answer, Cell, Desk, Holder, Outcome, Status};
 use crate::make::chains::Shaper;
@@ -23,6 +23,7 @@ macro_rules! demand {
 
 pub mod chain;
 pub mod history;
+pub mod stamps;
 pub mod update;
 
 /// A wait under way: what was asked, the mode it is for, and the jobs that held the cell
@@ -341,17 +342,22 @@ pub fn places_and_queues(desk: &Desk) -> Result<(), String> {
     Ok(())
 }
 
-/// A random run of a desk under watch; the first violation with its step. Two of three seeds draw their
-/// steps as `make steps` does, and the third has the shapes of `make asked`.
-pub fn demands(seed: u64, count: u64) -> Result<(), String> {
+/// The number at which a random run of so many steps starts: mostly 1, at times near an edge.
+pub fn start_of(seed: u64, count: u64) -> u32 {
     let few = (count / 10 + 1).min(1_000) as u32;
-    let first = match seed % 8 {
+    match seed % 8 {
         3 => (1 << 31) - few.min(50),
         5 => LAST_NUMBER - Chance(seed).below(few as usize) as u32,
         7 => LAST_NUMBER - 31 - Chance(seed).below(4) as u32,
         _ => 1,
-    };
-    let mut shaper = Shaper::over(Maker::new(seed, first, LAST_NUMBER, seed % 2 == 0));
+    }
+}
+
+/// A random run of a desk under watch; the first violation with its step. Two of three seeds draw their
+/// steps as `make steps` does, and the third has the shapes of `make asked`.
+pub fn demands(seed: u64, count: u64) -> Result<(), String> {
+    let maker = Maker::new(seed, start_of(seed, count), LAST_NUMBER, seed % 2 == 0);
+    let mut shaper = Shaper::over(maker);
     let mut watch = Watch::default();
     for number in 1..=count {
         let asked = if seed % 3 == 2 { shaper.step() } else { shaper.maker.choose_step() };

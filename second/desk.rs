@@ -100,6 +100,48 @@ impl Outcome {
     }
 }
 
+/// What the programs need of a desk: of this one, or of the timestamp desk (02, No. 6).
+pub trait AnyDesk: Sized {
+    /// Whether a sent back job stays open, for a retry.
+    const KEEPS_SENT_BACK: bool;
+
+    fn start(first: u32) -> Result<Self, u8>;
+
+    fn step(&mut self, asked: Line) -> Outcome;
+}
+
+impl AnyDesk for Desk {
+    const KEEPS_SENT_BACK: bool = true;
+
+    fn start(first: u32) -> Result<Desk, u8> {
+        Desk::start(first)
+    }
+
+    fn step(&mut self, asked: Line) -> Outcome {
+        Desk::step(self, asked)
+    }
+}
+
+/// 01, Jobs and their numbers: the number to give first; refusal 10.
+pub fn first_number(first: u32) -> Result<u64, u8> {
+    if first == 0 {
+        Err(START_ZERO)
+    } else {
+        Ok(u64::from(first))
+    }
+}
+
+/// 01, Refusals by number: "begin tests 7, then 6", by the next number to give and the open jobs.
+pub fn refusal_of_begin(next: u64, open: usize) -> Option<u8> {
+    if next > u64::from(LAST_NUMBER) {
+        Some(NUMBERS_OUT)
+    } else if open == PLACES {
+        Some(PLACES_FULL)
+    } else {
+        None
+    }
+}
+
 /// The next number to give, the open jobs (in order of number) and the 64 cells.
 #[derive(Clone, PartialEq, Debug)]
 pub struct Desk {
@@ -111,10 +153,7 @@ pub struct Desk {
 impl Desk {
     /// 01, Jobs and their numbers: a fresh desk; refusal 10.
     pub fn start(first: u32) -> Result<Desk, u8> {
-        if first == 0 {
-            return Err(START_ZERO);
-        }
-        Ok(Desk { next: u64::from(first), jobs: Vec::new(), cells: vec![Cell::default(); CELLS] })
+        Ok(Desk { next: first_number(first)?, jobs: Vec::new(), cells: vec![Cell::default(); CELLS] })
     }
 
     pub fn status(&self, job: u32) -> Option<Status> {
@@ -159,15 +198,8 @@ impl Desk {
         }
     }
 
-    /// 01, Refusals by number: "begin tests 7, then 6".
     pub fn refusal_of_begin(&self) -> Option<u8> {
-        if self.next > u64::from(LAST_NUMBER) {
-            Some(NUMBERS_OUT)
-        } else if self.jobs.len() == PLACES {
-            Some(PLACES_FULL)
-        } else {
-            None
-        }
+        refusal_of_begin(self.next, self.jobs.len())
     }
 
     /// 01, The desk's rules: "Begin opens a running job that holds nothing."
@@ -262,7 +294,7 @@ impl Desk {
     }
 }
 
-/// 01, Lines, "History records": the step's events; `c`, `a`, `k` before the wakes. A
+/// 01, Lines, "History records": the step's events on either desk; `c`, `a`, `k` before the wakes. A
 /// record's letter is the letter asked (docs/DECISIONS.md, "Records of rule 1"), and `r` for `u`,
 /// however it was granted (02, No. 1).
 pub fn history_of(asked: Line, outcome: &Outcome) -> Vec<Line> {

@@ -8,16 +8,18 @@ pub mod histories;
 pub mod lines;
 pub mod plans;
 pub mod requests;
+pub mod stamps;
 
 use crate::commands::{write_out, WRITE_AT_ONCE};
 use crate::lines::read_request;
-use crate::words::LAST_NUMBER;
+use crate::words::{Line, LAST_NUMBER};
 use cases::case_text;
 use chains::Shaper;
 use faults::torn_line;
 use histories::history_lines;
 use lines::reader_line;
 use requests::Maker;
+use stamps::StampMaker;
 use std::io::{self, Write};
 
 /// Splitmix64: the same seed gives the same numbers for ever.
@@ -115,7 +117,38 @@ pub fn make_steps(seed: u64, count: u64, first: u32, output: &mut impl Write) ->
     put_lines(output, count, false, |_| {
         let asked = maker.choose_step();
         maker.desk.step(asked);
-        format!("{} {} {}", asked.letter, asked.job, asked.cell).into_bytes()
+        step_text(asked)
+    })
+}
+
+/// A step by numbers, without its newline.
+pub fn step_text(asked: Line) -> Vec<u8> {
+    format!("{} {} {}", asked.letter, asked.job, asked.cell).into_bytes()
+}
+
+pub fn make_stamps(seed: u64, count: u64, output: &mut impl Write) -> io::Result<()> {
+    let mut maker = StampMaker::new(seed, 1);
+    let torn = maker.chance.percent(25);
+    put_lines(output, count, torn, |torn| {
+        let mut line = maker.choose_line();
+        if torn {
+            line = torn_line(&mut maker.chance, &line);
+        }
+        if let Ok(asked) = read_request(&[&line[..], b"\n"].concat()) {
+            let outcome = maker.desk.step(asked);
+            maker.note(asked, &outcome);
+        }
+        line
+    })
+}
+
+pub fn make_stamp_steps(seed: u64, count: u64, first: u32, output: &mut impl Write) -> io::Result<()> {
+    let mut maker = StampMaker::new(seed, first);
+    put_lines(output, count, false, |_| {
+        let asked = maker.choose_step();
+        let outcome = maker.desk.step(asked);
+        maker.note(asked, &outcome);
+        step_text(asked)
     })
 }
 

@@ -12,6 +12,9 @@ mod fields_makers;
 mod judge;
 mod lines;
 mod makers;
+mod stamps;
+mod stamps_demands;
+mod stamps_makers;
 mod update;
 mod update_makers;
 

@@ -28,8 +28,8 @@ pub const HISTORY_LINES: usize = 4_096;
 pub const HISTORY_JOBS: usize = 255;
 pub const HISTORY_BYTES: usize = 65_536;
 
-/// 01, Refusals by number (15 belongs to buffers of fixed size, which this program has not), and 18 of
-/// 02, No. 3.
+/// 01, Refusals by number (15 belongs to buffers of fixed size, which this program has not), 18 of 02,
+/// No. 3, and 19 of No. 6.
 pub const NO_SUCH_KIND: u8 = 1;
 pub const NO_SUCH_CELL: u8 = 2;
 pub const JOB_NOT_OPEN: u8 = 3;
@@ -46,6 +46,7 @@ pub const JOB_ENDED: u8 = 13;
 pub const BUFFER_SHORT: u8 = 14;
 pub const TEXT_LONG: u8 = 16;
 pub const LIST_SHORT: u8 = 18;
+pub const NO_RETRY: u8 = 19;
 
 /// 02, No. 5: the fields of a line, by which refusal 9 tells the one at fault; END is "anything after the
 /// last field the letter has".

@@ -4,7 +4,8 @@
 
 use super::lines::{odd_line, spoil_line};
 use super::plans::{line, plan, shape};
-use super::requests::Maker;
+use super::requests::{fill_unused, spoil_step, Maker};
+use super::step_text;
 use crate::chain::QUESTION;
 use crate::desk::{Job, Status};
 use crate::lines::{put_fields, read_request};
@@ -229,12 +230,12 @@ impl Shaper {
     pub fn step(&mut self) -> Line {
         let mut asked = if self.maker.chance.percent(self.rubbish) {
             let mut loose = self.maker.choose();
-            self.maker.spoil_step(&mut loose);
+            spoil_step(&mut self.maker.chance, self.maker.desk.next, &mut loose);
             loose
         } else {
             self.next()
         };
-        self.maker.fill_unused(&mut asked);
+        fill_unused(&mut self.maker.chance, &mut asked);
         asked
     }
 
@@ -246,7 +247,7 @@ impl Shaper {
         }
         let asked = self.step();
         self.maker.desk.step(asked);
-        format!("{} {} {}", asked.letter, asked.job, asked.cell).into_bytes()
+        step_text(asked)
     }
 
     /// Mostly a waiting job, and often the oldest; or one that runs, was sent back, is closed, or is none.

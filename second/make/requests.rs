@@ -1,4 +1,5 @@
-//! Requests, as lines and as numbers, by a desk that runs beside.
+//! Requests, as lines and as numbers, by a desk that runs beside; and what the maker for the timestamp desk
+//! shares of it.
 
 use super::lines::{odd_line, spoil_line};
 use super::Chance;
@@ -52,27 +53,12 @@ impl Maker {
 
     pub fn mix(chance: &mut Chance, hottest: bool) -> Mix {
         let heat = if hottest { 0 } else { chance.below(4) };
-        let hot_cells = match heat {
-            0 => chance.between(1, 3),
-            1 => chance.between(2, 5),
-            2 => chance.between(4, 12),
-            _ => chance.between(12, 64),
-        };
-        let mut cells: Vec<u32> = (0..CELLS as u32).collect();
-        chance.shuffle(&mut cells);
-        cells.truncate(hot_cells);
-        cells.push(chance.of(&[0, 63]));
+        let hot = hot_cells(chance, heat);
         let full = chance.percent(45);
         Mix {
-            hot: cells,
+            hot,
             hot_share: chance.of(&[80, 95, 100]),
-            // 33 asks for one more than there are places
-            jobs: match chance.below(3) {
-                _ if full => PLACES + 1,
-                0 => chance.between(2, 5),
-                1 => chance.between(4, 12),
-                _ => chance.between(8, 31),
-            },
+            jobs: wanted_jobs(chance, full),
             begin: if full { 60 } else { chance.of(&[10, 25, 50]) },
             reads: chance.of(&[10, 35, 50, 70]),
             writes: chance.of(&[10, 15, 20, 30]),
@@ -173,21 +159,11 @@ impl Maker {
     /// One of the four letters that have a cell.
     pub fn action(&mut self) -> u8 {
         let Mix { reads, writes, updates, increments, .. } = self.mix;
-        let drawn = self.chance.below(reads + writes + updates + increments);
-        match drawn {
-            _ if drawn < reads => READ,
-            _ if drawn < reads + writes => WRITE,
-            _ if drawn < reads + writes + updates => UPDATE,
-            _ => INCREMENT,
-        }
+        action(&mut self.chance, [reads, writes, updates, increments])
     }
 
     pub fn cell(&mut self) -> u32 {
-        if self.chance.percent(self.mix.hot_share) {
-            self.chance.of(&self.mix.hot)
-        } else {
-            self.chance.below(CELLS) as u32
-        }
+        some_cell(&mut self.chance, self.mix.hot_share, &self.mix.hot)
     }
 
     /// What a running job asks for; at times a cell whose holders and waiters are all younger, one that
@@ -288,69 +264,115 @@ impl Maker {
         Line { letter, job, cell }
     }
 
-    /// A job that is most likely not open.
     pub fn stranger(&mut self) -> u32 {
-        let next = self.desk.next as u32;
-        let past = self.chance.below(40) as u32;
-        self.chance.of(&[
-            0,
-            LAST_NUMBER,
-            next,
-            next.wrapping_add(1),
-            next.wrapping_sub(past),
-            past,
-            256,
-            65_536,
-        ])
+        stranger(&mut self.chance, self.desk.next)
     }
 
     /// For numbers: the request, now and then spoilt, with anything in unused fields.
     pub fn choose_step(&mut self) -> Line {
-        let mut asked = self.choose();
-        if self.chance.percent(self.spoil) {
-            self.spoil_step(&mut asked);
-        }
-        self.fill_unused(&mut asked);
-        asked
-    }
-
-    /// Anything in the fields that the kind does not use.
-    pub fn fill_unused(&mut self, asked: &mut Line) {
-        if !has_cell(asked.letter) {
-            asked.cell = self.chance.of(&[0, 5, 63, 64, LAST_NUMBER]);
-        }
-        if !has_job(asked.letter) {
-            asked.job = self.chance.of(&[0, 1, asked.job, LAST_NUMBER]);
-        }
-    }
-
-    pub fn spoil_step(&mut self, asked: &mut Line) {
-        let anything = self.chance.number() as u32;
-        match self.chance.below(6) {
-            0 => asked.letter = self.chance.below(256) as u8,
-            1 => asked.letter = self.chance.of(&[0, 1, b'k', b'B', b'R', b'C', b'U', asked.letter ^ 128, 255]),
-            2 => {
-                asked.cell = self.chance.of(&[64, 65, 127, 128, 255, 256, 320, 65_536, 1 << 31, LAST_NUMBER])
-            }
-            3 => {
-                asked.cell = self.chance.of(&[anything, asked.cell.wrapping_add(256), asked.cell ^ (1 << 31)])
-            }
-            4 => asked.job = self.chance.of(&[anything, asked.job.wrapping_add(256), asked.job ^ (1 << 31)]),
-            _ => asked.job = self.stranger(),
-        }
+        let asked = self.choose();
+        as_step(&mut self.chance, self.spoil, self.desk.next, asked)
     }
 
     /// For lines: the request as text without its newline, now and then spoilt.
     pub fn choose_line(&mut self) -> Vec<u8> {
-        let mut line = Vec::new();
-        put_fields(&mut line, self.choose());
-        if self.chance.percent(self.spoil) {
-            line = if self.chance.percent(80) {
-                spoil_line(&mut self.chance, &line)
-            } else {
-                odd_line(&mut self.chance)
-            };
-        }
+        let asked = self.choose();
+        as_line(&mut self.chance, self.spoil, asked)
+    }
+}
+
+/// Few cells or many, by the heat, 0 to 3, with the first or the last of all among them.
+pub fn hot_cells(chance: &mut Chance, heat: usize) -> Vec<u32> {
+    let count = match heat {
+        0 => chance.between(1, 3),
+        1 => chance.between(2, 5),
+        2 => chance.between(4, 12),
+        _ => chance.between(12, 64),
+    };
+    let mut cells: Vec<u32> = (0..CELLS as u32).collect();
+    chance.shuffle(&mut cells);
+    cells.truncate(count);
+    cells.push(chance.of(&[0, 63]));
+    cells
+}
+
+/// How many jobs are to be open; if `full`, 33, one more than there are places.
+pub fn wanted_jobs(chance: &mut Chance, full: bool) -> usize {
+    match chance.below(3) {
+        _ if full => PLACES + 1,
+        0 => chance.between(2, 5),
+        1 => chance.between(4, 12),
+        _ => chance.between(8, 31),
+    }
+}
+
+/// One of the four letters that have a cell, by the weights of `r`, `w`, `u` and `i`.
+pub fn action(chance: &mut Chance, [reads, writes, updates, increments]: [usize; 4]) -> u8 {
+    let drawn = chance.below(reads + writes + updates + increments);
+    match drawn {
+        _ if drawn < reads => READ,
+        _ if drawn < reads + writes => WRITE,
+        _ if drawn < reads + writes + updates => UPDATE,
+        _ => INCREMENT,
+    }
+}
+
+/// A hot cell, or any.
+pub fn some_cell(chance: &mut Chance, hot_share: usize, hot: &[u32]) -> u32 {
+    if chance.percent(hot_share) {
+        chance.of(hot)
+    } else {
+        chance.below(CELLS) as u32
+    }
+}
+
+/// A job that is most likely not open.
+pub fn stranger(chance: &mut Chance, next: u64) -> u32 {
+    let next = next as u32;
+    let past = chance.below(40) as u32;
+    chance.of(&[0, LAST_NUMBER, next, next.wrapping_add(1), next.wrapping_sub(past), past, 256, 65_536])
+}
+
+/// A request for numbers, now and then spoilt, with anything in unused fields.
+pub fn as_step(chance: &mut Chance, spoil: usize, next: u64, mut asked: Line) -> Line {
+    if chance.percent(spoil) {
+        spoil_step(chance, next, &mut asked);
+    }
+    fill_unused(chance, &mut asked);
+    asked
+}
+
+/// Anything in the fields that the kind does not use.
+pub fn fill_unused(chance: &mut Chance, asked: &mut Line) {
+    if !has_cell(asked.letter) {
+        asked.cell = chance.of(&[0, 5, 63, 64, LAST_NUMBER]);
+    }
+    if !has_job(asked.letter) {
+        asked.job = chance.of(&[0, 1, asked.job, LAST_NUMBER]);
+    }
+}
+
+pub fn spoil_step(chance: &mut Chance, next: u64, asked: &mut Line) {
+    let anything = chance.number() as u32;
+    match chance.below(6) {
+        0 => asked.letter = chance.below(256) as u8,
+        1 => asked.letter = chance.of(&[0, 1, b'k', b'B', b'R', b'C', b'U', asked.letter ^ 128, 255]),
+        2 => asked.cell = chance.of(&[64, 65, 127, 128, 255, 256, 320, 65_536, 1 << 31, LAST_NUMBER]),
+        3 => asked.cell = chance.of(&[anything, asked.cell.wrapping_add(256), asked.cell ^ (1 << 31)]),
+        4 => asked.job = chance.of(&[anything, asked.job.wrapping_add(256), asked.job ^ (1 << 31)]),
+        _ => asked.job = stranger(chance, next),
+    }
+}
+
+/// A request as text without its newline, now and then spoilt.
+pub fn as_line(chance: &mut Chance, spoil: usize, asked: Line) -> Vec<u8> {
+    let mut line = Vec::new();
+    put_fields(&mut line, asked);
+    if !chance.percent(spoil) {
         line
+    } else if chance.percent(80) {
+        spoil_line(chance, &line)
+    } else {
+        odd_line(chance)
     }
 }

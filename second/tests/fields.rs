@@ -3,6 +3,7 @@
 use super::lines::{Dribble, Torn};
 use super::{check, check_verdict, made, printed, shown};
 use crate::commands::answers;
+use crate::desk::Desk;
 use crate::lines::{read_history, read_request, Reader};
 use crate::run;
 use crate::words::*;
@@ -163,7 +164,7 @@ fn bad_lines_change_nothing() {
 #[test]
 fn a_failed_read_ends_the_line_without_a_newline() {
     let mut output = Vec::new();
-    answers(Torn(Dribble(b"b\nr\t1", 3)), &mut output).unwrap();
+    answers::<Desk>(Torn(Dribble(b"b\nr\t1", 3)), &mut output).unwrap();
     assert_eq!(shown(&output), "1\tgo\t1\n2\tno\t9\t3\n");
 }
 
@@ -323,7 +324,7 @@ fn no_line_is_too_long() {
     {
         let mut output = Vec::new();
         let input = beginning.chain(io::repeat(byte).take(1 << 27)).chain(&b"\nb\n"[..]);
-        answers(input, &mut output).unwrap();
+        answers::<Desk>(input, &mut output).unwrap();
         assert_eq!(shown(&output), format!("1\tno\t9\t{field}\n2\tgo\t1\n"));
     }
 }

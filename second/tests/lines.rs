@@ -2,6 +2,7 @@
 
 use super::{made, printed, shown, text};
 use crate::commands::{answers, keep, KEPT};
+use crate::desk::Desk;
 use crate::lines::{read_history, read_request};
 use crate::run;
 use crate::words::*;
@@ -118,7 +119,7 @@ fn long_lines_are_one_bad_line() {
             let input = [b"b\nc\t", &vec![byte; long][..], b"\nb\n", &vec![byte; long]].concat();
             for size in [1_000_000, 50, 1] {
                 let mut output = Vec::new();
-                answers(Dribble(&input, size), &mut output).unwrap();
+                answers::<Desk>(Dribble(&input, size), &mut output).unwrap();
                 assert_eq!(shown(&output), "1\tgo\t1\n2\tno\t9\t2\n3\tgo\t2\n4\tno\t9\t1\n");
             }
         }
@@ -160,7 +161,7 @@ impl Shared<'_> {
 fn records_are_out_before_more_is_awaited() {
     let output = RefCell::new(Vec::new());
     let input = b"b\nb\nc\t1\nb\nx\nb\nb\n\n\nb\n".repeat(3);
-    answers(Impatient(Dribble(&input, 3), &output, 0), &mut Shared(&output)).unwrap();
+    answers::<Desk>(Impatient(Dribble(&input, 3), &output, 0), &mut Shared(&output)).unwrap();
     assert_eq!(output.borrow().iter().filter(|&&byte| byte == b'\n').count(), 30);
 }
 

@@ -17,9 +17,9 @@ use Rattle.text_rules.proofs.Length.{line-length}
 use Rattle.text_rules.proofs.FieldLaws.{field-at-most}
 use Rattle.text_rules.proofs.WriterLaws.{next-wrote, not-refused}
 use Rattle.text_rules.proofs.WroteLaws.{wrote-none, wrote-length}
-use Rattle.desk_rules.specs.declared.Answer.{Answer}
-use Rattle.desk_rules.specs.declared.Answer.the-variants.{Go, Wait, Back, No}
-use Rattle.desk_rules.specs.AnswerWords.{numberBeside, fieldBeside}
+use Rattle.desks.specs.declared.Answer.{Answer}
+use Rattle.desks.specs.declared.Answer.the-variants.{Go, Wait, Back, No}
+use Rattle.desks.specs.AnswerWords.{numberBeside, fieldBeside}
 use Rattle.clerk.specs.Parts.{Added, Besides}
 
 -- no line of a letter with numbers of 32 bits is longer than 24 bytes

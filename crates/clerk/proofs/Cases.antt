@@ -18,17 +18,19 @@ use Rattle.text_rules.specs.Fields.{lacking}
 use Rattle.text_rules.specs.Lines.{readLine}
 use Rattle.text_rules.specs.Records.{answerRecord, lineRecord}
 use Rattle.text_rules.specs.Split.{foundAt}
-use Rattle.desk_rules.specs.declared.Answer.{Answer}
+use Rattle.desks.specs.declared.Answer.{Answer}
 use Rattle.program_rules.specs.declared.View.{View}
 use Rattle.program_rules.specs.declared.View.the-variants.{Answers, History, Chains}
-use Rattle.desk_rules.specs.Step.{recordsOf, ownRecords, wakeRecords}
+use Rattle.desks.specs.Records.{recordsOf, ownRecords, wakeRecords}
 use Rattle.text_rules.specs.EventRecords.{askBy, eventLine, textOf}
-use Rattle.desk_rules.specs.AnswerWords.{wordOf, numberBeside, fieldBeside}
+use Rattle.desks.specs.AnswerWords.{wordOf, numberBeside, fieldBeside}
 use Rattle.program_rules.specs.OverLines.{answerLines, historyLines, wakeLines}
 use Rattle.program_rules.specs.Work.{viewed, toldBad, unended}
 use Rattle.program_rules.specs.declared.Clerk.{Clerk}
+use Rattle.program_rules.specs.declared.Desks.{Desks}
+use Rattle.program_rules.specs.declared.Method.the-variants.{Locks, Stamps}
 use Rattle.program_rules.specs.Chains.{chainText}
-use Rattle.program_rules.specs.Closing.{closing}
+use Rattle.program_rules.specs.Closing.{chainsBy, closing}
 use Rattle.desk_chain.specs.Chains.{chainsOn}
 use Rattle.clerk.specs.declared.records.Noted.{Noted}
 use Rattle.clerk.specs.declared.records.Noted.the-variants.{Nothing, Line}
@@ -105,7 +107,17 @@ pub last-history : (view : View) (c : Clerk) → view ≡ History → [] ≡ clo
 unfolding closing
 last-history view c e = rw e
 
--- the chains are
-pub last-chains : (view : View) (c : Clerk) → view ≡ Chains → chainText (chainsOn (c .desk)) ≡ closing view c
+-- the chains are, by the method
+pub last-chains : (view : View) (c : Clerk) → view ≡ Chains → chainsBy (c .desks .method) (c .desks) ≡ closing view c
 unfolding closing
 last-chains view c e = rw e
+
+-- on the lock desk those of the ones who wait there
+pub waiting-locks : (d : Desks) → d .method ≡ Locks → chainText (chainsOn (d .locks)) ≡ chainsBy (d .method) d
+unfolding chainsBy
+waiting-locks d e = ap (λ m. chainsBy m d) (sym e)
+
+-- and on the timestamp desk nobody waits
+pub waiting-stamps : (d : Desks) → d .method ≡ Stamps → [] ≡ chainsBy (d .method) d
+unfolding chainsBy
+waiting-stamps d e = ap (λ m. chainsBy m d) (sym e)

@@ -61,14 +61,14 @@ module _ (view : View) (first : Clerk) (chunk : List ℕ) (from : ℕ) (before :
     module _ (cut : Cut) (is-cut : cut ≡ cutOf (c .splitter) chunk next) (within : next < length chunk) (room : roomy out place ≡ true) where
       -- the clerk after the cut
       abbrev with-cut : Clerk
-      with-cut = record { desk = c .desk; splitter = cut .splitter }
+      with-cut = record { desks = c .desks; splitter = cut .splitter }
 
       -- by whatever name the cut goes
       left-cut : (t : Turn) → turning view with-cut out place ≡ t → length (t .out) ≡ length out → Left (t .clerk) (cut .next) (t .out) (t .at)
       unfolding cutting
       left-cut t e g =
           subst (λ k. Left (t .clerk) (k .next) (t .out) (t .at)) (sym is-cut)
-          (left-less t within room (subst (λ k. turning view (record { desk = c .desk; splitter = k .splitter }) out place ≡ t) is-cut e) g)
+          (left-less t within room (subst (λ k. turning view (record { desks = c .desks; splitter = k .splitter }) out place ≡ t) is-cut e) g)
 
       -- no line is to be answered
       pub left-passes : due (cut .splitter) ≡ false → Left with-cut (cut .next) out place

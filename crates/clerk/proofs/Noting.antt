@@ -12,9 +12,9 @@ use Rattle.terms.proofs.Alphabet.{letter-of-byte}
 use Rattle.conflict.specs.declared.action.Kind.{Kind}
 use Rattle.conflict.specs.Modes.{recorded}
 use Rattle.text_rules.specs.EventRecords.{askBy, markLetter, eventLine, textOf}
-use Rattle.desk_rules.specs.declared.Answer.{Answer}
-use Rattle.desk_rules.specs.declared.Answer.the-variants.{Go, Wait, Back as goes-back, No}
-use Rattle.desk_rules.specs.Step.{wentBy, ownRecords}
+use Rattle.desks.specs.declared.Answer.{Answer}
+use Rattle.desks.specs.declared.Answer.the-variants.{Go, Wait, Back as goes-back, No}
+use Rattle.desks.specs.Records.{wentBy, ownRecords}
 use Rattle.clerk.specs.declared.records.Noted.{Noted}
 use Rattle.clerk.specs.declared.records.Noted.the-variants.{Nothing, Line}
 use Rattle.clerk.specs.Parts.{asking, notedBytes}

@@ -11,11 +11,11 @@ use Rattle.terms.specs.Letters.{byteOf, letterOf}
 use Rattle.conflict.specs.declared.action.Action.{Action}
 use Rattle.conflict.specs.declared.action.Event.the-variants.{Does}
 use Rattle.conflict.specs.Modes.{recorded}
-use Rattle.desk_rules.specs.declared.Answer.{Answer}
-use Rattle.desk_rules.specs.declared.Answer.the-variants.{Go, Wait, Back as goes-back, No}
-use Rattle.desk_rules.specs.Desk.{Request}
-use Rattle.desk_rules.specs.Step.{wentBy, ownRecords, recordsOf}
-use Rattle.desk_rules.specs.Step as step
+use Rattle.desks.specs.declared.Answer.{Answer}
+use Rattle.desks.specs.declared.Answer.the-variants.{Go, Wait, Back as goes-back, No}
+use Rattle.desks.specs.Request.{Request}
+use Rattle.desks.specs.Records.{wentBy, ownRecords, recordsOf}
+use Rattle.desks.specs.Records as step
 use Rattle.text_rules.specs.EventRecords.{textOf}
 use Rattle.text_rules.proofs.RecordLines.{text-append}
 use Rattle.program_rules.specs.declared.View.{View}

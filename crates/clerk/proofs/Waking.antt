@@ -12,7 +12,7 @@ use Rattle.conflict.specs.declared.action.Action.{Action}
 use Rattle.text_rules.specs.Records.{longestRecord}
 use Rattle.text_rules.specs.Wrote.{Wrote}
 use Rattle.text_rules.proofs.WroteLaws.{wrote-then, wrote-as}
-use Rattle.desk_rules.specs.declared.Answer.{Answer}
+use Rattle.desks.specs.declared.Answer.{Answer}
 use Rattle.program_rules.specs.declared.View.{View}
 use Rattle.clerk.specs.Parts.{Added, firstRecord, wakeRecord, wakeRecords, lineRecords}
 use Rattle.clerk.proofs.Adding.{added-none, added-as}

@@ -1,5 +1,6 @@
 -- The records of one line as the code writes them, one after another: the first, if there is one, and then one for each wake (01, Lines).
 use Prim.Native.Nat.{ℕ, _≤_, _<_}
+use mathlib.Core.Path.{_≡_}
 use mathlib.Core.List.{List, [], _∷_, _++_}
 use lib.ListN.{length}
 use Rattle.terms.specs.declared.letters.Letter.{Letter}
@@ -11,12 +12,15 @@ use Rattle.conflict.specs.declared.action.Event.the-variants.{Does}
 use Rattle.text_rules.specs.EventRecords.{eventLine, textOf}
 use Rattle.text_rules.specs.Records.{answerRecord, lineRecord}
 use Rattle.text_rules.specs.Wrote.{Wrote}
-use Rattle.desk_rules.specs.declared.Answer.{Answer}
+use Rattle.desks.specs.declared.Answer.{Answer}
 use Rattle.program_rules.specs.declared.View.{View}
 use Rattle.program_rules.specs.declared.View.the-variants.{Answers, History, Chains}
-use Rattle.desk_rules.specs.AnswerWords.{wordOf, numberBeside, fieldBeside}
-use Rattle.desk_rules.specs.Desk.{Request}
-use Rattle.desk_rules.specs.Step.{ownRecords}
+use Rattle.desks.specs.AnswerWords.{wordOf, numberBeside, fieldBeside}
+use Rattle.desks.specs.Request.{Request}
+use Rattle.desks.specs.Records.{ownRecords}
+use Rattle.desks.specs.Stepping.{Stepping}
+use Rattle.program_rules.specs.OverLines.{toldBy}
+use Rattle.program_rules.specs.Work.{viewed}
 use Rattle.clerk.specs.declared.records.Noted.{Noted}
 use Rattle.clerk.specs.declared.records.Noted.the-variants.{Nothing, Line}
 
@@ -58,3 +62,8 @@ wakeRecords view line (a ∷ rest) = wakeRecord view line a ++ wakeRecords view 
 -- all records of a line whose request is good
 unfoldable pub lineRecords : View → ℕ → Letter → ℕ → Answer → List Action → List ℕ
 lineRecords view line l cell a wakes = firstRecord view line l cell a ++ wakeRecords view line wakes
+
+-- a request answered on a desk, whichever it is: the desk is what the step leaves, and the records of what the step says are written
+pub record Answered {S : Type 0} (does : Stepping S) (view : View) (line : ℕ) (r : Request) (d e : S) (at to : ℕ) (before after : List ℕ) : Type 0 where
+  pub desk : e ≡ does d r .desk
+  pub records : Wrote at to (viewed view (toldBy line r (does d r))) before after

@@ -2,7 +2,9 @@
 use desk_arrays::state::Desk;
 use desk_chain::chain::next_chain;
 use program_rules::Clerk;
+use program_rules::Desks;
 use program_rules::Finished;
+use program_rules::Method;
 use program_rules::View;
 use terms::limits::PLACES;
 use text::writer::has_room;
@@ -20,7 +22,7 @@ ghost use Rattle.text_rules.specs.Records.{jobsLine};
 ghost use Rattle.text_rules.specs.Wrote.{Wrote};
 ghost use Rattle.desk_chain.specs.Chains.{chainsOn};
 ghost use Rattle.program_rules.specs.Chains.{chainText};
-ghost use Rattle.program_rules.specs.Closing.{jobRoom, chainsRoom, closingRoom, closeOf};
+ghost use Rattle.program_rules.specs.Closing.{jobRoom, chainsRoom, chainsBy, closingRoom, closeOf};
 ghost use Rattle.clerk.specs.Parts.{Added};
 
 // No job of a chain has more bytes: ten digits, and the tab or the newline behind them.
@@ -96,6 +98,18 @@ fn put_chains(out: &mut [u8], at: usize, d: Desk) -> usize
     next
 }
 
+// The chains of those who wait, by the method: on the timestamp desk nobody does.
+fn put_waiting(out: &mut [u8], at: usize, d: Desks) -> usize
+    requires { ⌜ at + chainsRoom ≤ length (now out) ⌝ }
+    ensures { λ r. ⌜ Wrote at r (chainsBy (d .method) d) (now (out .entry)) (now (out .exit)) ⌝ }
+{
+    let method = d.method;
+    match method {
+        Method::Locks => put_chains(out, at, d.locks),
+        Method::Stamps => at,
+    }
+}
+
 // How much room is asked for what is written at the end.
 fn closing_room(view: View) -> usize
     ensures { λ r. ⌜ r ≡ closingRoom view ⌝ }
@@ -117,7 +131,7 @@ pub fn close(view: View, c: Clerk, out: &mut [u8], at: usize) -> Finished
     let to = match view {
         View::Answers => at,
         View::History => at,
-        View::Chains => put_chains(out, at, c.desk),
+        View::Chains => put_waiting(out, at, c.desks),
     };
     Finished {
         at: to,

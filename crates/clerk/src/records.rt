@@ -3,7 +3,7 @@ use conflict::action::Action;
 use conflict::action::Kind;
 use conflict::modes::recorded_kind;
 use desk::wakes::wake_at;
-use desk_rules::Answer;
+use desks::Answer;
 use program_rules::View;
 use terms::letters::Ask;
 use terms::letters::Letter;
@@ -25,10 +25,10 @@ ghost use lib.ListN.{length, take};
 ghost use Rattle.terms.specs.Limits.{requestLines, lastNumber};
 ghost use Rattle.text_rules.specs.Records.{ofAnswers, answerRecord, longestRecord, lineRecord};
 ghost use Rattle.text_rules.specs.Wrote.{Wrote};
-ghost use Rattle.desk_rules.specs.AnswerWords.{wordOf, numberBeside, fieldBeside};
+ghost use Rattle.desks.specs.AnswerWords.{wordOf, numberBeside, fieldBeside};
 ghost use Rattle.text_rules.specs.EventRecords.{askBy, textOf};
 ghost use Rattle.desk_arrays.specs.Steps.{wakeAt};
-ghost use Rattle.desk_rules.specs.Step.{wentBy, ownRecords};
+ghost use Rattle.desks.specs.Records.{wentBy, ownRecords};
 ghost use Rattle.terms.specs.declared.letters.Lettered.the-variants.{Known};
 ghost use Rattle.program_rules.specs.Work.{viewed, toldBad, wakesRoom, lineRoom};
 ghost use Rattle.clerk.specs.Parts.{Added, Besides, asking, notedBytes, firstRecord, wakeRecord, wakeRecords, lineRecords};
@@ -161,8 +161,8 @@ fn put_noted(out: &mut [u8], at: usize, n: Noted) -> usize
     }
 }
 
-// The first record of a line.
-fn put_first(
+// The first record of a line; where nobody can wake, it is all of them.
+pub fn put_first(
     view: View,
     out: &mut [u8],
     at: usize,

@@ -1,13 +1,20 @@
-// Line after line of a chunk: cut, read, step the desk, write the records (01, Lines).
+// Line after line of a chunk: cut, read, step the desk that the method says, write the records (01, Lines; 02, No. 6).
 use crate::records::put_bad;
+use crate::records::put_first;
 use crate::records::put_records;
-use desk::step::step_for;
+use desk::step as locks;
 use desk_arrays::state::Desk;
 use desk_arrays::state::SPOTS;
 use program_rules::Clerk;
+use program_rules::Desks;
 use program_rules::Finished;
+use program_rules::Method;
 use program_rules::View;
 use program_rules::Worked;
+use stamp_arrays::state::ROWS;
+use stamp_arrays::state::Stamps;
+use stamp_desk::step as stamps;
+use terms::letters::Letter;
 use terms::limits::PLACES;
 use terms::limits::REQUEST_LINES;
 use terms::refusals::Field;
@@ -28,6 +35,12 @@ ghost use Rattle.text_rules.specs.Lines.{readLine};
 ghost use Rattle.text_rules.specs.Split.{foundAt};
 ghost use Rattle.text_rules.specs.Wrote.{Wrote};
 ghost use Rattle.desk_arrays.specs.Steps.{deskOf};
+ghost use Rattle.desk_arrays.specs.Seen.{onArrays};
+ghost use Rattle.stamp_arrays.specs.Steps.{stampsOf};
+ghost use Rattle.stamp_arrays.specs.Seen.{onStamps};
+ghost use Rattle.program_rules.specs.OverLines.{asked};
+ghost use Rattle.program_rules.specs.Desks.{desksOf};
+ghost use Rattle.clerk.specs.Parts.{Answered};
 ghost use Rattle.program_rules.specs.Work.{viewed, unended, lineRoom, due, turning, owing, workOf, finishOf};
 
 // The longest record has so many bytes.
@@ -79,8 +92,8 @@ fn is_owing(s: Splitter) -> bool
     s.line <= REQUEST_LINES
 }
 
-// The line in the splitter is answered on the desk's fields where they stand, and its records are put into the buffer.
-fn answer_line(
+// A good line is answered on the lock desk's fields where they stand, and its records are put into the buffer.
+fn answer_by_locks(
     view: View,
     next: &mut u64,
     number: &mut [u32; PLACES],
@@ -89,16 +102,92 @@ fn answer_line(
     ask: &mut [u8; PLACES],
     held: &mut [u8; SPOTS],
     woken: &mut [u8; PLACES],
+    line: u64,
+    letter: Letter,
+    job: u32,
+    cell: u32,
+    out: &mut [u8],
+    at: usize,
+) -> usize
+    requires { ⌜ (line ≤ requestLines) × (at + lineRoom ≤ length (now out)) ⌝ }
+    ensures { λ r. ⌜ Answered onArrays view line (asked letter job cell) (deskOf (now (next .entry)) (now (number .entry)) (now (status .entry)) (now (cells .entry)) (now (ask .entry)) (now (held .entry))) (deskOf (now (next .exit)) (now (number .exit)) (now (status .exit)) (now (cells .exit)) (now (ask .exit)) (now (held .exit))) at r (now (out .entry)) (now (out .exit)) ⌝ }
+{
+    let t = locks::step_for(
+        next,
+        number,
+        status,
+        cells,
+        ask,
+        held,
+        woken,
+        letter,
+        job,
+        cell,
+    );
+    let answer = t.answer;
+    put_records(
+        view,
+        out,
+        at,
+        line,
+        letter,
+        cell,
+        answer,
+        number,
+        cells,
+        ask,
+        *woken,
+        t.count,
+    )
+}
+
+// A good line is answered on the timestamp desk's fields where they stand, and its one record is put into the buffer: nobody waits there.
+fn answer_by_stamps(
+    view: View,
+    next: &mut u64,
+    number: &mut [u32; PLACES],
+    reader: &mut [u32; ROWS],
+    writer: &mut [u32; ROWS],
+    line: u64,
+    letter: Letter,
+    job: u32,
+    cell: u32,
+    out: &mut [u8],
+    at: usize,
+) -> usize
+    requires { ⌜ (line ≤ requestLines) × (at + lineRoom ≤ length (now out)) ⌝ }
+    ensures { λ r. ⌜ Answered onStamps view line (asked letter job cell) (stampsOf (now (next .entry)) (now (number .entry)) (now (reader .entry)) (now (writer .entry))) (stampsOf (now (next .exit)) (now (number .exit)) (now (reader .exit)) (now (writer .exit))) at r (now (out .entry)) (now (out .exit)) ⌝ }
+{
+    let answer = stamps::step_for(next, number, reader, writer, letter, job, cell);
+    put_first(view, out, at, line, letter, cell, answer)
+}
+
+// The line in the splitter is answered on the fields of the desk that the method says, and its records are put into the buffer.
+fn answer_line(
+    view: View,
+    method: Method,
+    next: &mut u64,
+    number: &mut [u32; PLACES],
+    status: &mut [u8; PLACES],
+    cells: &mut [u8; PLACES],
+    ask: &mut [u8; PLACES],
+    held: &mut [u8; SPOTS],
+    woken: &mut [u8; PLACES],
+    stamped: &mut u64,
+    seats: &mut [u32; PLACES],
+    reader: &mut [u32; ROWS],
+    writer: &mut [u32; ROWS],
     s: Splitter,
     out: &mut [u8],
     at: usize,
 ) -> usize
     requires { ⌜ (due s ≡ true) × (at + lineRoom ≤ length (now out)) ⌝ }
-    ensures { λ r. ⌜ (turning view (record { desk = deskOf (now (next .entry)) (now (number .entry)) (now (status .entry)) (now (cells .entry)) (now (ask .entry)) (now (held .entry)); splitter = s }) (now (out .entry)) at ≡ record { clerk = record { desk = deskOf (now (next .exit)) (now (number .exit)) (now (status .exit)) (now (cells .exit)) (now (ask .exit)) (now (held .exit)); splitter = s }; at = r; out = now (out .exit) }) × (length (now (out .exit)) ≡ length (now (out .entry))) ⌝ }
+    ensures { λ r. ⌜ (turning view (record { desks = desksOf method (deskOf (now (next .entry)) (now (number .entry)) (now (status .entry)) (now (cells .entry)) (now (ask .entry)) (now (held .entry))) (stampsOf (now (stamped .entry)) (now (seats .entry)) (now (reader .entry)) (now (writer .entry))); splitter = s }) (now (out .entry)) at ≡ record { clerk = record { desks = desksOf method (deskOf (now (next .exit)) (now (number .exit)) (now (status .exit)) (now (cells .exit)) (now (ask .exit)) (now (held .exit))) (stampsOf (now (stamped .exit)) (now (seats .exit)) (now (reader .exit)) (now (writer .exit))); splitter = s }; at = r; out = now (out .exit) }) × (length (now (out .exit)) ≡ length (now (out .entry))) ⌝ }
 {
     match reading_of(s) {
-        Reading::Good { letter, job, cell } => {
-            let t = step_for(
+        Reading::Good { letter, job, cell } => match method {
+            Method::Locks => answer_by_locks(
+                view,
                 next,
                 number,
                 status,
@@ -106,44 +195,52 @@ fn answer_line(
                 ask,
                 held,
                 woken,
+                s.line,
                 letter,
                 job,
                 cell,
-            );
-            let answer = t.answer;
-            put_records(
-                view,
                 out,
                 at,
+            ),
+            Method::Stamps => answer_by_stamps(
+                view,
+                stamped,
+                seats,
+                reader,
+                writer,
                 s.line,
                 letter,
+                job,
                 cell,
-                answer,
-                number,
-                cells,
-                ask,
-                *woken,
-                t.count,
-            )
-        }
+                out,
+                at,
+            ),
+        },
         Reading::Bad(field) => put_bad(view, out, at, s.line, field),
     }
 }
 
 // From a place of a chunk on, every line that ends is answered and its records stand in the buffer from a place on, as long as a byte is left and there is
 // room for the records of any line; where there is not, the work is full and stops before the next cut, and goes on from there once the buffer is written out.
-// The desk's fields are taken out once and put back at the end.
+// The desks' fields are taken out once and put back at the end.
 pub fn work(view: View, c: Clerk, chunk: &[u8], from: usize, out: &mut [u8], at: usize) -> Worked
     ensures { λ r. ⌜ (r ≡ workOf view c (now (chunk .entry)) from (now (out .entry)) at .worked) × (now (out .exit) ≡ workOf view c (now (chunk .entry)) from (now (out .entry)) at .out) ⌝ }
 {
-    let desk = c.desk;
-    let mut numbered = desk.next;
-    let mut number = desk.number;
-    let mut status = desk.status;
-    let mut cells = desk.cell;
-    let mut ask = desk.ask;
-    let mut held = desk.held;
+    let desks = c.desks;
+    let method = desks.method;
+    let locks = desks.locks;
+    let mut numbered = locks.next;
+    let mut number = locks.number;
+    let mut status = locks.status;
+    let mut cells = locks.cell;
+    let mut ask = locks.ask;
+    let mut held = locks.held;
     let mut woken = [0; PLACES];
+    let stamps = desks.stamps;
+    let mut stamped = stamps.next;
+    let mut seats = stamps.number;
+    let mut reader = stamps.reader;
+    let mut writer = stamps.writer;
     let mut splitter = c.splitter;
     let mut next = from;
     let mut place = at;
@@ -159,6 +256,7 @@ pub fn work(view: View, c: Clerk, chunk: &[u8], from: usize, out: &mut [u8], at:
         if is_due(splitter) {
             place = answer_line(
                 view,
+                method,
                 &mut numbered,
                 &mut number,
                 &mut status,
@@ -166,13 +264,17 @@ pub fn work(view: View, c: Clerk, chunk: &[u8], from: usize, out: &mut [u8], at:
                 &mut ask,
                 &mut held,
                 &mut woken,
+                &mut stamped,
+                &mut seats,
+                &mut reader,
+                &mut writer,
                 splitter,
                 out,
                 place,
             );
         }
     }
-    let desk = Desk {
+    let locks = Desk {
         next: numbered,
         number,
         status,
@@ -180,7 +282,18 @@ pub fn work(view: View, c: Clerk, chunk: &[u8], from: usize, out: &mut [u8], at:
         ask,
         held,
     };
-    let clerk = Clerk { desk, splitter };
+    let stamps = Stamps {
+        next: stamped,
+        number: seats,
+        reader,
+        writer,
+    };
+    let desks = Desks {
+        method,
+        locks,
+        stamps,
+    };
+    let clerk = Clerk { desks, splitter };
     Worked {
         clerk,
         next,

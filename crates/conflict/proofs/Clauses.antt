@@ -10,6 +10,8 @@ use Rattle.conflict.specs.declared.action.Kind.the-variants.{Read, Write
 use Rattle.conflict.specs.declared.action.Action.{Action}
 use Rattle.conflict.specs.Modes.{recorded}
 use Rattle.conflict.specs.Schedule.{Schedule, conflicts, keep, touches, edge}
+use Rattle.conflict.specs.Dirty.{changes}
+use Rattle.conflict.specs.NumberOrder.{reads}
 
 -- of a read a history records a read
 pub records-read : recorded asks-read ≡ Read
@@ -70,3 +72,33 @@ edge-own a s i j t = rw t
 pub edge-past : (a : Action) (s : Schedule) (i j : ℕ) → eqb (a .job) i ≡ false → edge (a ∷ s) i j ≡ edge s i j
 unfolding edge
 edge-past a s i j f = rw f
+
+-- a read reads (02, No. 6)
+pub read-reads : reads Read ≡ true
+unfolding reads
+read-reads = refl
+
+-- a write does not
+pub write-reads-not : reads Write ≡ false
+unfolding reads
+write-reads-not = refl
+
+-- an increment does
+pub increment-reads : reads Increment ≡ true
+unfolding reads
+increment-reads = refl
+
+-- a read changes nothing
+pub read-changes-not : changes Read ≡ false
+unfolding changes
+read-changes-not = refl
+
+-- a write changes
+pub write-changes : changes Write ≡ true
+unfolding changes
+write-changes = refl
+
+-- and an increment does
+pub increment-changes : changes Increment ≡ true
+unfolding changes
+increment-changes = refl

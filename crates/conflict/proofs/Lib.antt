@@ -30,3 +30,8 @@ pub mod DirtyReads
 pub mod LookingBack
 pub mod DirtyFound
 pub mod StrictClean
+pub mod Largest
+pub mod Within
+pub mod NumberOrder
+pub mod NumbersGrow
+pub mod NothingAfter

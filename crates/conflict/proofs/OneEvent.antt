@@ -5,6 +5,7 @@ use Prim.Native.Nat.{ℕ}
 use mathlib.Core.Path.{_≡_, refl}
 use mathlib.Core.Bool.{Bool, true, false, not, _&&_, _||_}
 use mathlib.Core.List.{[], _∷_}
+use native.Mathlib.Omega.{arith}
 use lib.Dec.{eqb}
 use Rattle.laws.specs.Choice.{pick}
 use Rattle.laws.specs.Lists.{put}
@@ -161,3 +162,11 @@ order-does a h = refl
 pub order-ends : (m : Mark) (i : ℕ) (h : History) → commitOrder (Ends m i ∷ h) ≡ put (isCommit m) i (commitOrder h)
 unfolding commitOrder
 order-ends m i h = refl
+
+-- an action is one other action only if they are the same
+pub same-action : {x y : Action} → Does x ≡ Does y → x ≡ y
+same-action e = cc
+
+-- and no mark is one
+pub no-mark : {P : Type 0} {x : Action} {m : Mark} {j : ℕ} → Does x ≡ Ends m j → P
+no-mark e = let z : _≡_ {A = ℕ} 0 1 = cc in absurd (omega arith)

@@ -5,3 +5,4 @@ pub mod Cells
 pub mod History
 pub mod Runs
 pub mod Dirty
+pub mod NumberOrder

@@ -13,7 +13,7 @@ use desk_arrays::state::SPOTS;
 use desk_arrays::state::Said;
 use desk_arrays::state::Told;
 use desk_plan::plan::plan_for;
-use desk_rules::Answer;
+use desks::Answer;
 use terms::letters::Letter;
 use terms::letters::Lettered;
 use terms::letters::letter_of;

@@ -4,12 +4,13 @@ use Prim.Native.Nat.{ℕ, _<_, _≤_}
 use mathlib.Core.Path.{_≡_}
 use Rattle.terms.specs.Limits.{lastNumber}
 use Rattle.conflict.specs.History.{History}
-use Rattle.desk_rules.specs.Stepping.{Stepping}
-use Rattle.desk_rules.specs.Step.{StartedOn}
-use Rattle.desk_rules.specs.Course.{course}
-use Rattle.desk_rules.specs.Faithful.{Follows}
+use Rattle.desks.specs.Stepping.{Stepping}
+use Rattle.desks.specs.Started.{StartedOn}
+use Rattle.desks.specs.Course.{course}
+use Rattle.desks.specs.Follows.{Follows}
 use Rattle.desk_rules.specs.Promises.{Promises}
-use Rattle.desk_rules.proofs.OneCourse.{follows-on, keeps-promises, show-the-same}
+use Rattle.desks.proofs.Following.{follows-on}
+use Rattle.desk_rules.proofs.OneCourse.{keeps-promises, show-the-same}
 use Rattle.desk_arrays.specs.declared.state.Desk.{Desk}
 use Rattle.desk_arrays.specs.Steps.{emptyDesk}
 use Rattle.desk_arrays.specs.Seen.{view, onArrays, running}

@@ -13,7 +13,7 @@ use Rattle.terms.specs.Limits.{cells}
 use Rattle.conflict.specs.declared.modes.Mode.{Mode}
 use Rattle.conflict.specs.declared.modes.Mode.the-variants.{Free}
 use Rattle.conflict.specs.Modes.{needed, covers, asked, isFree}
-use Rattle.desk_rules.specs.declared.Answer.the-variants.{Go, Wait}
+use Rattle.desks.specs.declared.Answer.the-variants.{Go, Wait}
 use Rattle.desk_rules.specs.Desk.{closed, running, Waiter}
 use Rattle.desk_rules.specs.Locks.{agrees, olderThanHolders, olderThanWaiters, isEmpty}
 use Rattle.desk_rules.specs.Rules.{grant, queued, sendBack, rule1, rule2, rule3, ask}
@@ -26,7 +26,7 @@ use Rattle.desk_arrays.specs.Places.{modeAt, agreesAt, olderAt, nobodyWa
 use Rattle.desk_arrays.specs.Moves.{promotes, enters, decided}
 use Rattle.desk_arrays.specs.Steps.{carried, answerTo, performed}
 use Rattle.desk_arrays.specs.Stands.{byNumber, statusAt, statusBy, modeBy, Plain, Tied}
-use Rattle.desk_arrays.proofs.Seats.{Seat}
+use Rattle.desks.proofs.Seats.{Seat}
 use Rattle.desk_arrays.proofs.ByNumber.{FreeHas, seat-has}
 use Rattle.desk_arrays.proofs.FreePlaces.{free-closed, free-none}
 use Rattle.desk_arrays.proofs.HolderTests.{agrees-at, older-at}

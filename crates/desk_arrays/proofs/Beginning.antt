@@ -10,29 +10,39 @@ use native.Mathlib.Numerals.{add-one}
 use lib.Dec.{ltb}
 use lib.ListN.{getD, set, length-set}
 use lib.Seq.{getD-set-same, getD-set-other}
-use Rattle.laws.specs.Choice.{by-test}
+use Rattle.laws.specs.Choice.{pick, by-test}
 use Rattle.laws.specs.Lists.{member, pos}
 use Rattle.terms.specs.Limits.{places, lastNumber}
 use Rattle.conflict.specs.declared.modes.Mode.the-variants.{Free}
-use Rattle.desk_rules.specs.declared.Answer.the-variants.{Go}
-use Rattle.desk_rules.specs.Desk.{closed, running, Waiter, at}
+use Rattle.desks.specs.declared.Answer.the-variants.{Go}
+use Rattle.laws.specs.Functions.{at}
+use Rattle.terms.specs.declared.refusals.Refusal.the-variants.{AllOpen, NoNumberLeft}
+use Rattle.desks.specs.Begin.{beginning}
+use Rattle.desks.specs.Opening.{openingOf}
+use Rattle.desk_rules.specs.Desk.{closed, running, Waiter}
 use Rattle.desk_rules.specs.Rules.{begin}
 use Rattle.desk_rules.specs.Step.{stepBegin}
 use Rattle.desk_rules.specs.Invariant.{Inv}
-use Rattle.desk_rules.proofs.Tests.{at-same, at-other, at-each}
+use Rattle.laws.proofs.Functions.{at-same, at-other, at-each}
 use Rattle.desk_arrays.specs.declared.state.Desk.{Desk}
-use Rattle.desk_arrays.specs.declared.moves.Move.the-variants.{Begin}
+use Rattle.desk_arrays.specs.declared.moves.Move.the-variants.{Refuse, Begin}
 use Rattle.desk_arrays.specs.Codes.{runningCode}
 use Rattle.desk_arrays.specs.Places.{modeAt}
-use Rattle.desk_arrays.specs.Moves.{beginMove}
+use Rattle.desk_arrays.specs.Moves.{opened, beginMove}
 use Rattle.desk_arrays.specs.Steps.{begun, carried, answerTo, performed}
 use Rattle.desk_arrays.specs.Stands.{byNumber, statusFor, statusAt, statusBy, modeBy, Plain, Stands, Tied}
-use Rattle.desk_arrays.proofs.Seats.{pos-below, pos-holds, free-place, seated-member}
+use Rattle.desks.proofs.Seats.{pos-below, pos-holds, free-place, seated-member}
 use Rattle.desk_arrays.proofs.ByNumber.{nobody-has}
-use Rattle.desk_arrays.proofs.SeatsChanged.{seated-set, taken-number}
+use Rattle.desks.proofs.Places.{seated-set}
+use Rattle.desk_arrays.proofs.SeatsChanged.{taken-number}
 use Rattle.desk_arrays.proofs.StatusCodes.{set-status}
 use Rattle.desk_arrays.proofs.Telling.{quiet-tied}
 use Rattle.desk_arrays.proofs.Reading.{paperOf, plain-stands, refuse-tied, pick-tied}
+
+-- a begin's move, test by test
+pub begin-picks : (next : ℕ) (number : List ℕ) → beginMove next number ≡ pick (ltb lastNumber next) (Refuse NoNumberLeft) (pick (ltb (pos number 0) places) (Begin (pos number 0) next) (Refuse AllOpen))
+unfolding beginMove opened openingOf
+begin-picks next number = by-test (ltb lastNumber next) (λ t. rw t) (λ f. rw f (by-test (ltb (pos number 0) places) (λ t. rw t) (λ g. rw g)))
 
 module _ {d : Desk} {q : ℕ → List Waiter} (plain : Plain d) (v : Inv (paperOf d q)) where
   -- the next number is not 0
@@ -101,8 +111,9 @@ module _ {d : Desk} {q : ℕ → List Waiter} (plain : Plain d) (v : Inv (paperO
 
   -- begin: 7, then 6, else the next number at the first free place
   pub begin-tied : (j c : ℕ) → Tied (performed d j c (beginMove (d .next) (d .number))) (stepBegin (paperOf d q))
-  unfolding beginMove stepBegin
+  unfolding stepBegin beginning
   begin-tied j c =
-      pick-tied d j c (ltb lastNumber (d .next)) (ltb lastNumber (d .next)) _ _ refl (λ _. refuse-tied d j c _ (plain-stands plain q))
+      rw (begin-picks (d .next) (d .number))
+      (pick-tied d j c (ltb lastNumber (d .next)) (ltb lastNumber (d .next)) _ _ refl (λ _. refuse-tied d j c _ (plain-stands plain q))
       (λ _. pick-tied d j c (ltb (pos (d .number) 0) places) (member 0 (d .number)) _ _ (ap (ltb (pos (d .number) 0)) (sym (plain .numbers)) ∙ free-place (d .number))
-      (λ room. begun-tied room j c) (λ _. refuse-tied d j c _ (plain-stands plain q)))
+      (λ room. begun-tied room j c) (λ _. refuse-tied d j c _ (plain-stands plain q))))

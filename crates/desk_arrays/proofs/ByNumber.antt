@@ -8,12 +8,12 @@ use mathlib.Core.List.{List}
 use lib.ListN.{length, getD}
 use Rattle.laws.specs.Choice.{by-test}
 use Rattle.laws.specs.Lists.{pos}
-use Rattle.desk_rules.specs.Desk.{at}
-use Rattle.desk_rules.specs.Invariant.{Once}
-use Rattle.desk_rules.proofs.Tests.{at-same, at-other, at-all}
-use Rattle.desk_arrays.specs.Stands.{isSeated, byNumber}
+use Rattle.laws.specs.Functions.{at}
+use Rattle.desks.specs.Places.{Once, isSeated}
+use Rattle.laws.proofs.Functions.{at-same, at-other, at-all}
+use Rattle.desk_arrays.specs.Stands.{byNumber}
 use Rattle.desk_arrays.proofs.Cases.{by-same}
-use Rattle.desk_arrays.proofs.Seats.{Seat, seat-at, seat-of, seat-seated, zero-unseated}
+use Rattle.desks.proofs.Seats.{Seat, seat-at, seat-of, seat-seated, zero-unseated}
 
 -- at every free place stands x
 abbrev pub FreeHas : {A : Type 0} → A → List ℕ → (ℕ → A) → Type 0

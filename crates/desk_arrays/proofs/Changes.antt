@@ -10,15 +10,16 @@ use Rattle.terms.specs.Limits.{places, cells}
 use Rattle.conflict.specs.declared.modes.Mode.{Mode}
 use Rattle.conflict.specs.declared.modes.Mode.the-variants.{Free}
 use Rattle.conflict.specs.Modes.{codeOf}
-use Rattle.desk_rules.specs.Desk.{closed, running, waiting, Waiter, at}
+use Rattle.laws.specs.Functions.{at}
+use Rattle.desk_rules.specs.Desk.{closed, running, waiting, Waiter}
 use Rattle.desk_rules.specs.Rules.{withRow, withStatus, grant, queued, retry}
-use Rattle.desk_rules.proofs.Tests.{at-all}
+use Rattle.laws.proofs.Functions.{at-all}
 use Rattle.desk_arrays.specs.declared.state.Desk.{Desk}
 use Rattle.desk_arrays.specs.Codes.{freeCode, runningCode, waitingCode, askCode}
 use Rattle.desk_arrays.specs.Places.{spot, modeAt}
 use Rattle.desk_arrays.specs.Steps.{withMode, waitingFor, retried}
 use Rattle.desk_arrays.specs.Stands.{statusFor, statusAt, statusBy, modeBy, Plain, Stands}
-use Rattle.desk_arrays.proofs.Seats.{Seat, seat-below, seat-taken}
+use Rattle.desks.proofs.Seats.{Seat, seat-below, seat-taken}
 use Rattle.desk_arrays.proofs.ByNumber.{same-number, at-number}
 use Rattle.desk_arrays.proofs.StatusCodes.{set-status, set-waiting}
 use Rattle.desk_arrays.proofs.Spots.{set-mode, set-cell, set-seat, spot-below}

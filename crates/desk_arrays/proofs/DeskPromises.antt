@@ -13,23 +13,27 @@ use Rattle.terms.specs.Limits.{lastNumber}
 use Rattle.conflict.specs.Schedule.{Equivalent, serial}
 use Rattle.conflict.specs.History.{History, committedPart, commitOrder}
 use Rattle.conflict.specs.Dirty.{IsDirty}
-use Rattle.desk_rules.specs.declared.Answer.the-variants.{Go, Wait, Back, No}
-use Rattle.desk_rules.specs.Desk.{Request, freshDesk, waiting}
+use Rattle.desks.specs.declared.Answer.the-variants.{Go, Wait, Back, No}
+use Rattle.desks.specs.Request.{Request}
+use Rattle.desk_rules.specs.Desk.{freshDesk, waiting}
 use Rattle.desk_rules.specs.Desk as paper
 use Rattle.desk_rules.specs.Table.{Due}
 use Rattle.desk_rules.specs.Asked.{asker}
-use Rattle.desk_rules.specs.Step.{step, fresh}
-use Rattle.desk_rules.specs.Stepping.{through}
-use Rattle.desk_rules.specs.Requests.{writes}
-use Rattle.desk_rules.specs.Course.{from, shown}
-use Rattle.desk_rules.specs.Examples.{answersOf}
+use Rattle.desks.specs.Started.{fresh}
+use Rattle.desk_rules.specs.Step.{step}
+use Rattle.desks.specs.Stepping.{through}
+use Rattle.desks.specs.Requests.{writes}
+use Rattle.desks.specs.Course.{shown}
+use Rattle.desk_rules.specs.Course.{from}
+use Rattle.desks.specs.Told.{answersOf}
 use Rattle.desk_rules.specs.Waiting.{OldestLive, ServedInTime}
 use Rattle.desk_rules.specs.Effects.{Begins, RunEnds}
 use Rattle.desk_rules.specs.Releasing.{AllReleased}
-use Rattle.desk_rules.specs.Ages.{AgesFrom}
+use Rattle.desks.specs.Numbers.{NumbersFrom}
 use Rattle.desk_rules.specs.Promises.{Promises}
-use Rattle.desk_rules.proofs.StartedThrough.{run-started}
-use Rattle.desk_rules.proofs.OneCourse.{keeps-promises, started-course, start-promises, same-answers}
+use Rattle.desks.proofs.StartedThrough.{run-started}
+use Rattle.desks.proofs.Following.{started-course, same-answers}
+use Rattle.desk_rules.proofs.OneCourse.{keeps-promises, start-promises}
 use Rattle.desk_arrays.specs.declared.state.Desk.{Desk}
 use Rattle.desk_arrays.specs.Steps.{emptyDesk, stepOf}
 use Rattle.desk_arrays.specs.Seen.{view, onArrays, Started, running}
@@ -45,8 +49,8 @@ module _ (n : ℕ) (some : 0 < n) (last : n ≤ lastNumber) where
   desk-promises-from-empty rs = desk-promises (run-started (fresh n some last) rs)
 
   -- what is promised of the numbers from a start on
-  pub desk-ages-from : AgesFrom n (running (emptyDesk n))
-  desk-ages-from = start-promises faithful n some last
+  pub desk-numbers-from : NumbersFrom (λ d. d .next) n (running (emptyDesk n))
+  desk-numbers-from = start-promises faithful n some last
 
   -- and from its start on it shows what the paper's desk shows
   pub desk-is-paper : running (emptyDesk n) ≡ from (freshDesk n)
@@ -71,7 +75,7 @@ desk-somebody-runs s = desk-promises s .service .somebody-runs
 module _ {d : Desk} {h : History} (s : Started d h) (r : Request) where
   -- a step is refused exactly where the table has that refusal due (demand 1)
   pub desk-refused-exactly : (why : Refusal) → (stepOf d (r .kind) (r .job) (r .cell) .said .answer ≡ No why) ↔ Due (view d) r why
-  desk-refused-exactly = desk-promises s .refuses .refused-exactly r
+  desk-refused-exactly = desk-promises s .refuses .by-table .refused-exactly r
 
   -- a begin that goes opens a running job under the next number
   pub desk-begins : (j : ℕ) → letterOf (r .kind) ≡ Known Begin → stepOf d (r .kind) (r .job) (r .cell) .said .answer ≡ Go j → Begins (view d) (view (stepOf d (r .kind) (r .job) (r .cell) .desk)) j

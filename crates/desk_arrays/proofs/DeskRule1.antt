@@ -14,7 +14,7 @@ use Rattle.terms.specs.Limits.{cells}
 use Rattle.conflict.specs.declared.modes.Mode.the-variants.{Free}
 use Rattle.conflict.specs.Modes.{needed, covers}
 use Rattle.conflict.specs.History.{History}
-use Rattle.desk_rules.specs.declared.Answer.the-variants.{Go}
+use Rattle.desks.specs.declared.Answer.the-variants.{Go}
 use Rattle.desk_rules.specs.Desk.{Status, closed, running, waiting, sentback}
 use Rattle.desk_rules.specs.Asked.{Asking}
 use Rattle.desk_arrays.specs.declared.state.Desk.{Desk}

@@ -8,7 +8,7 @@ use lib.ListN.{length, getD, set, length-set}
 use lib.Seq.{getD-set-same, getD-set-other}
 use Rattle.terms.specs.Limits.{places, cells}
 use Rattle.conflict.specs.declared.modes.Mode.the-variants.{Free}
-use Rattle.desk_rules.specs.declared.Answer.the-variants.{Go, Back}
+use Rattle.desks.specs.declared.Answer.the-variants.{Go, Back}
 use Rattle.desk_rules.specs.Desk.{closed, sentback, Waiter}
 use Rattle.desk_rules.specs.Rules.{rowsAfter, rule4, close, sendBack}
 use Rattle.desk_rules.specs.Invariant.{Inv}
@@ -23,7 +23,7 @@ use Rattle.desk_arrays.specs.Settling.{Settling, droppedBy}
 use Rattle.desk_arrays.specs.Steps.{settled, codeAfter, numbersAfter, answerAfter, ended, carried, answerTo, wakeAt, performed}
 use Rattle.desk_arrays.specs.Stands.{statusFor, statusAt, statusBy, modeBy, Plain, Tied}
 use Rattle.desk_arrays.proofs.Cases.{by-same}
-use Rattle.desk_arrays.proofs.Seats.{Seat, seat-below}
+use Rattle.desks.proofs.Seats.{Seat, seat-below}
 use Rattle.desk_arrays.proofs.ByNumber.{seat-has}
 use Rattle.desk_arrays.proofs.SeatsChanged.{freed-set, freed-same}
 use Rattle.desk_arrays.proofs.StatusCodes.{closed-code}

@@ -5,7 +5,7 @@ use mathlib.Core.Path.{_≡_, ap}
 use mathlib.Core.List.{[]}
 use native.Mathlib.Omega.{arith}
 use Rattle.terms.specs.declared.refusals.Refusal.{Refusal}
-use Rattle.desk_rules.specs.declared.Answer.the-variants.{Go, Wait, Back, No}
+use Rattle.desks.specs.declared.Answer.the-variants.{Go, Wait, Back, No}
 use Rattle.desk_arrays.specs.declared.state.Desk.{Desk}
 use Rattle.desk_arrays.specs.declared.state.Outcome.{Outcome}
 use Rattle.desk_arrays.specs.declared.moves.Ending.the-variants.{Closed, SentBack}

@@ -5,10 +5,11 @@ use lib.ListN.{length, getD}
 use mathlib.Core.Path.{_≡_, sym, ap, _∙_, fun-ext}
 use Rattle.conflict.specs.History.{History}
 use Rattle.desk_rules.specs.Desk as paper
-use Rattle.desk_rules.specs.Desk.{Request}
-use Rattle.desk_rules.specs.Step.{step, fresh}
+use Rattle.desks.specs.Request.{Request}
+use Rattle.desks.specs.Started.{fresh}
+use Rattle.desk_rules.specs.Step.{step}
 use Rattle.desk_rules.specs.Seen.{seenBy}
-use Rattle.desk_rules.specs.Course.{shown}
+use Rattle.desks.specs.Course.{shown}
 use Rattle.desk_rules.specs.Faithful.{Faithful}
 use Rattle.desk_rules.specs.Invariant.{Inv}
 use Rattle.desk_rules.proofs.Kept.{step-inv, started-inv}

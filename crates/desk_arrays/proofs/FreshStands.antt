@@ -9,14 +9,15 @@ use Rattle.conflict.specs.declared.modes.Mode.the-variants.{Free}
 use Rattle.conflict.specs.Modes.{modeOf}
 use Rattle.conflict.proofs.ModeCodes.{mode-zero}
 use Rattle.desk_rules.specs.Desk.{closed, idle, freshDesk}
-use Rattle.desk_rules.proofs.Places.{free-nobody}
+use Rattle.desks.proofs.Places.{free-nobody}
 use Rattle.desk_arrays.specs.Codes.{freeCode}
 use Rattle.desk_arrays.specs.Places.{spot, modeAt}
 use Rattle.desk_arrays.specs.Steps.{emptyDesk}
-use Rattle.desk_arrays.specs.Stands.{isSeated, statusAt, statusBy, modeBy, Stands}
+use Rattle.desks.specs.Places.{isSeated}
+use Rattle.desk_arrays.specs.Stands.{statusAt, statusBy, modeBy, Stands}
 use Rattle.desk_arrays.proofs.Cases.{by-same}
-use Rattle.desk_arrays.proofs.Copies.{copies-at}
-use Rattle.desk_arrays.proofs.Seats.{zero-unseated, seated-member}
+use Rattle.laws.proofs.Copies.{copies-at}
+use Rattle.desks.proofs.Seats.{zero-unseated, seated-member}
 use Rattle.desk_arrays.proofs.ByNumber.{nobody-has}
 
 -- in a table of zeros nobody holds anything

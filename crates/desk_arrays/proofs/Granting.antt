@@ -17,13 +17,14 @@ use Rattle.conflict.specs.declared.modes.Mode.{Mode}
 use Rattle.conflict.specs.declared.modes.Mode.the-variants.{Free}
 use Rattle.conflict.specs.declared.action.Action.{Action}
 use Rattle.conflict.specs.Modes.{needed, recorded, asked, codeOf}
-use Rattle.desk_rules.specs.Desk.{Status, closed, running, at}
+use Rattle.laws.specs.Functions.{at}
+use Rattle.desk_rules.specs.Desk.{Status, closed, running}
 use Rattle.desk_arrays.specs.Codes.{freeCode, runningCode, waitingCode, askOf}
 use Rattle.desk_arrays.specs.Places.{spot, modeAt, waitsAt, waiters, wantsAt}
 use Rattle.desk_arrays.specs.Settling.{Settling, granted}
 use Rattle.desk_arrays.specs.Steps.{wakeAt}
 use Rattle.desk_arrays.specs.Stands.{byNumber, statusFor, statusAt}
-use Rattle.desk_arrays.proofs.Seats.{Seat, seat-below, seat-taken}
+use Rattle.desks.proofs.Seats.{Seat, seat-below, seat-taken}
 use Rattle.desk_arrays.proofs.ByNumber.{FreeHas, seat-has, same-number, at-number}
 use Rattle.desk_arrays.proofs.FreePlaces.{free-closed, free-none}
 use Rattle.desk_arrays.proofs.StatusCodes.{set-status}

@@ -8,10 +8,10 @@ use Rattle.terms.specs.Limits.{places}
 use Rattle.conflict.specs.declared.modes.Mode.{Mode}
 use Rattle.conflict.specs.declared.modes.Mode.the-variants.{Free}
 use Rattle.desk_rules.specs.Locks.{agrees, olderThanHolders}
-use Rattle.desk_rules.specs.Invariant.{Once}
+use Rattle.desks.specs.Places.{Once}
 use Rattle.desk_arrays.specs.Places.{modeAt, agreesAt, olderAt}
 use Rattle.desk_arrays.specs.Stands.{byNumber}
-use Rattle.desk_arrays.proofs.Seats.{Seat, seat-same}
+use Rattle.desks.proofs.Seats.{Seat, seat-same}
 use Rattle.desk_arrays.proofs.ByNumber.{FreeHas, place-has}
 use Rattle.desk_arrays.proofs.EveryPlace.{all-every}
 

@@ -1,10 +1,7 @@
 pub mod Unique
 pub mod Cases
-pub mod Copies
 pub mod Starts
-pub mod Found
 pub mod Telling
-pub mod Seats
 pub mod ByNumber
 pub mod SeatsChanged
 pub mod FreePlaces

@@ -13,16 +13,20 @@ use Rattle.laws.specs.Choice.{by-test, not-both}
 use Rattle.laws.specs.Lists.{pos}
 use Rattle.terms.specs.declared.letters.Ask.{Ask}
 use Rattle.terms.specs.Limits.{places}
-use Rattle.desk_rules.specs.Desk.{Status, closed, running, waiting, Waiter, at, In, first, later}
+use Rattle.laws.specs.Functions.{at}
+use Rattle.laws.specs.Standing.{In, first, later}
+use Rattle.desk_rules.specs.Desk.{Status, closed, running, waiting, Waiter}
 use Rattle.desk_rules.specs.Locks.{isEmpty, olderThanWaiters}
-use Rattle.desk_rules.specs.Invariant.{Falling, Once}
-use Rattle.desk_rules.proofs.Queue.{in-none, in-split}
+use Rattle.desks.specs.Places.{Once}
+use Rattle.desk_rules.specs.Invariant.{Falling}
+use Rattle.laws.proofs.Standing.{in-none, in-split}
 use Rattle.desk_rules.proofs.Statuses.{running-not-waiting, closed-not-open, not-open-not-waiting}
-use Rattle.desk_rules.proofs.Tests.{at-other, at-each, empty-queue, some-waiter, older-waiters, each-older-waiters}
+use Rattle.laws.proofs.Functions.{at-other, at-each}
+use Rattle.desk_rules.proofs.Tests.{empty-queue, some-waiter, older-waiters, each-older-waiters}
 use Rattle.desk_arrays.specs.Codes.{askOf}
 use Rattle.desk_arrays.specs.Places.{waitsAt, nobodyWaits, oldestOf, youngest}
 use Rattle.desk_arrays.specs.Stands.{byNumber, statusAt}
-use Rattle.desk_arrays.proofs.Seats.{Seat, seat-below, seat-only}
+use Rattle.desks.proofs.Seats.{Seat, seat-below, seat-only}
 use Rattle.desk_arrays.proofs.ByNumber.{FreeHas, seat-has, place-has, has-seat}
 use Rattle.desk_arrays.proofs.StatusCodes.{waits-status, waits-below, status-waits}
 use Rattle.desk_arrays.proofs.EveryPlace.{same-test, all-each, each-all}

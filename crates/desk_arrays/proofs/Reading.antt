@@ -8,6 +8,7 @@ use Rattle.laws.specs.Choice.{pick, by-test}
 use Rattle.terms.specs.declared.refusals.Refusal.{Refusal}
 use Rattle.desk_rules.specs.Desk as paper
 use Rattle.desk_rules.specs.Desk.{Waiter}
+use Rattle.desks.specs.Begin.{refused}
 use Rattle.desk_rules.specs.Rules as rules
 use Rattle.desk_arrays.specs.declared.state.Desk.{Desk}
 use Rattle.desk_arrays.specs.declared.moves.Move.{Move}
@@ -41,8 +42,8 @@ plain-stands p q = record { next = refl; jobs = refl; stat = λ j. refl; held = 
 
 module _ (d : Desk) (j c : ℕ) where
   -- a refusal is tied
-  pub refuse-tied : {D : paper.Desk} (why : Refusal) → Stands d D → Tied (performed d j c (Refuse why)) (rules.refused D why)
-  unfolding performed carried answerTo rules.refused
+  pub refuse-tied : {D : paper.Desk} (why : Refusal) → Stands d D → Tied (performed d j c (Refuse why)) (refused D why)
+  unfolding performed carried answerTo refused
   refuse-tied why s = quiet-tied _ s
 
   -- moves that are chosen by the same test are tied where each is

@@ -11,11 +11,13 @@ use Rattle.terms.specs.declared.letters.Ask.{Ask}
 use Rattle.terms.specs.Limits.{places, cells}
 use Rattle.conflict.specs.declared.modes.Mode.{Mode}
 use Rattle.conflict.specs.declared.modes.Mode.the-variants.{Free}
-use Rattle.desk_rules.specs.Desk.{Status, closed, waiting, Waiter, at, In, first}
+use Rattle.laws.specs.Functions.{at}
+use Rattle.laws.specs.Standing.{In, first}
+use Rattle.desk_rules.specs.Desk.{Status, closed, waiting, Waiter}
 use Rattle.desk_rules.specs.Locks.{without, settle, released}
 use Rattle.desk_rules.specs.Rules.{rowsAfter, wakesOf, runAgain, isWoken}
 use Rattle.desk_rules.specs.Invariant.{Inv}
-use Rattle.desk_rules.proofs.Tests.{at-other}
+use Rattle.laws.proofs.Functions.{at-other}
 use Rattle.desk_arrays.specs.declared.state.Desk.{Desk}
 use Rattle.desk_arrays.specs.Codes.{waitingCode, askOf}
 use Rattle.desk_arrays.specs.Places.{modeAt, waiters}
@@ -23,7 +25,7 @@ use Rattle.desk_arrays.specs.Settling.{Settling, droppedBy}
 use Rattle.desk_arrays.specs.Steps.{settled}
 use Rattle.desk_arrays.specs.Stands.{statusFor, statusAt, statusBy, modeBy, Plain}
 use Rattle.desk_arrays.proofs.Cases.{by-below}
-use Rattle.desk_arrays.proofs.Seats.{Seat, seat-below, seat-taken}
+use Rattle.desks.proofs.Seats.{Seat, seat-below, seat-taken}
 use Rattle.desk_arrays.proofs.ByNumber.{at-number}
 use Rattle.desk_arrays.proofs.StatusCodes.{set-status}
 use Rattle.desk_arrays.proofs.Spots.{dropped-length, dropped-all}

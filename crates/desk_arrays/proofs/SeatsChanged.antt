@@ -4,51 +4,19 @@ use Prim.Native.Nat.{ℕ, _<_}
 use mathlib.Core.Path.{_≡_, refl, sym, ap, subst, _∙_}
 use mathlib.Core.Logic.{_≢_}
 use mathlib.Core.Bool.{true, false}
-use mathlib.Core.List.{List, [], _∷_}
+use mathlib.Core.List.{List}
 use lib.ListN.{length, getD, set, length-set}
 use lib.Seq.{getD-set-same, getD-set-other, lt-length-set}
-use borrow.Author.Tests.{eqb-true}
-use lib.Dec.{eqb}
 use Rattle.laws.specs.Choice.{by-test, not-both}
 use Rattle.laws.specs.Lists.{member, pos}
-use Rattle.laws.proofs.Lists.{pos-first, pos-later, member-first, member-later}
-use Rattle.desk_rules.specs.Desk.{at, seated, vacated}
-use Rattle.desk_rules.specs.Invariant.{Once}
-use Rattle.desk_rules.proofs.Tests.{at-each, at-all}
-use Rattle.desk_rules.proofs.Places.{seated-once, vacated-once, vacated-gone}
-use Rattle.desk_arrays.specs.Stands.{isSeated, byNumber}
+use Rattle.laws.specs.Functions.{at}
+use Rattle.desks.specs.Places.{vacated, Once, isSeated}
+use Rattle.laws.proofs.Functions.{at-each, at-all}
+use Rattle.desks.proofs.Places.{seated-set, vacated-set, seated-once, vacated-once, vacated-gone}
+use Rattle.desk_arrays.specs.Stands.{byNumber}
 use Rattle.desk_arrays.proofs.Cases.{by-same}
-use Rattle.desk_arrays.proofs.Seats.{Seat, seat-at, seat-of, seat-seated, seat-member, pos-below, pos-holds, seated-member}
+use Rattle.desks.proofs.Seats.{Seat, seat-at, seat-of, seat-seated, seat-member, pos-below, pos-holds, seated-member}
 use Rattle.desk_arrays.proofs.ByNumber.{seat-has, nobody-has, zero-has}
-
--- a new job takes the first free place: its number stands where 0 was found
-pub seated-set : (n : ℕ) (ks : List ℕ) → member 0 ks ≡ true → seated n ks ≡ set ks (pos ks 0) n
-unfolding seated
-seated-set n [] m = refl
-seated-set n (k ∷ ks) m =
-    by-test (eqb k 0) (λ t. rw t (ap (λ p. set (k ∷ ks) p n) (sym (ap (pos (k ∷ ks)) (sym (eqb-true k 0 t)) ∙ pos-first k ks))))
-    (λ f. rw (f, pos-later k ks 0 f) (ap (λ l. k ∷ l) (seated-set n ks (sym (member-later k ks 0 f) ∙ m))))
-
--- where a job has no place, none is freed
-vacated-none : (j : ℕ) (ks : List ℕ) → member j ks ≡ false → vacated j ks ≡ ks
-unfolding vacated
-vacated-none j [] m = refl
-vacated-none j (k ∷ ks) m =
-    by-test (eqb k j) (λ t. not-both (ap (λ i. member i (k ∷ ks)) (sym (eqb-true k j t)) ∙ member-first k ks) m)
-    (λ f. rw f (ap (λ l. k ∷ l) (vacated-none j ks (sym (member-later k ks j f) ∙ m))))
-
--- a job that frees its place leaves 0 there
-pub vacated-set : (j : ℕ) (ks : List ℕ) → Once ks → j ≢ 0 → member j ks ≡ true → vacated j ks ≡ set ks (pos ks j) 0
-unfolding vacated
-vacated-set j [] o z m = not-both m (unfold member in refl)
-vacated-set j (k ∷ ks) o z m =
-    by-test (eqb k j) (λ t. first t (eqb-true k j t))
-    (λ f. rw (f, pos-later k ks j f) (ap (λ l. k ∷ l) (vacated-set j ks (o .1) z (sym (member-later k ks j f) ∙ m))))
-  where
-    first : eqb k j ≡ true → k ≡ j → vacated j (k ∷ ks) ≡ set (k ∷ ks) (pos (k ∷ ks) j) 0
-    first t e =
-        rw (t, ap (pos (k ∷ ks)) (sym e) ∙ pos-first k ks)
-        (ap (λ l. 0 ∷ l) (vacated-none j ks (ap (λ i. member i ks) (sym e) ∙ o .0 (λ n. z (sym e ∙ n)))))
 
 module _ {A : Type 0} (x : A) (ks : List ℕ) (p n : ℕ) (f g : ℕ → A) where
   -- one number among the places changes, and what stands at the other places does not: nothing changes for the other jobs

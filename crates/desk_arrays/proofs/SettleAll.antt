@@ -10,13 +10,15 @@ use Rattle.laws.specs.Choice.{by-test}
 use Rattle.terms.specs.declared.letters.Ask.{Ask}
 use Rattle.terms.specs.Limits.{places, cells}
 use Rattle.conflict.specs.declared.modes.Mode.the-variants.{Free}
-use Rattle.desk_rules.specs.Desk.{Status, waiting, Desk, at, In}
+use Rattle.laws.specs.Functions.{at}
+use Rattle.laws.specs.Standing.{In}
+use Rattle.desk_rules.specs.Desk.{Status, waiting, Desk}
 use Rattle.desk_rules.specs.Locks.{without, settle, released}
 use Rattle.desk_rules.specs.Rules.{isWoken, wakesAt, wakesOf, runAgain, rowsAfter}
 use Rattle.desk_rules.specs.Invariant.{Inv}
 use Rattle.desk_rules.proofs.Queue.{without-in, without-other, in-without, without-falling}
 use Rattle.desk_rules.proofs.Statuses.{running-not-waiting, one-cell}
-use Rattle.desk_rules.proofs.Tests.{at-other, at-each}
+use Rattle.laws.proofs.Functions.{at-other, at-each}
 use Rattle.desk_rules.proofs.Wakes.{WokenAt, woken-at, others-stay, wakened-each}
 use Rattle.desk_rules.proofs.RunEnd.{row-releases}
 use Rattle.desk_arrays.specs.Settling.{Settling, settleCell, settleAll}

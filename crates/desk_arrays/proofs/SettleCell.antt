@@ -15,14 +15,16 @@ use Rattle.laws.proofs.Parts.{and-first}
 use Rattle.terms.specs.Limits.{places, cells}
 use Rattle.conflict.specs.declared.modes.Mode.the-variants.{Free}
 use Rattle.conflict.specs.Modes.{needed, asked}
-use Rattle.desk_rules.specs.Desk.{Waiter, at, first}
+use Rattle.laws.specs.Functions.{at}
+use Rattle.laws.specs.Standing.{first}
+use Rattle.desk_rules.specs.Desk.{Waiter}
 use Rattle.desk_rules.specs.Locks.{agrees, wants, wokenFirst, Settled, settle}
 use Rattle.desk_rules.specs.Rules.{wake, wakesAt, isWoken, runAgain}
-use Rattle.desk_rules.specs.Invariant.{Once}
+use Rattle.desks.specs.Places.{Once}
 use Rattle.desk_arrays.specs.Codes.{runningCode, waitingCode, askOf}
 use Rattle.desk_arrays.specs.Places.{modeAt, waitsAt, waiters, wantsAt}
 use Rattle.desk_arrays.specs.Settling.{Settling, granted, grantFront, settleCell}
-use Rattle.desk_arrays.proofs.Seats.{Seat, seat-below}
+use Rattle.desks.proofs.Seats.{Seat, seat-below}
 use Rattle.desk_arrays.proofs.ByNumber.{seat-has}
 use Rattle.desk_arrays.proofs.HolderTests.{agrees-at}
 use Rattle.desk_arrays.proofs.Queues.{QueueOf, rest-queue, waiter-seat, waiter-waits, no-front, front}

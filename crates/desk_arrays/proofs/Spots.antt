@@ -12,8 +12,8 @@ use Rattle.conflict.specs.declared.modes.Mode.{Mode}
 use Rattle.conflict.specs.declared.modes.Mode.the-variants.{Free}
 use Rattle.conflict.specs.Modes.{codeOf, modeOf}
 use Rattle.conflict.proofs.ModeCodes.{mode-code, mode-zero}
-use Rattle.desk_rules.specs.Desk.{at}
-use Rattle.desk_rules.proofs.Tests.{at-each}
+use Rattle.laws.specs.Functions.{at}
+use Rattle.laws.proofs.Functions.{at-each}
 use Rattle.desk_arrays.specs.Places.{spot, modeAt}
 use Rattle.desk_arrays.specs.Settling.{droppedBy}
 use Rattle.desk_arrays.proofs.Cases.{by-below, by-last}

@@ -4,9 +4,12 @@ use mathlib.Core.Path.{_≡_, subst}
 use mathlib.Core.List.{_++_}
 use Rattle.conflict.specs.History.{History}
 use Rattle.desk_rules.specs.Desk as paper
-use Rattle.desk_rules.specs.Desk.{freshDesk, Request}
+use Rattle.desks.specs.Request.{Request}
+use Rattle.desk_rules.specs.Desk.{freshDesk}
 use Rattle.desk_rules.specs.Step as paper-step
-use Rattle.desk_rules.specs.Step.{recordsBy, events, step, fresh, after}
+use Rattle.desks.specs.Records.{recordsBy}
+use Rattle.desks.specs.Started.{fresh, after}
+use Rattle.desk_rules.specs.Step.{events, step}
 use Rattle.desk_rules.proofs.Kept.{started-inv}
 use Rattle.desk_arrays.specs.declared.state.Desk.{Desk}
 use Rattle.desk_arrays.specs.Steps.{stepOf}

@@ -12,7 +12,7 @@ use Rattle.terms.specs.declared.refusals.Refusal.{Refusal}
 use Rattle.terms.specs.declared.refusals.Refusal.the-variants.{StartedAtZero}
 use Rattle.terms.specs.Refusals.{numberOf}
 use Rattle.terms.specs.Limits.{lastNumber}
-use Rattle.desk_rules.specs.Step.{fresh}
+use Rattle.desks.specs.Started.{fresh}
 use Rattle.desk_arrays.specs.declared.state.Desk.{Desk}
 use Rattle.desk_arrays.specs.declared.state.Start.the-variants.{Ready, Refused}
 use Rattle.desk_arrays.specs.Steps.{emptyDesk, startOf}

@@ -1,9 +1,7 @@
 -- What a start is to the machine: its locals at their blocks, its two variants, and what each holds; for the walks of the functions that make a start or take one apart.
 -- Assumes nothing.
-use Prim.Native.Nat.{ℕ}
 use mathlib.Core.Path.{_≡_, refl, subst}
-use mathlib.Core.List.{List, [], _∷_, head-eq-of-cons-eq}
-use mir.Syntax.{Ty, Local, local}
+use mathlib.Core.List.{[], _∷_, head-eq-of-cons-eq}
 use mir.Val.{Val}
 use denote.Laws.{Is}
 use denote.Struct.Laws as SL
@@ -18,12 +16,6 @@ use Rattle.desk_arrays.proofs.state.Desk as D
 use Rattle.desk_arrays.proofs.state.Desk.Laws as D′
 use Rattle.desk_arrays.proofs.state.Start as T
 use Rattle.desk_arrays.proofs.state.Start.Laws as T′
-
--- the locals, each at its block
-abbrev pub placed : List Local → List ℕ → List (Ty × ℕ)
-placed [] bs = []
-placed (l ∷ ls) [] = []
-placed (local τ h ∷ ls) (b ∷ bs) = (τ, b) ∷ placed ls bs
 
 -- a desk's machine value
 abbrev pub desk-at : Desk → Val

@@ -14,9 +14,10 @@ use Rattle.laws.specs.Choice.{by-test, not-both}
 use Rattle.laws.proofs.Parts.{and-first, and-second, and-both}
 use Rattle.terms.specs.declared.letters.Ask.{Ask}
 use Rattle.terms.specs.declared.letters.Ask.the-variants.{Read, Write, Increment, Update}
-use Rattle.desk_rules.specs.Desk.{Status, closed, running, waiting, sentback, isOpen, at}
+use Rattle.laws.specs.Functions.{at}
+use Rattle.desk_rules.specs.Desk.{Status, closed, running, waiting, sentback, isOpen}
 use Rattle.desk_rules.proofs.Statuses.{running-open, waiting-open, sentback-open, closed-not-open, running-not-waiting, sentback-not-waiting, not-open-not-waiting, one-cell, one-ask}
-use Rattle.desk_rules.proofs.Tests.{at-all}
+use Rattle.laws.proofs.Functions.{at-all}
 use Rattle.desk_arrays.specs.Codes.{freeCode, waitingCode, sentBackCode, askCode, askOf}
 use Rattle.desk_arrays.specs.Places.{waitsAt}
 use Rattle.desk_arrays.specs.Stands.{statusFor, statusAt}

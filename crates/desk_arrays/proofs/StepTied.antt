@@ -19,10 +19,11 @@ use Rattle.terms.specs.declared.refusals.Refusal.{Refusal}
 use Rattle.terms.specs.declared.refusals.Refusal.the-variants.{UnknownKind, CellAbove, NotOpen, Waiting, SentBack, Running}
 use Rattle.terms.specs.Letters.{letterOf}
 use Rattle.terms.specs.Limits.{cells}
-use Rattle.desk_rules.specs.declared.Answer.the-variants.{Go}
+use Rattle.desks.specs.declared.Answer.the-variants.{Go}
 use Rattle.desk_rules.specs.Desk as paper
 use Rattle.desk_rules.specs.Desk.{Status, closed, running, waiting, sentback, Waiter}
-use Rattle.desk_rules.specs.Rules.{Outcome, refused, retry}
+use Rattle.desks.specs.Begin.{refused}
+use Rattle.desk_rules.specs.Rules.{Outcome, retry}
 use Rattle.desk_rules.specs.Step.{stepCommit, stepGiveUp, stepRetry, stepAsk, stepBy, step}
 use Rattle.desk_rules.specs.Invariant.{Inv}
 use Rattle.desk_arrays.specs.declared.state.Desk.{Desk}
@@ -33,8 +34,9 @@ use Rattle.desk_arrays.specs.declared.moves.Move.the-variants.{Refuse, E
 use Rattle.desk_arrays.specs.Codes.{freeCode, waitingCode, sentBackCode, askOf}
 use Rattle.desk_arrays.specs.Moves.{statusOf, foundAt, standingOf, ifRuns, commitMove, giveUpMove, retryMove, decided, askMove, moveFor}
 use Rattle.desk_arrays.specs.Steps.{retriedJob, carried, answerTo, performed, moveOf, stepOf}
-use Rattle.desk_arrays.specs.Stands.{isSeated, statusFor, statusAt, statusBy, Plain, Stands, Tied}
-use Rattle.desk_arrays.proofs.Seats.{Seat, seat-of, seated-member, pos-end}
+use Rattle.desks.specs.Places.{isSeated}
+use Rattle.desk_arrays.specs.Stands.{statusFor, statusAt, statusBy, Plain, Stands, Tied}
+use Rattle.desks.proofs.Seats.{Seat, seat-of, seated-member, pos-end}
 use Rattle.desk_arrays.proofs.ByNumber.{seat-has, nobody-has}
 use Rattle.desk_arrays.proofs.Telling.{quiet-tied}
 use Rattle.desk_arrays.proofs.Reading.{paperOf, plain-stands, by-reading, refuse-tied}

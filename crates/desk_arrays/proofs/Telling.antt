@@ -8,12 +8,12 @@ use lib.ListN.{length, getD, replicate, length-append, length-replicate, length-
 use lib.Seq.{take-at, getD-append-add}
 use Rattle.terms.specs.Limits.{places}
 use Rattle.conflict.specs.declared.action.Action.{Action}
-use Rattle.desk_rules.specs.declared.Answer.{Answer}
+use Rattle.desks.specs.declared.Answer.{Answer}
 use Rattle.desk_rules.specs.Desk as paper
 use Rattle.desk_arrays.specs.declared.state.Desk.{Desk}
 use Rattle.desk_arrays.specs.Steps.{noAction, wakeAt, listed, saying}
 use Rattle.desk_arrays.specs.Stands.{Stands, wakesTold, Tied}
-use Rattle.desk_arrays.proofs.Copies.{copies-at}
+use Rattle.laws.proofs.Copies.{copies-at}
 
 -- the wakes of a desk's places
 abbrev pub wakesBy : Desk → List ℕ → List Action

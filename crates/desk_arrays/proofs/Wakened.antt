@@ -8,7 +8,8 @@ use lib.Dec.{eqb}
 use Rattle.laws.specs.Choice.{pick, by-test}
 use Rattle.laws.proofs.Lists.{same-sym}
 use Rattle.conflict.specs.declared.action.Action.{Action}
-use Rattle.desk_rules.specs.Desk.{Status, running, Waiter, at}
+use Rattle.laws.specs.Functions.{at}
+use Rattle.desk_rules.specs.Desk.{Status, running, Waiter}
 use Rattle.desk_rules.specs.Rules.{wake, wakesAt, isWoken, runAgain}
 use Rattle.desk_rules.proofs.Wakes.{woken-either}
 

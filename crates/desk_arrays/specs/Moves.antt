@@ -10,9 +10,12 @@ use Rattle.terms.specs.declared.letters.Ask.{Ask}
 use Rattle.terms.specs.declared.letters.Letter.the-variants.{Begin as begins, Commit, GiveUp, Retry as retries, Back as no-request, Asks}
 use Rattle.terms.specs.declared.letters.Lettered.{Lettered}
 use Rattle.terms.specs.declared.letters.Lettered.the-variants.{Known, Unknown}
-use Rattle.terms.specs.declared.refusals.Refusal.the-variants.{UnknownKind, CellAbove, NotOpen, Waiting, SentBack as wasSentBack, AllOpen, NoNumberLeft, Running}
-use Rattle.terms.specs.Limits.{places, cells, lastNumber}
+use Rattle.terms.specs.declared.refusals.Refusal.the-variants.{UnknownKind, CellAbove, NotOpen, Waiting, SentBack as wasSentBack, Running}
+use Rattle.terms.specs.Limits.{cells}
 use Rattle.conflict.specs.Modes.{needed, covers, asked, isFree}
+use Rattle.desks.specs.declared.finding.Opening.{Opening}
+use Rattle.desks.specs.declared.finding.Opening.the-variants.{At, Refused}
+use Rattle.desks.specs.Opening.{openingOf}
 use Rattle.desk_arrays.specs.declared.moves.Found.{Found}
 use Rattle.desk_arrays.specs.declared.moves.Standing.{Standing}
 use Rattle.desk_arrays.specs.declared.moves.Standing.the-variants.{Runs, Against}
@@ -41,11 +44,14 @@ unfoldable pub ifRuns : Standing → Move → Move
 ifRuns (Against why) goes = Refuse why
 ifRuns Runs goes = goes
 
+-- begin, by where a new job is opened (01, Refusals by number)
+unfoldable pub opened : Opening → Move
+opened (At p n) = Begin p n
+opened (Refused why) = Refuse why
+
 -- begin: 7, then 6, else the next number at the first free place (01, Refusals by number)
 unfoldable pub beginMove : ℕ → List ℕ → Move
-beginMove next number =
-    pick (ltb lastNumber next) (Refuse NoNumberLeft)
-    (pick (ltb (pos number 0) places) (Begin (pos number 0) next) (Refuse AllOpen))
+beginMove next number = opened (openingOf next number)
 
 -- commit: 3, 4, 5, else the run ends
 unfoldable pub commitMove : Found → Move

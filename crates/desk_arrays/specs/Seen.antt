@@ -1,10 +1,11 @@
 -- The desk that runs: its arrays take requests one step at a time, and the paper's desk is seen in them.
 use Rattle.conflict.specs.History.{History}
 use Rattle.desk_rules.specs.Desk as paper
-use Rattle.desk_rules.specs.Stepping.{Stepping}
-use Rattle.desk_rules.specs.Step.{StartedOn}
+use Rattle.desks.specs.Stepping.{Stepping}
+use Rattle.desks.specs.Started.{StartedOn}
 use Rattle.desk_rules.specs.Seen.{seenBy}
-use Rattle.desk_rules.specs.Course.{Course, course}
+use Rattle.desks.specs.Course.{course}
+use Rattle.desk_rules.specs.Course.{Course}
 use Rattle.desk_arrays.specs.declared.state.Desk.{Desk}
 use Rattle.desk_arrays.specs.Steps.{emptyDesk, stepOf}
 use Rattle.desk_arrays.specs.Stands.{statusBy, modeBy, wakesTold}

@@ -1,17 +1,17 @@
 -- The paper's desk as the arrays hold it, by numbers; what it is for arrays to stand for a paper's desk.
 use Prim.Native.Nat.{ℕ, _<_, _≤_, _-_, _*_}
 use mathlib.Core.Path.{_≡_}
-use mathlib.Core.Bool.{Bool, not, _&&_}
 use mathlib.Core.List.{List}
 use lib.Dec.{eqb}
 use lib.ListN.{length, getD, take}
 use Rattle.laws.specs.Choice.{pick}
-use Rattle.laws.specs.Lists.{member, pos}
+use Rattle.laws.specs.Lists.{pos}
 use Rattle.terms.specs.declared.letters.Ask.{Ask}
 use Rattle.terms.specs.Limits.{places, cells}
 use Rattle.conflict.specs.declared.modes.Mode.{Mode}
 use Rattle.conflict.specs.declared.modes.Mode.the-variants.{Free}
 use Rattle.conflict.specs.declared.action.Action.{Action}
+use Rattle.desks.specs.Places.{isSeated}
 use Rattle.desk_rules.specs.Desk as paper
 use Rattle.desk_rules.specs.Desk.{Status, closed, running, waiting, sentback}
 use Rattle.desk_rules.specs.Rules as rules
@@ -21,10 +21,6 @@ use Rattle.desk_arrays.specs.declared.state.Outcome.{Outcome}
 use Rattle.desk_arrays.specs.Codes.{freeCode, waitingCode, sentBackCode, askOf}
 use Rattle.desk_arrays.specs.Places.{modeAt}
 use Rattle.desk_arrays.specs.Steps.{noAction}
-
--- whether a job has a place: 0 is nobody's number, it marks a free place
-unfoldable pub isSeated : List ℕ → ℕ → Bool
-isSeated number j = not (eqb j 0) && member j number
 
 -- what stands at the job's place, and x for 0 and for a number that no place has
 unfoldable pub byNumber : {A : Type 0} → A → List ℕ → (ℕ → A) → ℕ → A

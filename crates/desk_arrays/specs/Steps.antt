@@ -13,8 +13,8 @@ use Rattle.conflict.specs.declared.modes.Mode.{Mode}
 use Rattle.conflict.specs.declared.action.Action.{Action}
 use Rattle.conflict.specs.declared.action.Kind.the-variants.{Read}
 use Rattle.conflict.specs.Modes.{recorded, codeOf}
-use Rattle.desk_rules.specs.declared.Answer.{Answer}
-use Rattle.desk_rules.specs.declared.Answer.the-variants.{Go, Wait, Back, No}
+use Rattle.desks.specs.declared.Answer.{Answer}
+use Rattle.desks.specs.declared.Answer.the-variants.{Go, Wait, Back, No}
 use Rattle.desk_arrays.specs.declared.state.Desk.{Desk}
 use Rattle.desk_arrays.specs.declared.state.Said.{Said}
 use Rattle.desk_arrays.specs.declared.state.Outcome.{Outcome}

@@ -2,7 +2,7 @@
 use crate::codes::RUNNING;
 use crate::codes::SENT_BACK;
 use conflict::action::Action;
-use desk_rules::Answer;
+use desks::Answer;
 use terms::limits::CELLS;
 use terms::limits::PLACES;
 use terms::refusals::Refusal;

@@ -21,8 +21,9 @@ use Rattle.desk_arrays.specs.declared.state.Desk.{Desk}
 use Rattle.desk_arrays.specs.declared.moves.Found.{Found}
 use Rattle.desk_arrays.specs.Codes.{freeCode, waitingCode, sentBackCode, askOf}
 use Rattle.desk_arrays.specs.Moves.{statusOf, foundAt}
-use Rattle.desk_arrays.specs.Stands.{isSeated, byNumber, statusFor, statusAt, statusBy}
-use Rattle.desk_arrays.proofs.Seats.{pos-end}
+use Rattle.desks.specs.Places.{isSeated}
+use Rattle.desk_arrays.specs.Stands.{byNumber, statusFor, statusAt, statusBy}
+use Rattle.desks.proofs.Seats.{pos-end}
 use Rattle.desk_plan.proofs.Open.{nowhere-free, open-inside}
 use Rattle.desk_chain.specs.Chains.{chainFrom, askedOn, waiterAbove, nextChain}
 

@@ -23,7 +23,7 @@ use Rattle.desk_rules.specs.AskedChain.{chainHolds, chainOrder, chainDue, chain
 use Rattle.desk_rules.proofs.Kept.{started-inv}
 use Rattle.desk_rules.proofs.Statuses.{live-open, running-not-waiting}
 use Rattle.desk_rules.proofs.SomebodyRuns.{live-split}
-use Rattle.desk_rules.proofs.OneCourse.{seen-started}
+use Rattle.desks.proofs.Following.{seen-started}
 use Rattle.desk_rules.proofs.InTheWay.{waiter-in, way-live}
 use Rattle.desk_rules.proofs.InWayList.{next-is}
 use Rattle.desk_rules.proofs.ChainIs.{is-chain, one-chain, fewer-younger}
@@ -32,7 +32,7 @@ use Rattle.desk_arrays.specs.Codes.{waitingCode}
 use Rattle.desk_arrays.specs.Places.{waitsAt}
 use Rattle.desk_arrays.specs.Stands.{Plain, statusBy, statusAt}
 use Rattle.desk_arrays.specs.Seen.{view, Started}
-use Rattle.desk_arrays.proofs.Seats.{Seat, seat-below}
+use Rattle.desks.proofs.Seats.{Seat, seat-below}
 use Rattle.desk_arrays.proofs.ByNumber.{seat-has}
 use Rattle.desk_arrays.proofs.StatusCodes.{waits-status, status-waits}
 use Rattle.desk_arrays.proofs.StartedStands.{stands-for-paper}

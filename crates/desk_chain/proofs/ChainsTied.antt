@@ -14,12 +14,12 @@ use Rattle.terms.specs.Limits.{places, lastNumber}
 use Rattle.conflict.specs.History.{History}
 use Rattle.desk_rules.specs.Desk.{isOpen, isLive}
 use Rattle.desk_rules.specs.Table.{isWaiting}
-use Rattle.desk_rules.specs.Requests.{Rising}
+use Rattle.desks.specs.Requests.{Rising}
 use Rattle.desk_rules.specs.Invariant.{Inv}
 use Rattle.desk_rules.specs.Chain.{chainOf, waitingBelow, allChains}
 use Rattle.desk_rules.specs.AskedChain.{askChain}
 use Rattle.desk_rules.proofs.Statuses.{waiting-live}
-use Rattle.desk_rules.proofs.Numbers.{rising-distinct}
+use Rattle.desks.proofs.Numbers.{rising-distinct}
 use Rattle.desk_rules.proofs.Pigeonhole.{no-longer}
 use Rattle.desk_rules.proofs.ChainIs.{is-chain}
 use Rattle.desk_rules.proofs.AlongChain.{chain-begins}
@@ -28,7 +28,7 @@ use Rattle.desk_rules.proofs.ChainsKept.{waits-open}
 use Rattle.desk_arrays.specs.declared.state.Desk.{Desk}
 use Rattle.desk_arrays.specs.Stands.{Plain}
 use Rattle.desk_arrays.specs.Seen.{view, Started}
-use Rattle.desk_arrays.proofs.Seats.{seat-below}
+use Rattle.desks.proofs.Seats.{seat-below}
 use Rattle.desk_arrays.proofs.DeskPromises.{desk-promises}
 use Rattle.desk_chain.specs.Chains.{askedOn, nextChain, firstJob, chainAnd, chainsBy, chainsOn}
 use Rattle.desk_chain.proofs.NextTied.{open-seat}

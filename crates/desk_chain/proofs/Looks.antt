@@ -17,7 +17,7 @@ use Rattle.desk_rules.specs.Chain.{youngerThan}
 use Rattle.desk_rules.proofs.Younger.{younger-less, younger-short}
 use Rattle.desk_arrays.specs.Codes.{waitingCode}
 use Rattle.desk_arrays.specs.Places.{modeAt}
-use Rattle.desk_arrays.proofs.Seats.{at-member}
+use Rattle.desks.proofs.Seats.{at-member}
 use Rattle.desk_chain.specs.Chains.{holdsAbove, holderAbove, nextAt, chainFromBy, chainFrom}
 
 -- a job of the list that is younger than job j has fewer younger ones than j

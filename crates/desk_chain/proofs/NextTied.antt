@@ -4,7 +4,6 @@ use Prim.Native.Nat.{ℕ, _<_, _≤_}
 use mathlib.Core.Path.{_≡_, refl, sym, ap, subst, _∙_}
 use mathlib.Core.Logic.{_≢_, _⊎_, inl, inr, ⊎-elim}
 use mathlib.Core.Bool.{true, false, not, _&&_}
-use mathlib.Core.List.{List}
 use native.Mathlib.Omega.{arith}
 use lib.Dec.{ltb}
 use lib.ListN.{getD, List·getD-eq-default}
@@ -30,7 +29,7 @@ use Rattle.desk_arrays.specs.Stands.{Plain, modeBy}
 use Rattle.desk_arrays.specs.Seen.{view}
 use Rattle.desk_arrays.proofs.Best.{best-found}
 use Rattle.desk_arrays.proofs.Cases.{by-below}
-use Rattle.desk_arrays.proofs.Seats.{Seat, seat-of, seat-only, seat-below, member-seated}
+use Rattle.desks.proofs.Seats.{Seat, seat-of, seat-only, seat-below, member-seated}
 use Rattle.desk_arrays.proofs.ByNumber.{place-has}
 use Rattle.desk_chain.specs.Chains.{holdsAbove, holderAbove}
 

@@ -26,7 +26,7 @@ use Rattle.desk_arrays.specs.Stands.{Plain}
 use Rattle.desk_arrays.specs.Seen.{view}
 use Rattle.desk_arrays.proofs.Best.{best-found, none-found}
 use Rattle.desk_arrays.proofs.Cases.{by-below}
-use Rattle.desk_arrays.proofs.Seats.{Seat, seat-at, seat-below, seat-only}
+use Rattle.desks.proofs.Seats.{Seat, seat-at, seat-below, seat-only}
 use Rattle.desk_arrays.proofs.StatusCodes.{waits-status, status-waits}
 use Rattle.desk_chain.specs.Chains.{waitsWithin, waiterAbove}
 use Rattle.desk_chain.proofs.NextTied.{open-seat}

@@ -12,7 +12,7 @@ use Rattle.laws.specs.Choice.{by-test, not-both}
 use Rattle.program_rules.specs.declared.Clerk.{Clerk}
 use Rattle.program_rules.specs.declared.View.{View}
 use Rattle.program_rules.specs.declared.Worked.{Worked}
-use Rattle.program_rules.specs.Work.{startedClerk, lineRoom, roomy, workOf}
+use Rattle.program_rules.specs.Work.{lineRoom, roomy, workOf}
 use Rattle.program_rules.specs.Tellings.{clerkAfter}
 use Rattle.text_rules.specs.Split.{part}
 use Rattle.program_rules.proofs.Records.{clerk-append, clerk-none}
@@ -51,16 +51,20 @@ pub serves-all : {c k : Clerk} {chunk : List ℕ} {from : ℕ} → k ≡ clerkAf
 serves-all {c} {chunk = chunk} {from} e h = record { some = e; all = λ t. e ∙ ap (clerkAfter c) (take-all from chunk h) }
 
 -- a clerk who has seen a text and then bytes has seen the text with them
-saw-on : {c k : Clerk} (s : Saw c) (bytes : List ℕ) → k ≡ clerkAfter c bytes → Saw k
-saw-on s bytes e = record { text = s .text ++ bytes; clerk = e ∙ ap (λ x. clerkAfter x bytes) (s .clerk) ∙ sym (clerk-append startedClerk (s .text) bytes) }
+saw-on : {first c k : Clerk} (s : Saw first c) (bytes : List ℕ) → k ≡ clerkAfter c bytes → Saw first k
+saw-on {first} s bytes e = record { text = s .text ++ bytes; clerk = e ∙ ap (λ x. clerkAfter x bytes) (s .clerk) ∙ sym (clerk-append first (s .text) bytes) }
 
--- a clerk at the start has seen nothing
-pub saw-none : {c : Clerk} → c ≡ startedClerk → Saw c
-saw-none e = record { text = []; clerk = e ∙ sym (clerk-none startedClerk) }
+-- at first he has seen nothing
+pub saw-none : {c : Clerk} → Saw c c
+saw-none {c} = record { text = []; clerk = sym (clerk-none c) }
+
+-- by whatever name the first one goes
+pub saw-since : {a b c : Clerk} → a ≡ b → Saw a c → Saw b c
+saw-since e s = record { text = s .text; clerk = s .clerk ∙ ap (λ x. clerkAfter x (s .text)) e }
 
 -- after a chunk he has seen it too, all of it or as far as output was taken
-pub saw-chunk : {c : Clerk} {chunk : List ℕ} {s : Served} → Saw c → Serves c chunk s → not (s .taken) ≡ false → Saw (s .clerk)
+pub saw-chunk : {first c : Clerk} {chunk : List ℕ} {s : Served} → Saw first c → Serves c chunk s → not (s .taken) ≡ false → Saw first (s .clerk)
 saw-chunk {chunk = chunk} {s} w t e = by-test (s .taken) (λ y. saw-on w chunk (t .all y)) (λ n. not-both (ap not n) e)
 
-pub saw-part : {c : Clerk} {chunk : List ℕ} {s : Served} → Saw c → Serves c chunk s → Saw (s .clerk)
+pub saw-part : {first c : Clerk} {chunk : List ℕ} {s : Served} → Saw first c → Serves c chunk s → Saw first (s .clerk)
 saw-part {chunk = chunk} {s} w t = saw-on w (take (s .seen) chunk) (t .some)

@@ -6,6 +6,7 @@ use mathlib.Core.List.{List, []}
 use native.Mathlib.Omega.{arith}
 use lib.ListN.{length, take}
 use Rattle.program_rules.specs.declared.Clerk.{Clerk}
+use Rattle.program_rules.specs.declared.Method.{Method}
 use Rattle.program_rules.specs.declared.View.{View}
 use Rattle.program_rules.specs.declared.View.the-variants.{Answers, History, Chains}
 use Rattle.program_rules.specs.declared.Finished.{Finished}
@@ -17,7 +18,7 @@ use Rattle.program_rules.proofs.Endings.{ended-all, closed-all}
 use Rattle.desk_io.specs.declared.Halted.{Halted}
 use Rattle.desk_io.specs.declared.Halt.{Halt}
 use Rattle.desk_io.specs.declared.Halt.the-variants.{Ended, NotRead, AllRead, NotTaken}
-use Rattle.desk_io.specs.Serving.{MakesAll, MakesUnread, Makes, Over, Halts, Rests}
+use Rattle.desk_io.specs.Serving.{MakesAll, MakesUnread, Makes, Over, Rests}
 
 -- the record of a last line, and behind it what is written last, are the end of the input
 pub end-is : (view : View) (c : Clerk) (out : List ℕ) {f g : Finished} {mid after : List ℕ} → f ≡ finishOf view c out 0 .finished → mid ≡ finishOf view c out 0 .out →
@@ -39,14 +40,14 @@ closing-fits History = omega arith
 closing-fits Chains = omega arith
 
 -- by why no more is read
-by-why : {view : View} {h : Halted} {why : Halt} {at : ℕ} {out : List ℕ} → h .why ≡ why → at ≤ length out → ((text : List ℕ) → h .clerk ≡ clerkAfter startedClerk text → Makes view why text (take at out)) → Rests view h at out
-by-why {view} {at = at} {out} e w r = record { within = w; rest = λ text k. subst (λ y. Makes view y text (take at out)) (sym e) (r text k) }
+by-why : {view : View} {h : Halted} {why : Halt} {at : ℕ} {out : List ℕ} → h .why ≡ why → at ≤ length out → ((m : Method) (text : List ℕ) → h .clerk ≡ clerkAfter (startedClerk m) text → Makes m view why text (take at out)) → Rests view h at out
+by-why {view} {at = at} {out} e w r = record { within = w; rest = λ m text k. subst (λ y. Makes m view y text (take at out)) (sym e) (r m text k) }
 
 module _ (view : View) (h : Halted) (out : List ℕ) (room : programRoom view ≤ length out) where
   module _ {at : ℕ} {after : List ℕ} (e : at ≡ endOf view (h .clerk) out 0 .finished .at) (f : after ≡ endOf view (h .clerk) out 0 .out) where
     -- what the end of the input puts into the buffer makes it all
-    makes-all : (text : List ℕ) → h .clerk ≡ clerkAfter startedClerk text → MakesAll view text (take at after)
-    makes-all text k = rw (e, f) (ended-all view (h .clerk) text k out room)
+    makes-all : (m : Method) (text : List ℕ) → h .clerk ≡ clerkAfter (startedClerk m) text → MakesAll m view text (take at after)
+    makes-all m text k = rw (e, f) (ended-all m view (h .clerk) text k out room)
 
     -- and stands within it
     ends-there : at ≤ length after
@@ -58,27 +59,27 @@ module _ (view : View) (h : Halted) (out : List ℕ) (room : programRoom view �
 
     -- a read failed, and answers are written
     pub rests-answers : h .why ≡ NotRead → view ≡ Answers → Rests view h at after
-    rests-answers w v = by-why w ends-there (λ text k. subst (λ x. MakesAll x text (take at after) → MakesUnread x text (take at after)) (sym v) (λ m. m) (makes-all text k))
+    rests-answers w v = by-why w ends-there (λ m text k. subst (λ x. MakesAll m x text (take at after) → MakesUnread m x text (take at after)) (sym v) (λ y. y) (makes-all m text k))
 
     -- or the history is
     pub rests-history : h .why ≡ NotRead → view ≡ History → Rests view h at after
-    rests-history w v = by-why w ends-there (λ text k. subst (λ x. MakesAll x text (take at after) → MakesUnread x text (take at after)) (sym v) (λ m. m) (makes-all text k))
+    rests-history w v = by-why w ends-there (λ m text k. subst (λ x. MakesAll m x text (take at after) → MakesUnread m x text (take at after)) (sym v) (λ y. y) (makes-all m text k))
 
   -- every line has been read
-  pub rests-read : {g : Finished} {after : List ℕ} → g ≡ closeOf view (h .clerk) out 0 .finished → after ≡ closeOf view (h .clerk) out 0 .out → Halts h → h .why ≡ AllRead → Rests view h (g .at) after
+  pub rests-read : {g : Finished} {after : List ℕ} → g ≡ closeOf view (h .clerk) out 0 .finished → after ≡ closeOf view (h .clerk) out 0 .out → Over (h .why) (h .clerk .splitter) → h .why ≡ AllRead → Rests view h (g .at) after
   rests-read e f s w =
       let r = closing-fits view in
       by-why w (rw (e, f) (close-within view (h .clerk) out 0 (omega arith)))
-      (λ text k more. rw (e, f) (closed-all view (h .clerk) text k out (omega arith) (subst (λ y. Over y (h .clerk .splitter)) w (s .1)) more))
+      (λ m text k more. rw (e, f) (closed-all m view (h .clerk) text k out (omega arith) (subst (λ y. Over y (h .clerk .splitter)) w s) more))
 
 -- nothing is written after a write that failed
 pub rests-untaken : {view : View} {h : Halted} {out : List ℕ} → h .why ≡ NotTaken → Rests view h 0 out
-rests-untaken w = by-why w (omega arith) (λ text k. refl)
+rests-untaken w = by-why w (omega arith) (λ m text k. refl)
 
 -- nor are chains after a read that failed
 pub rests-chains : {view : View} {h : Halted} {out : List ℕ} → h .why ≡ NotRead → view ≡ Chains → Rests view h 0 out
-rests-chains w v = by-why w (omega arith) (λ text k. subst (λ x. MakesUnread x text []) (sym v) refl)
+rests-chains w v = by-why w (omega arith) (λ m text k. subst (λ x. MakesUnread m x text []) (sym v) refl)
 
 -- what is to be written after a read that failed
 pub rests-unread : {view : View} {h : Halted} {c : Clerk} {at : ℕ} {out : List ℕ} → h .why ≡ NotRead → h .clerk ≡ c → Rests view (record { clerk = c; why = NotRead }) at out → Rests view h at out
-rests-unread w e r = by-why w (r .within) (λ text k. r .rest text (sym e ∙ k))
+rests-unread w e r = by-why w (r .within) (λ m text k. r .rest m text (sym e ∙ k))

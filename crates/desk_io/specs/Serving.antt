@@ -1,4 +1,4 @@
--- What the front of the desk programs does with the bytes that it reads, and what it writes once it reads no more (01, What is delivered; 01, Lines; 02, No. 3).
+-- What the front of the desk programs does with the bytes that it reads, and what it writes once it reads no more (01, What is delivered; 01, Lines; 02, Nos. 3 and 6).
 use Prim.Native.Nat.{ℕ, _≤_, _<_}
 use mathlib.Core.Path.{_≡_}
 use mathlib.Core.Bool.{true}
@@ -6,6 +6,7 @@ use mathlib.Core.List.{List, [], _++_}
 use lib.ListN.{length, take}
 use Rattle.text_rules.specs.declared.splitter.Splitter.{Splitter}
 use Rattle.program_rules.specs.declared.Clerk.{Clerk}
+use Rattle.program_rules.specs.declared.Method.{Method}
 use Rattle.program_rules.specs.declared.View.{View}
 use Rattle.program_rules.specs.declared.View.the-variants.{Answers, History, Chains}
 use Rattle.program_rules.specs.declared.Worked.{Worked}
@@ -37,33 +38,33 @@ Over NotRead s = Unit {0}
 Over AllRead s = allRead s ≡ true
 Over NotTaken s = Unit {0}
 
--- for some text that was read, byte after byte, the clerk has seen it
-pub record Saw (c : Clerk) : Type 0 where
+-- for some text that was read, byte after byte, the clerk has seen it since he was the first one
+pub record Saw (first c : Clerk) : Type 0 where
   pub text : List ℕ
-  pub clerk : c ≡ clerkAfter startedClerk text
+  pub clerk : c ≡ clerkAfter first text
 
--- the input: the clerk has seen what was read, and more is not read only for a reason
-abbrev pub Halts : Halted → Type 0
-Halts h = (Saw (h .clerk)) × (Over (h .why) (h .clerk .splitter))
+-- the input: the clerk who was started with the method has seen what was read, and more is not read only for a reason
+abbrev pub Halts : Method → Halted → Type 0
+Halts m h = (Saw (startedClerk m) (h .clerk)) × (Over (h .why) (h .clerk .splitter))
 
--- behind the records of the lines that have ended, these bytes make all that the program writes of the text
-abbrev pub MakesAll : View → List ℕ → List ℕ → Type 0
-MakesAll view text rest = recordsIn view startedClerk text ++ rest ≡ programOf view text
+-- behind the records of the lines that have ended, these bytes make all that the program of the method and the view writes of the text
+abbrev pub MakesAll : Method → View → List ℕ → List ℕ → Type 0
+MakesAll m view text rest = recordsIn view (startedClerk m) text ++ rest ≡ programOf m view text
 
 -- after a read that failed answers and history end as after the end of the input; chains are not told, since half a text has none
-abbrev pub MakesUnread : View → List ℕ → List ℕ → Type 0
-MakesUnread Answers text rest = MakesAll Answers text rest
-MakesUnread History text rest = MakesAll History text rest
-MakesUnread Chains text rest = rest ≡ []
+abbrev pub MakesUnread : Method → View → List ℕ → List ℕ → Type 0
+MakesUnread m Answers text rest = MakesAll m Answers text rest
+MakesUnread m History text rest = MakesAll m History text rest
+MakesUnread m Chains text rest = rest ≡ []
 
 -- what these bytes are to make, by why no more is read: after line 1,000,000 all that the program writes of the text with whatever would follow, and after a write that failed nothing
-abbrev pub Makes : View → Halt → List ℕ → List ℕ → Type 0
-Makes view Ended text rest = MakesAll view text rest
-Makes view NotRead text rest = MakesUnread view text rest
-Makes view AllRead text rest = (more : List ℕ) → recordsIn view startedClerk text ++ rest ≡ programOf view (text ++ more)
-Makes view NotTaken text rest = rest ≡ []
+abbrev pub Makes : Method → View → Halt → List ℕ → List ℕ → Type 0
+Makes m view Ended text rest = MakesAll m view text rest
+Makes m view NotRead text rest = MakesUnread m view text rest
+Makes m view AllRead text rest = (more : List ℕ) → recordsIn view (startedClerk m) text ++ rest ≡ programOf m view (text ++ more)
+Makes m view NotTaken text rest = rest ≡ []
 
--- once no more is read: what stands in the buffer to be written out last makes that, for whatever text the clerk has seen
+-- once no more is read: what stands in the buffer to be written out last makes that, for whatever method the clerk was started with and whatever text he has seen
 pub record Rests (view : View) (h : Halted) (at : ℕ) (out : List ℕ) : Type 0 where
   pub within : at ≤ length out
-  pub rest : (text : List ℕ) → h .clerk ≡ clerkAfter startedClerk text → Makes view (h .why) text (take at out)
+  pub rest : (m : Method) (text : List ℕ) → h .clerk ≡ clerkAfter (startedClerk m) text → Makes m view (h .why) text (take at out)

@@ -1,10 +1,11 @@
-// The front of the desk programs: chunk after chunk of standard input to the clerk, and the records, or at the end the chains, to standard output (01, What is delivered; 02, No. 3).
+// The front of the desk programs: chunk after chunk of standard input to the clerk, and the records, or at the end the chains, to standard output (01, What is delivered; 02, Nos. 3 and 6).
 use clerk::chains::close;
 use clerk::work::finish;
 use clerk::work::work;
 use libc::STDIN_FILENO;
 use libc::STDOUT_FILENO;
 use program_rules::Clerk;
+use program_rules::Method;
 use program_rules::View;
 use program_rules::Worked;
 use terms::limits::REQUEST_LINES;
@@ -15,7 +16,7 @@ ghost use lib.ListN.{length};
 ghost use Rattle.program_rules.specs.Work.{lineRoom, allRead};
 ghost use Rattle.program_rules.specs.Closing.{programRoom, endOf};
 ghost use Rattle.desk_io.specs.declared.Halt.the-variants.{NotRead};
-ghost use Rattle.desk_io.specs.Serving.{Turned, Serves, Halts, Rests};
+ghost use Rattle.desk_io.specs.Serving.{Turned, Serves, Over, Halts, Rests};
 
 // The clerk after so many bytes of a chunk, and whether all output was taken.
 struct Served {
@@ -90,11 +91,11 @@ fn serve_chunk(view: View, before: Clerk, chunk: &[u8], out: &mut [u8]) -> Serve
 }
 
 // Reads chunk after chunk. Nothing says that input ends, so the loop counts down from a number of turns that no run uses up.
-fn serve_all(view: View, input: &mut [u8], out: &mut [u8]) -> Halted
+fn serve_all(method: Method, view: View, input: &mut [u8], out: &mut [u8]) -> Halted
     requires { ⌜ lineRoom ≤ length (now out) ⌝ }
-    ensures { λ r. ⌜ Halts r ⌝ }
+    ensures { λ r. ⌜ Halts method r ⌝ }
 {
-    let mut clerk = Clerk::started();
+    let mut clerk = Clerk::started(method);
     let mut turns = u64::MAX;
     while turns > 0 {
         let got = libc::read(STDIN_FILENO, input);
@@ -131,30 +132,42 @@ fn serve_all(view: View, input: &mut [u8], out: &mut [u8]) -> Halted
 }
 
 // Says on standard error that the input could not be read.
-fn say_unread(view: View) {
+fn say_unread(method: Method, view: View) {
     match view {
-        View::Answers => os::fail(b"answers: cannot read"),
-        View::History => os::fail(b"history: cannot read"),
+        View::Answers => match method {
+            Method::Locks => os::fail(b"answers: cannot read"),
+            Method::Stamps => os::fail(b"stamp_answers: cannot read"),
+        },
+        View::History => match method {
+            Method::Locks => os::fail(b"history: cannot read"),
+            Method::Stamps => os::fail(b"stamp_history: cannot read"),
+        },
         View::Chains => os::fail(b"chain: cannot read"),
     }
 }
 
 // Says on standard error that output could not be written.
-fn say_untaken(view: View) {
+fn say_untaken(method: Method, view: View) {
     match view {
-        View::Answers => os::fail(b"answers: cannot write"),
-        View::History => os::fail(b"history: cannot write"),
+        View::Answers => match method {
+            Method::Locks => os::fail(b"answers: cannot write"),
+            Method::Stamps => os::fail(b"stamp_answers: cannot write"),
+        },
+        View::History => match method {
+            Method::Locks => os::fail(b"history: cannot write"),
+            Method::Stamps => os::fail(b"stamp_history: cannot write"),
+        },
         View::Chains => os::fail(b"chain: cannot write"),
     }
 }
 
 // Says on standard error why no more is read, where something failed.
-fn say_halt(view: View, why: Halt) {
+fn say_halt(method: Method, view: View, why: Halt) {
     match why {
         Halt::Ended => {}
-        Halt::NotRead => say_unread(view),
+        Halt::NotRead => say_unread(method, view),
         Halt::AllRead => {}
-        Halt::NotTaken => say_untaken(view),
+        Halt::NotTaken => say_untaken(method, view),
     }
 }
 
@@ -181,7 +194,7 @@ fn put_unread(view: View, last: Clerk, out: &mut [u8]) -> usize
 
 // What is still to be written once no more is read, from the buffer's first byte on.
 fn put_rest(view: View, halted: Halted, out: &mut [u8]) -> usize
-    requires { ⌜ (programRoom view ≤ length (now out)) × (Halts halted) ⌝ }
+    requires { ⌜ (programRoom view ≤ length (now out)) × (Over (halted .why) (halted .clerk .splitter)) ⌝ }
     ensures { λ r. ⌜ Rests view halted r (now (out .exit)) ⌝ }
 {
     let last = halted.clerk;
@@ -198,23 +211,23 @@ fn put_rest(view: View, halted: Halted, out: &mut [u8]) -> usize
 }
 
 // All of the input, and what is to be written and said at its end.
-fn serve_input(view: View, input: &mut [u8], out: &mut [u8])
+fn serve_input(method: Method, view: View, input: &mut [u8], out: &mut [u8])
     requires { ⌜ programRoom view ≤ length (now out) ⌝ }
 {
-    let halted = serve_all(view, input, out);
+    let halted = serve_all(method, view, input, out);
     let why = halted.why;
-    say_halt(view, why);
+    say_halt(method, view, why);
     let at = put_rest(view, halted, out);
     if !put_out(out, at) {
-        say_untaken(view);
+        say_untaken(method, view);
     }
 }
 
 // Serves standard input to its end, to the end of line 1,000,000, or to the first output that is not taken; what cannot be read or written is said on standard error.
-pub fn serve(view: View)
+pub fn serve(method: Method, view: View)
     ensures { λ r. ⌜ r ≡ tt ⌝ }
 {
     let mut input = io::large_buffer();
     let mut out = io::large_buffer();
-    serve_input(view, &mut input, &mut out);
+    serve_input(method, view, &mut input, &mut out);
 }

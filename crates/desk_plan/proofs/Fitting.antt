@@ -21,7 +21,8 @@ use Rattle.desk_arrays.specs.declared.moves.Move.{Move}
 use Rattle.desk_arrays.specs.declared.moves.Move.the-variants.{Keep, Take, Stay, End}
 use Rattle.desk_arrays.specs.Codes.{freeCode, waitingCode, sentBackCode}
 use Rattle.desk_arrays.specs.Places.{modeAt, agreesAt, olderAt, nobodyWaits, oldestOf}
-use Rattle.desk_arrays.specs.Moves.{statusOf, foundAt, standingOf, ifRuns, beginMove, commitMove, giveUpMove, retryMove, promotes, enters, decided, askMove, moveFor}
+use Rattle.desk_arrays.proofs.Beginning.{begin-picks}
+use Rattle.desk_arrays.specs.Moves.{statusOf, foundAt, standingOf, ifRuns, commitMove, giveUpMove, retryMove, promotes, enters, decided, askMove, moveFor}
 use Rattle.desk_plan.specs.Fits.{Fits}
 use Rattle.desk_plan.proofs.Open.{open-inside}
 
@@ -66,11 +67,11 @@ module _ (number status cell held : List ℕ) (p c job : ℕ) (a : Ask) (place :
 
 -- every plan fits
 pub plan-fits : (next : ℕ) (number status cell held : List ℕ) (job c : ℕ) (l : Lettered) → length status ≡ places → Fits c (moveFor next number status cell held job c l)
-unfolding moveFor beginMove commitMove giveUpMove retryMove askMove foundAt
+unfolding moveFor commitMove giveUpMove retryMove askMove foundAt
 plan-fits next number status cell held job c Unknown e = tt
 plan-fits next number status cell held job c (Known no-request) e = tt
 plan-fits next number status cell held job c (Known begins) e =
-    fits-pick c (ltb lastNumber next) _ _ (λ t. tt) (λ f. fits-pick c (ltb (pos number 0) places) _ _ (λ t. ltb-true (pos number 0) places t) (λ t. tt))
+    rw (begin-picks next number) (fits-pick c (ltb lastNumber next) _ _ (λ t. tt) (λ f. fits-pick c (ltb (pos number 0) places) _ _ (λ t. ltb-true (pos number 0) places t) (λ t. tt)))
 plan-fits next number status cell held job c (Known Commit) e = fits-runs c _ _ (open-inside number status job e)
 plan-fits next number status cell held job c (Known GiveUp) e = fits-pick c _ _ _ (λ t. tt) (open-inside number status job e)
 plan-fits next number status cell held job c (Known retries) e =

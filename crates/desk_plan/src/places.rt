@@ -12,7 +12,6 @@ ghost use mathlib.Core.Path.{_≡_};
 ghost use mathlib.Core.Bool.{not, _&&_, _||_};
 ghost use lib.Dec.{eqb, ltb};
 ghost use lib.ListN.{length, getD};
-ghost use Rattle.laws.specs.Lists.{pos};
 ghost use Rattle.conflict.specs.Modes.{grants, isFree};
 ghost use Rattle.desk_plan.specs.Grants.{noneHolds};
 ghost use Rattle.desk_arrays.specs.Places.{modeAt, agreesAt, olderAt, waitsAt, nobodyWaits, oldestOf, youngest};
@@ -23,21 +22,6 @@ pub fn sized(number: [u32; PLACES], status: [u8; PLACES]) -> bool
     ensures { λ r. ⌜ (length number ≡ places) × (length status ≡ places) ⌝ }
 {
     true
-}
-
-// The place of a job, or 32; the first free place is that of job 0.
-pub fn place_of(number: &[u32; PLACES], job: u32) -> usize
-    requires { ⌜ length (now number) ≡ places ⌝ }
-    ensures { λ r. ⌜ r ≡ pos (now (number .entry)) job ⌝ }
-{
-    let mut p: usize = 0;
-    while p < PLACES {
-        if number[p] == job {
-            return p;
-        }
-        p += 1;
-    }
-    p
 }
 
 // The mode that a place holds on a cell.

@@ -5,7 +5,6 @@ use crate::places::mode_at;
 use crate::places::nobody_waits;
 use crate::places::older_than_holders;
 use crate::places::older_than_waiters;
-use crate::places::place_of;
 use crate::places::sized;
 use conflict::modes::Mode;
 use conflict::modes::asked_mode;
@@ -20,10 +19,12 @@ use desk_arrays::moves::Found;
 use desk_arrays::moves::Move;
 use desk_arrays::moves::Standing;
 use desk_arrays::state::SPOTS;
+use desks::finding::Opening;
+use desks::finding::opening_for;
+use desks::finding::place_of;
 use terms::letters::Ask;
 use terms::letters::Letter;
 use terms::limits::CELLS;
-use terms::limits::LAST_NUMBER;
 use terms::limits::PLACES;
 use terms::refusals::Refusal;
 ghost use Prim.Native.Nat.{_<_};
@@ -179,17 +180,12 @@ fn decide<'a>(
 
 // Begin: 7, then 6, else the next number at the first free place.
 fn begin_move(next: u64, number: &[u32; PLACES]) -> Move
-    requires { ⌜ length (now number) ≡ places ⌝ }
     ensures { λ r. ⌜ r ≡ beginMove next (now (number .entry)) ⌝ }
 {
-    if (LAST_NUMBER as u64) < next {
-        return Move::Refuse(Refusal::NoNumberLeft);
+    match opening_for(next, number) {
+        Opening::At(p, n) => Move::Begin(p, n),
+        Opening::Refused(why) => Move::Refuse(why),
     }
-    let p = place_of(number, 0);
-    if p < PLACES {
-        return Move::Begin(p, next as u32);
-    }
-    Move::Refuse(Refusal::AllOpen)
 }
 
 // Commit: 3, 4, 5, else the run ends.

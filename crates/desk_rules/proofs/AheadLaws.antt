@@ -5,10 +5,11 @@ use mathlib.Core.Path.{_≡_, refl, subst}
 use mathlib.Core.Logic.{_≢_}
 use mathlib.Core.List.{List, [], _∷_, _++_}
 use native.Mathlib.Omega.{arith}
-use Rattle.desk_rules.specs.Desk.{Waiter, In, first, later}
+use Rattle.laws.specs.Standing.{In, first, later}
+use Rattle.desk_rules.specs.Desk.{Waiter}
 use Rattle.desk_rules.specs.Waiting.{Ahead, in-front, further}
 use Rattle.desk_rules.specs.Invariant.{Falling}
-use Rattle.desk_rules.proofs.Queue.{in-none, in-split, is-first, in-right, in-either}
+use Rattle.laws.proofs.Standing.{in-none, in-split, is-first, in-right, in-either}
 
 -- nobody stands ahead in an empty queue
 pub ahead-none : {P : Type 0} {v w : Waiter} → Ahead v w [] → P

@@ -11,12 +11,12 @@ use Rattle.laws.proofs.Lists.{member-split, member-none}
 use Rattle.laws.proofs.Joined.{head-same, tail-same, not-empty, not-empty-mid}
 use Rattle.terms.specs.declared.letters.Ask.{Ask}
 use Rattle.desk_rules.specs.Desk.{running, waiting, Desk}
-use Rattle.desk_rules.specs.Requests.{Rising}
+use Rattle.desks.specs.Requests.{Rising}
 use Rattle.desk_rules.specs.Invariant.{Inv}
 use Rattle.desk_rules.specs.Chain.{youngerThan, Next, IsChain, runs, waits}
 use Rattle.desk_rules.specs.Chains.{Followed, Along}
 use Rattle.desk_rules.proofs.Statuses.{live-open}
-use Rattle.desk_rules.proofs.Numbers.{rising-distinct}
+use Rattle.desks.proofs.Numbers.{rising-distinct}
 use Rattle.desk_rules.proofs.InTheWay.{way-younger}
 use Rattle.desk_rules.proofs.Younger.{younger-short}
 use Rattle.desk_rules.proofs.ChainIs.{fewer-younger, chain-live}

@@ -2,7 +2,7 @@
 -- Assumes nothing.
 use Prim.Native.Nat.{ℕ, _≤_}
 use mathlib.Core.Path.{_≡_, refl, sym, ap, _∙_, subst}
-use mathlib.Core.Bool.{Bool, true, false}
+use mathlib.Core.Bool.{true, false}
 use mathlib.Core.List.{List}
 use lib.Dec.{ltb}
 use borrow.Author.Tests.{ltb-false}
@@ -18,16 +18,17 @@ use Rattle.conflict.specs.declared.modes.Mode.{Mode}
 use Rattle.conflict.specs.Modes.{needed, covers, asked, isFree}
 use Rattle.laws.specs.Lists.{member}
 use Rattle.conflict.proofs.ModeLaws.{covers-refl, covers-none, asked-covers, asked-grows}
-use Rattle.desk_rules.specs.declared.Answer.{Answer}
-use Rattle.desk_rules.specs.declared.Answer.the-variants.{Go, Wait, Back, No}
-use Rattle.desk_rules.specs.Desk.{Status, closed, running, waiting, sentback, Waiter, Desk, Request, isOpen}
-use Rattle.desk_rules.specs.Rules.{Outcome, refused, rule4, close, sendBack, grant, queued, rule1, retry, begin}
+use Rattle.desks.specs.declared.Answer.the-variants.{Go, Wait, Back}
+use Rattle.desks.specs.Request.{Request}
+use Rattle.desk_rules.specs.Desk.{Status, closed, running, waiting, sentback, Waiter, Desk, isOpen}
+use Rattle.desks.specs.Begin.{beginning, refused}
+use Rattle.desk_rules.specs.Rules.{Outcome, rule4, close, sendBack, grant, queued, rule1, retry, begin}
 use Rattle.desk_rules.specs.Step.{stepCommit, stepGiveUp, stepRetry, stepBegin, stepBy, step}
-use Rattle.desk_rules.specs.Table.{letterIs}
+use Rattle.desks.specs.Table.{letterIs}
 use Rattle.desk_rules.specs.Asked.{Asking, Elder, asker}
 use Rattle.desk_rules.specs.Moves.{standing, Moved, refuses, begins, commits, gives-up, retries, has-it, promotes, waits-in-front, enters, waits-last, goes-back}
 use Rattle.desk_rules.specs.Effects.{Joined, promotion, newcomer}
-use Rattle.desk_rules.proofs.Answers.{other-answer}
+use Rattle.desks.proofs.Answers.{other-answer, goesOrRefuses}
 use Rattle.desk_rules.proofs.Moved.{step-moved, elder-of}
 
 -- what an answer tells: of which job it is, the rule's outcome, and what held before
@@ -75,7 +76,7 @@ retry-went d r j e g = by-status (d .stat (r .job)) refl (unfold step stepBy in 
 
 -- a begin that goes gives the next number, which was still to be given, to a job for which a place was free
 pub begin-went : (d : Desk) (r : Request) (j : ℕ) → letterOf (r .kind) ≡ Known Begin → step d r .said ≡ Go j → Tells d r (d .next) j (begin d) ((d .next ≤ lastNumber) × (member 0 (d .jobs) ≡ true))
-unfolding stepBegin refused begin
+unfolding stepBegin beginning refused begin
 begin-went d r j e g = by-tests (unfold step stepBy in ap (stepBy d r) e)
   where
     by-tests : step d r ≡ stepBegin d → Tells d r (d .next) j (begin d) ((d .next ≤ lastNumber) × (member 0 (d .jobs) ≡ true))
@@ -122,13 +123,6 @@ Joins d r a q = Joined (isFree (d .row (r .cell) .held (r .job))) (asker r a) (d
 data HeldUp (d : Desk) (r : Request) : Outcome → Type 0 where
   waits : (a : Ask) (q : List Waiter) → Asking d r a → Joins d r a q → HeldUp d r (standing d (r .job) (r .cell) a q)
   leaves : (a : Ask) → Asking d r a → Elder d (r .job) (r .cell) → HeldUp d r (rule4 d (r .job) sentback (d .jobs) (Back (r .job)))
-
--- the answer is go or a refusal
-abbrev goesOrRefuses : Answer → Bool
-goesOrRefuses (Go j) = true
-goesOrRefuses (Wait j) = false
-goesOrRefuses (Back j) = false
-goesOrRefuses (No why) = true
 
 -- every move that answers neither go nor a refusal is such
 held-up : {d : Desk} {r : Request} {o : Outcome} → Moved d r o → goesOrRefuses (o .said) ≡ false → HeldUp d r o

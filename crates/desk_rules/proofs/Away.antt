@@ -7,7 +7,7 @@ use mathlib.Core.List.{List}
 use Rattle.laws.specs.Choice.{by-test, not-both}
 use Rattle.conflict.specs.Modes.{isFree}
 use Rattle.conflict.proofs.ModeLaws.{is-free}
-use Rattle.desk_rules.specs.declared.Answer.{Answer}
+use Rattle.desks.specs.declared.Answer.{Answer}
 use Rattle.desk_rules.specs.Desk.{Status, Desk, isLive}
 use Rattle.desk_rules.specs.Rules.{rule4}
 use Rattle.desk_rules.specs.Invariant.{Inv}

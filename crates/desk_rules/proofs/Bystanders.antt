@@ -10,14 +10,19 @@ use Rattle.terms.specs.declared.letters.Letter.the-variants.{Begin}
 use Rattle.terms.specs.declared.letters.Lettered.the-variants.{Known}
 use Rattle.terms.specs.Letters.{letterOf}
 use Rattle.laws.specs.Lists.{member}
-use Rattle.desk_rules.specs.declared.Answer.{Answer}
-use Rattle.desk_rules.specs.declared.Answer.the-variants.{Go, Back}
-use Rattle.desk_rules.specs.Desk.{Status, closed, running, sentback, waiting, Desk, Request, at, vacated}
-use Rattle.desk_rules.specs.Rules.{Outcome, refused, withRow, withStatus, isWoken, rule4}
-use Rattle.desk_rules.specs.Table.{isBegin, named}
+use Rattle.desks.specs.declared.Answer.{Answer}
+use Rattle.desks.specs.declared.Answer.the-variants.{Go, Back}
+use Rattle.desks.specs.Request.{Request}
+use Rattle.laws.specs.Functions.{at}
+use Rattle.desks.specs.Places.{vacated}
+use Rattle.desk_rules.specs.Desk.{Status, closed, running, sentback, waiting, Desk}
+use Rattle.desks.specs.Begin.{refused}
+use Rattle.desk_rules.specs.Rules.{Outcome, withRow, withStatus, isWoken, rule4}
+use Rattle.desks.specs.Table.{isBegin}
+use Rattle.desk_rules.specs.Table.{named}
 use Rattle.desk_rules.specs.Moves.{Moved, refuses, begins, commits, gives-up, retries, has-it, promotes, waits-in-front, enters, waits-last, goes-back}
-use Rattle.desk_rules.proofs.Tests.{at-other}
-use Rattle.desk_rules.proofs.Places.{seated-others, vacated-others}
+use Rattle.laws.proofs.Functions.{at-other}
+use Rattle.desks.proofs.Places.{seated-others, vacated-others}
 use Rattle.desk_rules.proofs.Wakes.{others-stay}
 use Rattle.desk_rules.proofs.RunEnd.{wakesAfter}
 

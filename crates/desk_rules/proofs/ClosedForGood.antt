@@ -7,10 +7,14 @@ use mathlib.Core.Bool.{true}
 use mathlib.Core.List.{List, [], _∷_}
 use native.Mathlib.Omega.{arith}
 use Rattle.laws.specs.Choice.{not-both}
-use Rattle.desk_rules.specs.declared.Answer.{Answer}
-use Rattle.desk_rules.specs.declared.Answer.the-variants.{Go, Back}
-use Rattle.desk_rules.specs.Desk.{Status, closed, running, waiting, sentback, isOpen, Desk, Request, at, vacated}
-use Rattle.desk_rules.specs.Rules.{Outcome, refused, withRow, withStatus, rule4}
+use Rattle.desks.specs.declared.Answer.{Answer}
+use Rattle.desks.specs.declared.Answer.the-variants.{Go, Back}
+use Rattle.desks.specs.Request.{Request}
+use Rattle.laws.specs.Functions.{at}
+use Rattle.desks.specs.Places.{vacated}
+use Rattle.desk_rules.specs.Desk.{Status, closed, running, waiting, sentback, isOpen, Desk}
+use Rattle.desks.specs.Begin.{refused}
+use Rattle.desk_rules.specs.Rules.{Outcome, withRow, withStatus, rule4}
 use Rattle.desk_rules.specs.Step.{step}
 use Rattle.desk_rules.specs.Requests.{deskAfter}
 use Rattle.desk_rules.specs.Moves.{Moved}
@@ -18,7 +22,7 @@ use Rattle.desk_rules.specs.Moves.Moved.{refuses, begins, commits, gives
 use Rattle.desk_rules.proofs.Moved.{step-moved}
 use Rattle.desk_rules.specs.Invariant.{Inv}
 use Rattle.desk_rules.proofs.Statuses.{running-open, sentback-open, closed-not-open, not-open-not-waiting}
-use Rattle.desk_rules.proofs.Tests.{at-other}
+use Rattle.laws.proofs.Functions.{at-other}
 use Rattle.desk_rules.proofs.RunEnd.{others-not-woken, others-after}
 use Rattle.desk_rules.proofs.Kept.{step-inv}
 use Rattle.desk_rules.proofs.Numbers.{next-rises}

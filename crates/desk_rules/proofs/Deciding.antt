@@ -12,8 +12,10 @@ use Rattle.conflict.specs.Modes.{needed, grants, asked, isFree}
 use Rattle.conflict.proofs.ModeLaws.{covers-free, is-free, grants-free}
 use Rattle.laws.proofs.Parts.{and-both}
 use Rattle.conflict.specs.History.{History}
-use Rattle.desk_rules.specs.declared.Answer.the-variants.{Go, Wait, Back}
-use Rattle.desk_rules.specs.Desk.{Waiter, Desk, Request, In, first, later}
+use Rattle.desks.specs.declared.Answer.the-variants.{Go, Wait, Back}
+use Rattle.desks.specs.Request.{Request}
+use Rattle.laws.specs.Standing.{In, first, later}
+use Rattle.desk_rules.specs.Desk.{Waiter, Desk}
 use Rattle.desk_rules.specs.Locks.{agrees, olderThanHolders, olderThanWaiters, isEmpty}
 use Rattle.desk_rules.specs.Rules.{withRow, withStatus, rule2, rule3, rule4, grant, queued, sendBack, rule1, ask}
 use Rattle.desk_rules.specs.Step.{step, Started}
@@ -22,7 +24,8 @@ use Rattle.desk_rules.specs.Releasing.{Seated}
 use Rattle.desk_rules.specs.Course.{from}
 use Rattle.desk_rules.specs.Decides.{Decides}
 use Rattle.desk_rules.proofs.Kept.{started-inv}
-use Rattle.desk_rules.proofs.Tests.{at-same, agrees-each, each-agrees, not-agrees, each-older, older-holders, each-older-waiters, older-waiters}
+use Rattle.laws.proofs.Functions.{at-same}
+use Rattle.desk_rules.proofs.Tests.{agrees-each, each-agrees, not-agrees, each-older, older-holders, each-older-waiters, older-waiters}
 use Rattle.desk_rules.proofs.RunEnd.{row-ready}
 use Rattle.desk_rules.proofs.Granting.{asking-step}
 use Rattle.desk_rules.proofs.Moved.{step-moved}

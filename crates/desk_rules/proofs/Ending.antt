@@ -1,36 +1,25 @@
 -- A run's end. Commit and give-up close a job and free its place; a sent back job keeps its number and its place; both drop all locks and every place in a queue (01, Jobs and their numbers; 01, rule 4).
 -- Assumes nothing.
 use Prim.Native.Nat.{ℕ}
-use mathlib.Core.Path.{_≡_, refl, sym, _∙_}
+use mathlib.Core.Path.{_≡_, refl}
 use mathlib.Core.Logic.{_⊎_, inl, inr}
 use mathlib.Core.Bool.{true}
-use mathlib.Core.List.{List, [], _∷_}
-use lib.Dec.{eqb}
-use Rattle.laws.specs.Choice.{by-test}
 use Rattle.terms.specs.declared.letters.Letter.the-variants.{Commit, GiveUp}
 use Rattle.terms.specs.declared.letters.Lettered.the-variants.{Known}
 use Rattle.terms.specs.Letters.{letterOf}
-use Rattle.laws.specs.Lists.{member}
-use Rattle.laws.proofs.Lists.{member-first, member-later, member-more}
-use Rattle.desk_rules.specs.declared.Answer.the-variants.{Go, Back}
-use Rattle.desk_rules.specs.Desk.{closed, sentback, Desk, Request, isOpen, vacated}
+use Rattle.desks.specs.declared.Answer.the-variants.{Go, Back}
+use Rattle.desks.specs.Request.{Request}
+use Rattle.desks.specs.Places.{vacated}
+use Rattle.desk_rules.specs.Desk.{closed, sentback, Desk, isOpen}
 use Rattle.desk_rules.specs.Rules.{rule4, close, sendBack}
 use Rattle.desk_rules.specs.Step.{step}
 use Rattle.desk_rules.specs.Effects.{Closes, SendsBack}
 use Rattle.desk_rules.specs.Invariant.{Inv}
 use Rattle.desk_rules.proofs.Statuses.{running-open}
-use Rattle.desk_rules.proofs.Places.{vacated-others, vacated-gone}
-use Rattle.desk_rules.proofs.OpenJobs.{open-not-zero}
+use Rattle.desks.proofs.Places.{vacated-others, vacated-gone, vacated-free}
+use Rattle.desk_rules.proofs.Seats.{open-not-zero}
 use Rattle.desk_rules.proofs.Away.{ended-away, ended-status}
 use Rattle.desk_rules.proofs.AnswerTells.{Tells, commit-went, give-up-went}
-
--- a place that is freed is free
-vacated-free : (j : ℕ) (ks : List ℕ) → member j ks ≡ true → member 0 (vacated j ks) ≡ true
-unfolding vacated
-vacated-free j [] m = unfold member in m
-vacated-free j (k ∷ ks) m =
-    by-test (eqb k j) (λ t. rw t (member-first 0 (vacated j ks)))
-    (λ f. rw f (member-more k (vacated j ks) 0 (vacated-free j ks (sym (member-later k ks j f) ∙ m))))
 
 -- closing an open job
 pub close-closes : {d : Desk} → Inv d → (j : ℕ) → isOpen (d .stat j) ≡ true → Closes d (close d j .desk) j

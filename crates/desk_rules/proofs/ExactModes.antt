@@ -11,14 +11,17 @@ use Rattle.conflict.specs.declared.modes.Mode.{Mode}
 use Rattle.conflict.specs.Modes.{needed, covers, asked, isFree, Becomes}
 use Rattle.conflict.proofs.ModeLaws.{covers-not-free}
 use Rattle.conflict.proofs.ExactNeeds.{promotion-asks}
-use Rattle.desk_rules.specs.declared.Answer.the-variants.{Go}
-use Rattle.desk_rules.specs.Desk.{Status, closed, running, waiting, sentback, Desk, Request, at}
+use Rattle.desks.specs.declared.Answer.the-variants.{Go}
+use Rattle.desks.specs.Request.{Request}
+use Rattle.laws.specs.Functions.{at}
+use Rattle.desk_rules.specs.Desk.{Status, closed, running, waiting, sentback, Desk}
 use Rattle.desk_rules.specs.Locks.{agrees, olderThanHolders, olderThanWaiters, isEmpty}
-use Rattle.desk_rules.specs.Rules.{refused, withRow, grant, queued, sendBack, rule1, rule2, rule3, rule4, ask}
+use Rattle.desks.specs.Begin.{refused}
+use Rattle.desk_rules.specs.Rules.{withRow, grant, queued, sendBack, rule1, rule2, rule3, rule4, ask}
 use Rattle.desk_rules.specs.Step.{stepAsk, step}
 use Rattle.desk_rules.specs.Effects.{Exactly}
-use Rattle.desk_rules.proofs.Tests.{at-same}
-use Rattle.desk_rules.proofs.Answers.{other-answer}
+use Rattle.laws.proofs.Functions.{at-same}
+use Rattle.desks.proofs.Answers.{other-answer}
 
 module _ (d : Desk) (j c : ℕ) where
   -- a mode that is granted is the one the job then holds

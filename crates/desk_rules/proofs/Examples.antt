@@ -4,22 +4,26 @@ use mathlib.Core.Path.{_≡_, refl}
 use mathlib.Core.List.{map}
 use Rattle.laws.specs.Lists.{member, put, firstOf, filled}
 use Rattle.conflict.specs.Modes.{needed, recorded, covers, grants, asked, isFree}
-use Rattle.desk_rules.specs.AnswerWords.{wordOf, numberBeside}
-use Rattle.desk_rules.specs.Desk.{isOpen, at, idle, freshDesk, seated, vacated}
+use Rattle.desks.specs.AnswerWords.{wordOf, numberBeside}
+use Rattle.laws.specs.Functions.{at}
+use Rattle.desks.specs.Places.{seated, vacated}
+use Rattle.desk_rules.specs.Desk.{isOpen, idle, freshDesk}
 use Rattle.desk_rules.specs.Locks.{every, everyWaiter, isEmpty, agrees, olderThanHolders, olderThanWaiters, without, wants, wokenFirst, settle, released}
-use Rattle.desk_rules.specs.Rules.{refused, withRow, withStatus, wake, wakesAt, wakesOf, isWoken, runAgain, rowsAfter, rule4, close, sendBack, grant, queued, rule1, rule2, rule3, ask, retry, begin}
+use Rattle.desks.specs.Begin.{beginning, refused}
+use Rattle.desk_rules.specs.Rules.{withRow, withStatus, wake, wakesAt, wakesOf, isWoken, runAgain, rowsAfter, rule4, close, sendBack, grant, queued, rule1, rule2, rule3, ask, retry, begin}
 use Rattle.desk_rules.specs.Step.{stepCommit, stepGiveUp, stepRetry, stepAsk, stepBegin, stepBy, step}
 use Rattle.desk_rules.specs.Chain.{otherHolders, aheadOf, inWayOf, younger, youngestOf, youngerThan, onward, chainBy, chainOf}
 use Rattle.desk_rules.specs.AskedChain.{chainHolds, chainOrder, chainDue, chainTold, askChain, chainNumbers}
-use Rattle.desk_rules.specs.Examples.{Example, toldOf, answersOf, examples}
+use Rattle.desks.specs.Told.{Example, toldOf, answersOf}
+use Rattle.desk_rules.specs.Examples.{examples}
 use Rattle.desk_rules.specs.ChainExamples.{ChainExample, answeredTo, saidOf, chainExamples}
 
 -- on the paper's desk every example's requests get its answers
 pub as-the-examples-say : map (λ (e : Example). answersOf step (freshDesk (e .start)) (e .requests)) examples ≡ map (λ (e : Example). e .answers) examples
-unfolding member needed recorded covers grants asked isFree wordOf numberBeside at idle freshDesk seated vacated every everyWaiter isEmpty agrees olderThanHolders olderThanWaiters without wants wokenFirst settle released refused withRow withStatus wake wakesAt wakesOf isWoken runAgain rowsAfter rule4 close sendBack grant queued rule1 rule2 rule3 ask retry begin stepCommit stepGiveUp stepRetry stepAsk stepBegin stepBy step toldOf answersOf
+unfolding member needed recorded covers grants asked isFree wordOf numberBeside at idle freshDesk seated vacated every everyWaiter isEmpty agrees olderThanHolders olderThanWaiters without wants wokenFirst settle released refused withRow withStatus wake wakesAt wakesOf isWoken runAgain rowsAfter rule4 close sendBack grant queued rule1 rule2 rule3 ask retry begin stepCommit stepGiveUp stepRetry stepAsk stepBegin beginning stepBy step toldOf answersOf
 as-the-examples-say = refl
 
 -- every question gets its answer, and the list holds what the example says
 pub chains-as-the-examples-say : map (λ (e : ChainExample). map (answeredTo (e .requests)) (e .questions)) chainExamples ≡ map (λ (e : ChainExample). map saidOf (e .questions)) chainExamples
-unfolding member put firstOf filled needed recorded covers grants asked isFree isOpen at idle freshDesk seated vacated every everyWaiter isEmpty agrees olderThanHolders olderThanWaiters without wants wokenFirst settle released refused withRow withStatus wake wakesAt wakesOf isWoken runAgain rowsAfter rule4 close sendBack grant queued rule1 rule2 rule3 ask retry begin stepCommit stepGiveUp stepRetry stepAsk stepBegin stepBy step otherHolders aheadOf inWayOf younger youngestOf youngerThan onward chainBy chainOf chainHolds chainOrder chainDue chainTold askChain chainNumbers answeredTo saidOf
+unfolding member put firstOf filled needed recorded covers grants asked isFree isOpen at idle freshDesk seated vacated every everyWaiter isEmpty agrees olderThanHolders olderThanWaiters without wants wokenFirst settle released refused withRow withStatus wake wakesAt wakesOf isWoken runAgain rowsAfter rule4 close sendBack grant queued rule1 rule2 rule3 ask retry begin stepCommit stepGiveUp stepRetry stepAsk stepBegin beginning stepBy step otherHolders aheadOf inWayOf younger youngestOf youngerThan onward chainBy chainOf chainHolds chainOrder chainDue chainTold askChain chainNumbers answeredTo saidOf
 chains-as-the-examples-say = refl

@@ -18,16 +18,20 @@ use Rattle.terms.specs.Limits.{cells}
 use Rattle.conflict.specs.declared.modes.Mode.{Mode}
 use Rattle.conflict.specs.declared.modes.Mode.the-variants.{Free}
 use Rattle.conflict.specs.declared.action.Action.{Action}
-use Rattle.desk_rules.specs.declared.Answer.{Answer}
-use Rattle.desk_rules.specs.declared.Answer.the-variants.{Go, Wait, Back, No}
-use Rattle.desk_rules.specs.Desk.{Status, Waiter, Row, Desk, Request, at, idle, freshDesk}
+use Rattle.desks.specs.declared.Answer.{Answer}
+use Rattle.desks.specs.declared.Answer.the-variants.{Go, Wait, Back, No}
+use Rattle.desks.specs.Request.{Request}
+use Rattle.laws.specs.Functions.{at}
+use Rattle.desk_rules.specs.Desk.{Status, Waiter, Row, Desk, idle, freshDesk}
 use Rattle.desk_rules.specs.Locks.{without, agrees, wants, wokenFirst, settle, released}
-use Rattle.desk_rules.specs.Rules.{Outcome, refused, withRow, withStatus, wakesAt, wakesOf, rowsAfter, rule4}
-use Rattle.desk_rules.specs.Step.{recordsBy, step, wentBy, ownRecords, wakeRecords, recordsOf, events}
+use Rattle.desks.specs.Begin.{refused}
+use Rattle.desk_rules.specs.Rules.{Outcome, withRow, withStatus, wakesAt, wakesOf, rowsAfter, rule4}
+use Rattle.desks.specs.Records.{recordsBy, wentBy, ownRecords, wakeRecords, recordsOf}
+use Rattle.desk_rules.specs.Step.{step, events}
 use Rattle.desk_rules.specs.Moves.{Moved, refuses, begins, commits, gives-up, retries, has-it, promotes, waits-in-front, enters, waits-last, goes-back, taking, standing}
 use Rattle.desk_rules.specs.Waiting.{standingIn, waitersOf}
 use Rattle.desk_rules.proofs.Moved.{step-moved}
-use Rattle.desk_rules.proofs.Tests.{at-same, at-other}
+use Rattle.laws.proofs.Functions.{at-same, at-other}
 
 -- on a fresh desk nobody does
 pub none-standing : (m n : ℕ) → standingIn (freshDesk m .row) n ≡ 0

@@ -7,12 +7,14 @@ use Rattle.terms.specs.declared.letters.Ask.{Ask}
 use Rattle.terms.specs.Limits.{cells}
 use Rattle.conflict.specs.declared.modes.Mode.{Mode}
 use Rattle.conflict.specs.Modes.{needed, covers}
-use Rattle.desk_rules.specs.Desk.{Desk, Row, Request, at}
+use Rattle.desks.specs.Request.{Request}
+use Rattle.laws.specs.Functions.{at}
+use Rattle.desk_rules.specs.Desk.{Desk, Row}
 use Rattle.desk_rules.specs.Rules.{withRow, grant, rule1, ask}
 use Rattle.desk_rules.specs.Step.{stepAsk, stepBy, step}
 use Rattle.desk_rules.specs.Asked.{Asking}
 use Rattle.desk_rules.specs.Effects.{Grants}
-use Rattle.desk_rules.proofs.Tests.{at-same, at-other, at-each}
+use Rattle.laws.proofs.Functions.{at-same, at-other, at-each}
 use Rattle.desk_rules.proofs.AnswerTells.{AskWent, had, got}
 
 -- a running job that asks for a cell below 64 is decided by rules 1 to 3

@@ -18,15 +18,19 @@ use Rattle.conflict.specs.History.{History}
 use Rattle.conflict.proofs.ModeLaws.{covers-refl, covers-none, asked-grows}
 use Rattle.conflict.proofs.OneEvent.{marked-ends, any-ends, ended-is}
 use Rattle.laws.proofs.Lists.{same-sym}
-use Rattle.desk_rules.specs.declared.Answer.{Answer}
-use Rattle.desk_rules.specs.Desk.{Status, Waiter, Desk, Request, at}
-use Rattle.desk_rules.specs.Rules.{Outcome, refused, withRow, withStatus, rule4, grant, queued}
-use Rattle.desk_rules.specs.Step.{step, events, recordsBy, recordsOf, wakeRecords}
+use Rattle.desks.specs.declared.Answer.{Answer}
+use Rattle.desks.specs.Request.{Request}
+use Rattle.laws.specs.Functions.{at}
+use Rattle.desk_rules.specs.Desk.{Status, Waiter, Desk}
+use Rattle.desks.specs.Begin.{refused}
+use Rattle.desk_rules.specs.Rules.{Outcome, withRow, withStatus, rule4, grant, queued}
+use Rattle.desks.specs.Records.{recordsBy, recordsOf, wakeRecords}
+use Rattle.desk_rules.specs.Step.{step, events}
 use Rattle.desk_rules.specs.Moves.{Moved, refuses, begins, commits, gives-up, retries, has-it, promotes, waits-in-front, enters, waits-last, goes-back}
 use Rattle.conflict.specs.Runs.{isEnd, ended}
 use Rattle.desk_rules.specs.Invariant.{Inv}
 use Rattle.desk_rules.specs.Effects.{Keeps}
-use Rattle.desk_rules.proofs.Tests.{at-each}
+use Rattle.laws.proofs.Functions.{at-each}
 use Rattle.desk_rules.proofs.RunEnd.{row-releases}
 use Rattle.desk_rules.proofs.Records.{recorded}
 

@@ -9,10 +9,11 @@ use Rattle.laws.specs.Choice.{by-test, not-both}
 use Rattle.conflict.specs.declared.modes.Mode.{Mode}
 use Rattle.conflict.specs.Modes.{grants, isFree}
 use Rattle.conflict.proofs.ModeLaws.{is-free, grants-free}
-use Rattle.desk_rules.specs.Desk.{Waiter, Desk, isLive, In}
+use Rattle.laws.specs.Standing.{In}
+use Rattle.desk_rules.specs.Desk.{Waiter, Desk, isLive}
 use Rattle.desk_rules.specs.Waiting.{Ahead, InWay, holds-it, ahead, in-front, IsWaiting, Chain, link, links}
 use Rattle.desk_rules.specs.Invariant.{FirstBlocked, Inv}
-use Rattle.desk_rules.proofs.Queue.{in-none, in-split}
+use Rattle.laws.proofs.Standing.{in-none, in-split}
 use Rattle.desk_rules.proofs.Statuses.{waiting-live}
 use Rattle.desk_rules.proofs.AheadLaws.{ahead-in, ahead-younger}
 

@@ -15,12 +15,13 @@ use Rattle.laws.proofs.Lists.{member-first, member-more, member-split, member-n
 use Rattle.laws.proofs.Joined.{member-append}
 use Rattle.conflict.specs.declared.modes.Mode.{Mode}
 use Rattle.conflict.specs.Modes.{isFree}
-use Rattle.desk_rules.specs.Desk.{Waiter, Desk, In}
+use Rattle.laws.specs.Standing.{In}
+use Rattle.desk_rules.specs.Desk.{Waiter, Desk}
 use Rattle.desk_rules.specs.Waiting.{Ahead, InWay, holds-it, ahead, in-front, further, IsWaiting}
 use Rattle.desk_rules.specs.Invariant.{Falling, Inv}
 use Rattle.desk_rules.specs.Chain.{otherHolders, aheadOf, inWayOf, youngestOf, Next}
 use Rattle.desk_rules.proofs.Statuses.{live-open}
-use Rattle.desk_rules.proofs.Queue.{in-none, in-split}
+use Rattle.laws.proofs.Standing.{in-none, in-split}
 use Rattle.desk_rules.proofs.AheadLaws.{ahead-of}
 use Rattle.desk_rules.proofs.InTheWay.{waiter-in, way-some, way-younger, way-live}
 use Rattle.desk_rules.proofs.Younger.{youngest-most, youngest-listed}

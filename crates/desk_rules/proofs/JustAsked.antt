@@ -11,8 +11,10 @@ use Rattle.terms.specs.declared.letters.Lettered.the-variants.{Known}
 use Rattle.terms.specs.Letters.{letterOf}
 use Rattle.conflict.specs.Modes.{isFree}
 use Rattle.conflict.specs.History.{History}
-use Rattle.desk_rules.specs.declared.Answer.the-variants.{Wait}
-use Rattle.desk_rules.specs.Desk.{Waiter, Desk, Request, In}
+use Rattle.desks.specs.declared.Answer.the-variants.{Wait}
+use Rattle.desks.specs.Request.{Request}
+use Rattle.laws.specs.Standing.{In}
+use Rattle.desk_rules.specs.Desk.{Waiter, Desk}
 use Rattle.desk_rules.specs.Step.{step, Started}
 use Rattle.desk_rules.specs.Waiting.{Ahead, InWay, holds-it, ahead, WasInWay, held-it, stood-ahead}
 use Rattle.desk_rules.specs.Asked.{asker}

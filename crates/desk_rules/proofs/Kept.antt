@@ -1,9 +1,12 @@
 -- Every step keeps what holds of every started desk, one case to each rule; so it holds of every started desk.
 -- Assumes nothing.
 use Rattle.conflict.specs.History.{History}
-use Rattle.desk_rules.specs.Desk.{Desk, Request}
-use Rattle.desk_rules.specs.Rules.{Outcome, refused, close, sendBack, grant, queued, retry, begin}
-use Rattle.desk_rules.specs.Step.{step, Started, fresh, after}
+use Rattle.desks.specs.Request.{Request}
+use Rattle.desk_rules.specs.Desk.{Desk}
+use Rattle.desks.specs.Begin.{refused}
+use Rattle.desk_rules.specs.Rules.{Outcome, close, sendBack, grant, queued, retry, begin}
+use Rattle.desks.specs.Started.{fresh, after}
+use Rattle.desk_rules.specs.Step.{step, Started}
 use Rattle.desk_rules.specs.Moves.{Moved, refuses, begins, commits, gives-up, retries, has-it, promotes, waits-in-front, enters, waits-last, goes-back}
 use Rattle.desk_rules.proofs.Moved.{step-moved}
 use Rattle.desk_rules.specs.Invariant.{Inv}

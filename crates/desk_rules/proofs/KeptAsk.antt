@@ -10,13 +10,15 @@ use Rattle.terms.specs.Limits.{cells}
 use Rattle.conflict.specs.declared.modes.Mode.{Mode}
 use Rattle.conflict.specs.Modes.{needed, covers, grants, asked, isFree}
 use Rattle.conflict.proofs.ModeLaws.{covers-none, covers-free, asked-free, asked-grows}
-use Rattle.desk_rules.specs.Desk.{running, Waiter, Desk, In}
+use Rattle.laws.specs.Standing.{In}
+use Rattle.desk_rules.specs.Desk.{running, Waiter, Desk}
 use Rattle.desk_rules.specs.Locks.{isEmpty, agrees, olderThanHolders, olderThanWaiters, wants}
 use Rattle.desk_rules.specs.Rules.{grant, queued}
 use Rattle.desk_rules.specs.Releasing.{Seated}
 use Rattle.desk_rules.specs.Invariant.{FirstBlocked, Inv}
 use Rattle.desk_rules.proofs.Statuses.{running-not-waiting}
-use Rattle.desk_rules.proofs.Queue.{in-none, in-split, falling-join}
+use Rattle.laws.proofs.Standing.{in-none, in-split}
+use Rattle.desk_rules.proofs.Queue.{falling-join}
 use Rattle.desk_rules.proofs.Tests.{agrees-each, agrees-not, older-holders, older-waiters, empty-queue}
 use Rattle.desk_rules.proofs.RunEnd.{row-ready}
 use Rattle.desk_rules.proofs.KeptStatus.{no-place}

@@ -10,13 +10,15 @@ use Rattle.terms.specs.Limits.{places}
 use Rattle.conflict.specs.declared.modes.Mode.the-variants.{Free}
 use Rattle.laws.specs.Lists.{member}
 use Rattle.conflict.proofs.ModeLaws.{free-beside, free-is-free}
-use Rattle.desk_rules.specs.Desk.{closed, running, waiting, Desk, isOpen, seated, idle, freshDesk, In}
+use Rattle.desks.specs.Places.{seated}
+use Rattle.laws.specs.Standing.{In}
+use Rattle.desk_rules.specs.Desk.{closed, running, waiting, Desk, isOpen, idle, freshDesk}
 use Rattle.desk_rules.specs.Rules.{begin}
 use Rattle.desk_rules.specs.Invariant.{Inv, RowInv}
 use Rattle.desk_rules.proofs.Statuses.{running-live, running-open, closed-not-open, running-not-waiting, not-open-not-waiting}
-use Rattle.desk_rules.proofs.Queue.{in-none}
-use Rattle.desk_rules.proofs.Tests.{at-other, at-each, at-all}
-use Rattle.desk_rules.proofs.Places.{seated-others, seated-there, seated-once, seated-size, free-nobody, free-once}
+use Rattle.laws.proofs.Standing.{in-none}
+use Rattle.laws.proofs.Functions.{at-other, at-each, at-all}
+use Rattle.desks.proofs.Places.{seated-others, seated-there, seated-once, seated-size, free-nobody, free-once}
 use Rattle.desk_rules.proofs.KeptStatus.{open-number, status-row}
 
 -- an idle row is as every row is

@@ -8,12 +8,14 @@ use mathlib.Core.List.{List, [], _∷_}
 use Rattle.conflict.specs.declared.modes.Mode.{Mode}
 use Rattle.conflict.specs.Modes.{covers, grants, isFree}
 use Rattle.conflict.proofs.ModeLaws.{stays-in-way}
-use Rattle.desk_rules.specs.Desk.{Status, running, waiting, Waiter, Row, Desk, isLive, at, In, first}
+use Rattle.laws.specs.Functions.{at}
+use Rattle.laws.specs.Standing.{In, first}
+use Rattle.desk_rules.specs.Desk.{Status, running, waiting, Waiter, Row, Desk, isLive}
 use Rattle.desk_rules.specs.Locks.{wants}
 use Rattle.desk_rules.specs.Rules.{grant, withRow}
 use Rattle.desk_rules.specs.Invariant.{FirstBlocked, Inv, RowInv}
 use Rattle.desk_rules.proofs.Statuses.{running-live, running-not-waiting}
-use Rattle.desk_rules.proofs.Tests.{at-other, at-each, at-all}
+use Rattle.laws.proofs.Functions.{at-other, at-each, at-all}
 use Rattle.desk_rules.proofs.KeptStatus.{no-place}
 use Rattle.desk_rules.proofs.Settle.{wants-same, taking-pairs}
 

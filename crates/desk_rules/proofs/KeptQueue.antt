@@ -8,12 +8,14 @@ use mathlib.Core.List.{List, [], _∷_, _++_}
 use Rattle.terms.specs.declared.letters.Ask.{Ask}
 use Rattle.terms.specs.Limits.{cells}
 use Rattle.conflict.specs.Modes.{needed, covers, isFree}
-use Rattle.desk_rules.specs.Desk.{Status, running, waiting, Waiter, Row, Desk, isLive, at, In, first, later}
+use Rattle.laws.specs.Functions.{at}
+use Rattle.laws.specs.Standing.{In, first, later}
+use Rattle.desk_rules.specs.Desk.{Status, running, waiting, Waiter, Row, Desk, isLive}
 use Rattle.desk_rules.specs.Rules.{queued, withRow, withStatus}
 use Rattle.desk_rules.specs.Invariant.{Falling, FirstBlocked, Inv, RowInv}
 use Rattle.desk_rules.proofs.Statuses.{running-open, waiting-live, waiting-open, running-not-waiting, one-cell, one-ask}
-use Rattle.desk_rules.proofs.Queue.{in-none, in-split, in-left, in-right, in-either}
-use Rattle.desk_rules.proofs.Tests.{at-same, at-other, at-each, at-all}
+use Rattle.laws.proofs.Standing.{in-none, in-split, in-left, in-right, in-either}
+use Rattle.laws.proofs.Functions.{at-same, at-other, at-each, at-all}
 use Rattle.desk_rules.proofs.KeptStatus.{no-place, status-row, status-inv}
 
 -- a queue with one waiter more, wherever that stands

@@ -9,15 +9,17 @@ use lib.ListN.{length}
 use Rattle.laws.specs.Choice.{not-both}
 use Rattle.terms.specs.Limits.{places}
 use Rattle.laws.specs.Lists.{member}
-use Rattle.desk_rules.specs.declared.Answer.{Answer}
-use Rattle.desk_rules.specs.Desk.{Status, closed, waiting, sentback, Desk, isOpen, isLive, vacated, In}
+use Rattle.desks.specs.declared.Answer.{Answer}
+use Rattle.desks.specs.Places.{vacated, Once}
+use Rattle.laws.specs.Standing.{In}
+use Rattle.desk_rules.specs.Desk.{Status, closed, waiting, sentback, Desk, isOpen, isLive}
 use Rattle.desk_rules.specs.Rules.{rowsAfter, rule4, close, sendBack}
-use Rattle.desk_rules.specs.Invariant.{Inv, RowInv, Once}
+use Rattle.desk_rules.specs.Invariant.{Inv, RowInv}
 use Rattle.desk_rules.proofs.Statuses.{running-live, running-open, waiting-live, waiting-open, running-not-waiting}
 use Rattle.desk_rules.proofs.Release.{woken-or-left, holder-was, left-kept}
 use Rattle.desk_rules.proofs.RunEnd.{statusAfter, row-releases, granted-woken, left-not-woken, woken-after, others-after, after-each}
 use Rattle.desk_rules.proofs.KeptStatus.{open-number}
-use Rattle.desk_rules.proofs.Places.{vacated-others, vacated-gone, vacated-once, vacated-size}
+use Rattle.desks.proofs.Places.{vacated-others, vacated-gone, vacated-once, vacated-size}
 
 -- a job whose run ends: it was open, the status it gets is not live, and the places afterwards are the others' and, where it stays open, its own
 record Ends (d : Desk) (j : ℕ) (s : Status) (js : List ℕ) : Type 0 where

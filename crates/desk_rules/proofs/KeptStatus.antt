@@ -7,11 +7,13 @@ use mathlib.Core.Bool.{true}
 use Rattle.laws.specs.Choice.{not-both}
 use Rattle.terms.specs.declared.letters.Ask.{Ask}
 use Rattle.laws.specs.Lists.{member}
-use Rattle.desk_rules.specs.Desk.{Status, running, waiting, sentback, Waiter, Row, Desk, isOpen, isLive, at, In}
+use Rattle.laws.specs.Functions.{at}
+use Rattle.laws.specs.Standing.{In}
+use Rattle.desk_rules.specs.Desk.{Status, running, waiting, sentback, Waiter, Row, Desk, isOpen, isLive}
 use Rattle.desk_rules.specs.Rules.{retry, withStatus}
 use Rattle.desk_rules.specs.Invariant.{Inv, RowInv}
 use Rattle.desk_rules.proofs.Statuses.{running-live, running-open, sentback-open, closed-not-open, running-not-waiting, sentback-not-waiting}
-use Rattle.desk_rules.proofs.Tests.{at-other, at-each, at-all}
+use Rattle.laws.proofs.Functions.{at-other, at-each, at-all}
 
 -- an open job is not number 0
 pub open-number : {d : Desk} → Inv d → (j : ℕ) → isOpen (d .stat j) ≡ true → j ≢ 0

@@ -7,7 +7,6 @@ pub mod Settle
 pub mod Release
 pub mod Wakes
 pub mod RunEnd
-pub mod Places
 pub mod KeptStatus
 pub mod KeptBegin
 pub mod KeptGrant
@@ -18,9 +17,6 @@ pub mod Kept
 pub mod SeenDesk
 pub mod TableMeant
 pub mod Refusing
-pub mod AnswerNumbers
-pub mod Starting
-pub mod OpenJobs
 pub mod Fields
 pub mod AnswerTells
 pub mod Away
@@ -33,8 +29,8 @@ pub mod Holding
 pub mod Waking
 pub mod Bystanders
 pub mod Numbers
+pub mod Seats
 pub mod NumberLimits
-pub mod StartedThrough
 pub mod Deciding
 pub mod Written
 pub mod WakeRecords
@@ -44,7 +40,6 @@ pub mod NoEventAfterEnd
 pub mod UnderLock
 pub mod Serial
 pub mod AheadLaws
-pub mod Answers
 pub mod AtMost31
 pub mod InTheWay
 pub mod JustAsked

@@ -12,10 +12,13 @@ use Rattle.conflict.specs.History.{History}
 use Rattle.conflict.proofs.LockTable.{Table, allows, Ran}
 use Rattle.conflict.proofs.LockTable.Ran.{start, grows, acts, stops}
 use Rattle.conflict.proofs.ModeLaws.{covers-lets}
-use Rattle.desk_rules.specs.Desk.{Desk, Request, freshDesk, idle, In, first, later}
+use Rattle.desks.specs.Request.{Request}
+use Rattle.laws.specs.Standing.{In, first, later}
+use Rattle.desk_rules.specs.Desk.{Desk, freshDesk, idle}
 use Rattle.desk_rules.specs.Rules.{Outcome, wake, rowsAfter, rule4}
-use Rattle.desk_rules.specs.Step.{step, wakeRecords, events, Started}
-use Rattle.desk_rules.specs.Step.StartedOn.{fresh, after}
+use Rattle.desks.specs.Records.{wakeRecords}
+use Rattle.desk_rules.specs.Step.{step, events, Started}
+use Rattle.desks.specs.Started.StartedOn.{fresh, after}
 use Rattle.desk_rules.specs.Invariant.{Inv}
 use Rattle.desk_rules.proofs.Release.{woken-covers}
 use Rattle.desk_rules.proofs.RunEnd.{row-releases, wakesAfter}

@@ -18,9 +18,11 @@ use Rattle.terms.specs.Limits.{cells, lastNumber}
 use Rattle.conflict.specs.Modes.{needed, covers, isFree}
 use Rattle.laws.specs.Lists.{member, firstOf}
 use Rattle.laws.proofs.Parts.{and-first, and-second}
-use Rattle.desk_rules.specs.Desk.{Status, closed, running, waiting, sentback, Desk, Request, isOpen}
+use Rattle.desks.specs.Request.{Request}
+use Rattle.desk_rules.specs.Desk.{Status, closed, running, waiting, sentback, Desk, isOpen}
 use Rattle.desk_rules.specs.Locks.{agrees, olderThanHolders, olderThanWaiters, isEmpty}
-use Rattle.desk_rules.specs.Rules.{Outcome, refused, close, sendBack, grant, queued, rule1, rule2, rule3, ask, retry, begin}
+use Rattle.desks.specs.Begin.{beginning, refused}
+use Rattle.desk_rules.specs.Rules.{Outcome, close, sendBack, grant, queued, rule1, rule2, rule3, ask, retry, begin}
 use Rattle.desk_rules.specs.Step.{stepCommit, stepGiveUp, stepRetry, stepAsk, stepBegin, stepBy, step}
 use Rattle.desk_rules.specs.Table.{holds, order, dueBy, dueOf}
 use Rattle.desk_rules.specs.Asked.{Asking, Elder, holder, waiter, askedThere}
@@ -70,7 +72,7 @@ due-by why e q h = refuses why (rw (e, q) h)
 
 -- begin tests 7, then 6
 begin-moved : (d : Desk) (r : Request) → letterOf (r .kind) ≡ Known Begin → Moved d r (stepBegin d)
-unfolding stepBegin begin dueBy holds order firstOf
+unfolding stepBegin beginning begin dueBy holds order firstOf
 begin-moved d r e =
     either (ltb lastNumber (d .next)) (λ t. due-by NoNumberLeft e refl (rw t))
     (λ f. either (member 0 (d .jobs)) (begins e (ltb-false _ _ f)) (λ n. due-by AllOpen e refl (rw (f, n))))

@@ -15,10 +15,12 @@ use Rattle.laws.proofs.Parts.{and-first, and-second, and-both, or-either, or-se
 use Rattle.conflict.proofs.Marks.{unmarked}
 use Rattle.conflict.proofs.OneEvent.{line-none, line-does, line-ends, marked-none, marked-does, marked-ends, good-none, good-does, good-ends, isLast}
 use Rattle.conflict.proofs.Appended.{line-append, marked-append, ends-append}
-use Rattle.desk_rules.specs.Desk.{closed, isOpen, Desk, Request, freshDesk}
+use Rattle.desks.specs.Request.{Request}
+use Rattle.desk_rules.specs.Desk.{closed, isOpen, Desk, freshDesk}
 use Rattle.desk_rules.specs.Rules.{Outcome, rule4}
-use Rattle.desk_rules.specs.Step.{step, wakeRecords, events, Started}
-use Rattle.desk_rules.specs.Step.StartedOn.{fresh, after}
+use Rattle.desks.specs.Records.{wakeRecords}
+use Rattle.desk_rules.specs.Step.{step, events, Started}
+use Rattle.desks.specs.Started.StartedOn.{fresh, after}
 use Rattle.desk_rules.specs.Invariant.{Inv}
 use Rattle.desk_rules.proofs.Statuses.{running-open, waiting-open, closed-not-open}
 use Rattle.desk_rules.proofs.RunEnd.{wakesAfter, woken-waited, self-not-woken, self-after}

@@ -9,15 +9,17 @@ use Rattle.conflict.specs.History.{History}
 use Rattle.conflict.specs.Runs.{isEnd, ended}
 use Rattle.conflict.proofs.OneEvent.{marked-none, ended-is}
 use Rattle.conflict.proofs.Appended.{ended-append}
-use Rattle.desk_rules.specs.Desk.{Waiter, Desk, Request}
+use Rattle.desks.specs.Request.{Request}
+use Rattle.desk_rules.specs.Desk.{Waiter, Desk}
 use Rattle.desk_rules.specs.Locks.{wants}
 use Rattle.desk_rules.specs.Step.{step, events, Started}
-use Rattle.desk_rules.specs.Requests.{writes, deskAfter, historyOf}
+use Rattle.desks.specs.Requests.{writes}
+use Rattle.desk_rules.specs.Requests.{deskAfter, historyOf}
 use Rattle.desk_rules.specs.Waiting.{InWay, IsWaiting, Waits, GivesUp, Granted}
 use Rattle.desk_rules.specs.Invariant.{Inv}
 use Rattle.desk_rules.proofs.Kept.{step-inv, started-inv}
 use Rattle.desk_rules.proofs.Settle.{wants-same}
-use Rattle.desk_rules.proofs.StartedThrough.{run-started}
+use Rattle.desks.proofs.StartedThrough.{run-started}
 use Rattle.desk_rules.proofs.WaiterStep.{step-on, step-undisturbed, step-not-ended}
 
 -- nobody's run ends in no requests

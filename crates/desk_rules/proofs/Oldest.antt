@@ -1,6 +1,6 @@
--- Numbers and ages: begins give rising numbers; a job older than every other live job is never sent back, and no job begun later is older (demand 3, third sentence). So a job that retries under its own number is at last the oldest, and from then on never sent back.
+-- Ages: a job older than every other live job is never sent back, and no job begun later is older (demand 3, third sentence). So a job that retries under its own number is at last the oldest, and from then on never sent back.
 -- Assumes nothing.
-use Prim.Native.Nat.{ℕ, suc, _<_}
+use Prim.Native.Nat.{ℕ, _<_}
 use mathlib.Core.Path.{_≡_, sym, ap, _∙_}
 use mathlib.Core.Logic.{_≢_}
 use mathlib.Core.Bool.{true}
@@ -10,10 +10,10 @@ use native.Mathlib.Omega.{arith}
 use borrow.Author.Tests.{ltb-true, ltb-false}
 use Rattle.laws.specs.Choice.{by-test, not-both}
 use Rattle.conflict.specs.History.{History}
-use Rattle.desk_rules.specs.Desk.{Desk, Request, isOpen, isLive}
-use Rattle.desk_rules.specs.Rules.{begin}
+use Rattle.desks.specs.Request.{Request}
+use Rattle.desk_rules.specs.Desk.{Desk, isOpen, isLive}
 use Rattle.desk_rules.specs.Step.{step, Started}
-use Rattle.desk_rules.specs.Requests.{deskAfter, given}
+use Rattle.desk_rules.specs.Requests.{deskAfter}
 use Rattle.desk_rules.specs.Course.{from}
 use Rattle.desk_rules.specs.Waiting.{OldestLive}
 use Rattle.desk_rules.specs.Ages.{OlderClosed, Ages}
@@ -25,8 +25,8 @@ use Rattle.desk_rules.proofs.AnswerTells.{begin-went}
 use Rattle.desk_rules.proofs.Opening.{not-open-closed}
 use Rattle.desk_rules.proofs.SentBack.{back-older, moved-told}
 use Rattle.desk_rules.proofs.ClosedForGood.{closed-through}
-use Rattle.desk_rules.proofs.Numbers.{rising-distinct, next-rises-on, given-within, given-rises}
-use Rattle.desk_rules.proofs.StartedThrough.{run-started, after-both}
+use Rattle.desk_rules.proofs.Numbers.{next-rises-on}
+use Rattle.desks.proofs.StartedThrough.{run-started, after-both}
 
 -- where a job is older than every other live job, no older one is live
 no-older : (d : Desk) (j : ℕ) → OldestLive d j → (i : ℕ) × (i < j) × (isLive (d .stat i) ≡ true) → ⊥
@@ -51,17 +51,11 @@ oldest-on {d} s j o rs c more i n p =
     later : i < j → isOpen (deskAfter d rs .stat i) ≡ true → j < i
     later l q = let b = started-inv s .below j o in not-both q (c i l (was-open (started-inv s) rs i (omega arith) q))
 
--- what is promised of numbers and ages
+-- what is promised of ages
 pub ages : {d : Desk} {h : History} → Started d h → Ages (from d)
-unfolding begin
 ages {d} s =
     let v = started-inv s in
     record {
-      begin-gives = λ r j e g. let c = begin-went d r j e g in (c .job, ap (λ o. o .desk .next) (c .outcome) ∙ ap suc (sym (c .job)));
-      next-rises-on = next-rises-on d;
-      given-rises = given-rises d;
-      given-once = λ rs. rising-distinct (given d rs) (given-rises d rs);
-      later-larger = λ rs r j e g m k. omega (arith, given-within d rs m k .1, begin-went (deskAfter d rs) r j e g .job);
       begun-later-is-younger = λ j o rs r i e g. omega (arith, next-rises-on d rs, v .below j o, begin-went (deskAfter d rs) r i e g .job);
       back-only-while-older = λ r j. back-older v r j;
       never-answered-back = λ r j o e. no-older d j o (back-older v r j e);

@@ -8,7 +8,9 @@ use Rattle.laws.specs.Choice.{not-both}
 use Rattle.terms.specs.declared.letters.Ask.{Ask}
 use Rattle.terms.specs.Limits.{lastNumber}
 use Rattle.conflict.proofs.ModeLaws.{covers-free}
-use Rattle.desk_rules.specs.Desk.{Status, closed, running, waiting, sentback, Desk, Request, isOpen}
+use Rattle.desks.specs.Request.{Request}
+use Rattle.desks.specs.Begin.{beginning}
+use Rattle.desk_rules.specs.Desk.{Status, closed, running, waiting, sentback, Desk, isOpen}
 use Rattle.desk_rules.specs.Rules.{Outcome, close, sendBack, grant, queued, rule1, rule2, rule3, ask, retry, begin}
 use Rattle.desk_rules.specs.Step.{stepCommit, stepGiveUp, stepRetry, stepBegin, stepBy, step}
 use Rattle.desk_rules.specs.Asked.{Asking, ownMode}
@@ -32,7 +34,7 @@ module _ {d : Desk} {r : Request} where
   -- THERE IS ONE MOVE: every move that the rules allow is the step
   pub moved-only : {o : Outcome} → Moved d r o → step d r ≡ o
   moved-only (refuses why x) = due-refused d r why x
-  moved-only (begins l n m) = unfold step stepBy stepBegin begin in rw (l, le-ltb lastNumber (d .next) n, m)
+  moved-only (begins l n m) = unfold step stepBy stepBegin beginning begin in rw (l, le-ltb lastNumber (d .next) n, m)
   moved-only (commits l s) = unfold step stepBy stepCommit close in rw (l, s)
   moved-only (gives-up l s) = unfold step stepBy in rw l (gives-up-closes d (r .job) (d .stat (r .job)) s ∙ unfold close in refl)
   moved-only (retries l s) = unfold step stepBy stepRetry retry in rw (l, s)

@@ -13,9 +13,10 @@ use Rattle.laws.proofs.Parts.{nor-first, nor-second}
 use Rattle.conflict.specs.declared.action.Action.{Action}
 use Rattle.conflict.specs.History.{History}
 use Rattle.terms.specs.declared.letters.Ask.{Ask}
-use Rattle.desk_rules.specs.Desk.{waiting, isLive, Desk, Request}
+use Rattle.desks.specs.Request.{Request}
+use Rattle.desk_rules.specs.Desk.{waiting, isLive, Desk}
 use Rattle.desk_rules.specs.Rules.{Outcome, isWoken, rule4}
-use Rattle.desk_rules.specs.Step.{wakeRecords}
+use Rattle.desks.specs.Records.{wakeRecords}
 use Rattle.desk_rules.specs.Histories.{recordsFor}
 use Rattle.desk_rules.specs.Invariant.{Inv}
 use Rattle.desk_rules.specs.WakeOrder.{Before, next, further}

@@ -9,8 +9,8 @@ use Rattle.desk_rules.specs.Desk.{Status, closed, running, waiting, sent
 use Rattle.desk_rules.specs.Rules.{begin, retry, withStatus}
 use Rattle.desk_rules.specs.Effects.{Away, Begins, Retries}
 use Rattle.desk_rules.specs.Invariant.{Inv}
-use Rattle.desk_rules.proofs.Tests.{at-same, at-other}
-use Rattle.desk_rules.proofs.Places.{seated-others, seated-there}
+use Rattle.laws.proofs.Functions.{at-same, at-other}
+use Rattle.desks.proofs.Places.{seated-others, seated-there}
 use Rattle.desk_rules.proofs.KeptBegin.{next-not-open}
 use Rattle.desk_rules.proofs.Away.{not-live-away}
 

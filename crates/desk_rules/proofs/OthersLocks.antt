@@ -7,13 +7,17 @@ use mathlib.Core.Bool.{false}
 use mathlib.Core.List.{List}
 use Rattle.laws.specs.Choice.{not-both}
 use Rattle.conflict.specs.declared.modes.Mode.{Mode}
-use Rattle.desk_rules.specs.Desk.{Waiter, Desk, Request, at, In}
-use Rattle.desk_rules.specs.Rules.{Outcome, refused, withRow, withStatus, isWoken, rowsAfter, rule4}
+use Rattle.desks.specs.Request.{Request}
+use Rattle.laws.specs.Functions.{at}
+use Rattle.laws.specs.Standing.{In}
+use Rattle.desk_rules.specs.Desk.{Waiter, Desk}
+use Rattle.desks.specs.Begin.{refused}
+use Rattle.desk_rules.specs.Rules.{Outcome, withRow, withStatus, isWoken, rowsAfter, rule4}
 use Rattle.desk_rules.specs.Table.{named}
 use Rattle.desk_rules.specs.Moves.{Moved, refuses, begins, commits, gives-up, retries, has-it, promotes, waits-in-front, enters, waits-last, goes-back}
 use Rattle.desk_rules.specs.Invariant.{Inv}
 use Rattle.desk_rules.proofs.Statuses.{one-cell}
-use Rattle.desk_rules.proofs.Tests.{at-other, at-each}
+use Rattle.laws.proofs.Functions.{at-other, at-each}
 use Rattle.desk_rules.proofs.RunEnd.{wakesAfter, row-releases, granted-woken}
 use Rattle.desk_rules.proofs.Bystanders.{not-job}
 

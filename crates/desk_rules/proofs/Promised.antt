@@ -4,18 +4,21 @@ use Prim.Native.Nat.{ℕ, _<_, _≤_}
 use mathlib.Core.List.{List}
 use Rattle.terms.specs.Limits.{lastNumber}
 use Rattle.conflict.specs.History.{History}
-use Rattle.desk_rules.specs.Desk.{Desk, Request, freshDesk}
-use Rattle.desk_rules.specs.Step.{Started, fresh}
+use Rattle.desks.specs.Request.{Request}
+use Rattle.desk_rules.specs.Desk.{Desk, freshDesk}
+use Rattle.desks.specs.Started.{fresh}
+use Rattle.desk_rules.specs.Step.{Started}
 use Rattle.desk_rules.specs.Requests.{deskAfter, historyOf}
 use Rattle.desk_rules.specs.Course.{from}
 use Rattle.desk_rules.specs.Promises.{Promises}
-use Rattle.desk_rules.proofs.StartedThrough.{run-started}
+use Rattle.desks.proofs.StartedThrough.{run-started}
 use Rattle.desk_rules.proofs.Refusing.{refuses}
 use Rattle.desk_rules.proofs.StepEffects.{effects}
 use Rattle.desk_rules.proofs.Deciding.{decides}
 use Rattle.desk_rules.proofs.WakesTold.{wakes}
 use Rattle.desk_rules.proofs.Records.{recorded}
 use Rattle.desk_rules.proofs.NumberLimits.{limits}
+use Rattle.desk_rules.proofs.Numbers.{numbers}
 use Rattle.desk_rules.proofs.UnderLock.{locking}
 use Rattle.desk_rules.proofs.Serial.{serial-history}
 use Rattle.desk_rules.proofs.ServedInTime.{service}
@@ -32,6 +35,7 @@ promised {d} s = record {
   wakes = wakes s;
   recorded = recorded d;
   limits = limits s;
+  numbers = numbers d;
   locking = locking s;
   serial = serial-history s;
   service = service s;

@@ -4,12 +4,13 @@ use Prim.Native.Nat.{ℕ}
 use mathlib.Core.Path.{_≡_, refl, sym, ap}
 use mathlib.Core.List.{List}
 use Rattle.terms.specs.declared.letters.Ask.{Ask}
-use Rattle.desk_rules.specs.Desk.{waiting, Waiter, Row, Desk, Request}
+use Rattle.desks.specs.Request.{Request}
+use Rattle.desk_rules.specs.Desk.{waiting, Waiter, Row, Desk}
 use Rattle.desk_rules.specs.Rules.{withRow, withStatus, queued}
 use Rattle.desk_rules.specs.Step.{step}
 use Rattle.desk_rules.specs.Asked.{Asking}
 use Rattle.desk_rules.specs.Effects.{StartsToWait}
-use Rattle.desk_rules.proofs.Tests.{at-same, at-other, at-each}
+use Rattle.laws.proofs.Functions.{at-same, at-other, at-each}
 use Rattle.desk_rules.proofs.AnswerTells.{Joins, Waited}
 
 -- waiting in a queue that joins the job as the rules say

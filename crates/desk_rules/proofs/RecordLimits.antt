@@ -9,21 +9,23 @@ use Rattle.conflict.specs.declared.action.Action.{Action}
 use Rattle.conflict.specs.declared.action.Event.the-variants.{Does}
 use Rattle.conflict.specs.History.{History, lineOf}
 use Rattle.laws.proofs.Parts.{or-either}
-use Rattle.conflict.proofs.OneEvent.{line-none}
+use Rattle.conflict.proofs.OneEvent.{line-none, same-action, no-mark}
 use Rattle.conflict.proofs.Appended.{line-append}
-use Rattle.desk_rules.specs.Desk.{Desk, Request, In}
+use Rattle.desks.specs.Request.{Request}
+use Rattle.laws.specs.Standing.{In}
+use Rattle.desk_rules.specs.Desk.{Desk}
 use Rattle.desk_rules.specs.Rules.{Outcome, wake, rowsAfter}
-use Rattle.desk_rules.specs.Step.{events, Started, fresh, after}
+use Rattle.desks.specs.Started.{fresh, after}
+use Rattle.desk_rules.specs.Step.{events, Started}
 use Rattle.desk_rules.specs.Invariant.{Inv}
 use Rattle.desk_rules.proofs.Kept.{started-inv}
 use Rattle.desk_rules.proofs.RunEnd.{wakesAfter, row-releases}
 use Rattle.desk_rules.proofs.Written.{asking, Wrote, nothing, action, mark, step-wrote}
 use Rattle.desk_rules.proofs.WakeOrder.{GrantedAt, search-order}
-use Rattle.desk_rules.proofs.WakeRecords.{same-action, recorded-wake}
+use Rattle.desk_rules.proofs.WakeRecords.{recorded-wake}
 use Rattle.desk_rules.proofs.NoEventAfterEnd.{line-open}
 use Rattle.desk_rules.proofs.NumberLimits.{limits}
-use Rattle.desk_rules.proofs.UnderLock.{no-mark}
-use Rattle.desk_rules.proofs.Queue.{in-none, in-split, in-either}
+use Rattle.laws.proofs.Standing.{in-none, in-split, in-either}
 
 -- in every history that the desk writes, a job's number is from 1 to 4,294,967,295
 pub recorded-jobs : {d : Desk} {h : History} → Started d h → (j : ℕ) → lineOf j h ≡ true → (1 ≤ j) × (j ≤ 4_294_967_295)

@@ -12,13 +12,16 @@ use Rattle.conflict.specs.declared.modes.Mode.the-variants.{Free}
 use Rattle.conflict.specs.Modes.{needed, covers, beside, grants, isFree}
 use Rattle.laws.specs.Lists.{member}
 use Rattle.conflict.proofs.ModeLaws.{free-beside, beside-free, free-is-free}
-use Rattle.desk_rules.specs.Desk.{Waiter, Row, at, In}
+use Rattle.laws.specs.Functions.{at}
+use Rattle.laws.specs.Standing.{In}
+use Rattle.desk_rules.specs.Desk.{Waiter, Row}
 use Rattle.desk_rules.specs.Locks.{without, wants, Settled, settle, released}
 use Rattle.desk_rules.specs.Releasing.{Releases}
 use Rattle.desk_rules.specs.Invariant.{Falling}
-use Rattle.desk_rules.proofs.Queue.{in-left, in-right, in-either, falling-across, without-in, without-other, in-without, without-falling, by-place}
+use Rattle.laws.proofs.Standing.{in-left, in-right, in-either}
+use Rattle.desk_rules.proofs.Queue.{falling-across, without-in, without-other, in-without, without-falling, by-place}
 use Rattle.desk_rules.proofs.AheadLaws.{ahead-in, ahead-of}
-use Rattle.desk_rules.proofs.Tests.{at-same, at-other, at-each}
+use Rattle.laws.proofs.Functions.{at-same, at-other, at-each}
 use Rattle.desk_rules.proofs.Settle.{Ready, Settles, settle-settles, wants-same, wants-covers}
 
 module _ (js : List ℕ) (j : ℕ) (held : ℕ → Mode) (q : List Waiter) where

@@ -10,14 +10,16 @@ use Rattle.laws.specs.Choice.{by-test}
 use Rattle.terms.specs.declared.letters.Ask.{Ask}
 use Rattle.terms.specs.Limits.{cells}
 use Rattle.conflict.specs.declared.action.Action.{Action}
-use Rattle.desk_rules.specs.Desk.{Status, running, waiting, Waiter, Desk, at, In}
+use Rattle.laws.specs.Functions.{at}
+use Rattle.laws.specs.Standing.{In}
+use Rattle.desk_rules.specs.Desk.{Status, running, waiting, Waiter, Desk}
 use Rattle.desk_rules.specs.Rules.{isWoken, wakesOf, runAgain, rowsAfter}
 use Rattle.desk_rules.specs.Releasing.{Releases}
 use Rattle.desk_rules.specs.Invariant.{Inv}
 use Rattle.desk_rules.proofs.Statuses.{live-open, waiting-open, one-cell}
 use Rattle.desk_rules.proofs.Settle.{Ready}
 use Rattle.desk_rules.proofs.Release.{released-releases}
-use Rattle.desk_rules.proofs.Tests.{at-same, at-other, at-each}
+use Rattle.laws.proofs.Functions.{at-same, at-other, at-each}
 use Rattle.desk_rules.proofs.Wakes.{WokenAt, woken-at, at-woken, woken-runs, others-stay, wakened-each}
 
 -- the wakes when job j's run ends

@@ -6,13 +6,16 @@ use mathlib.Core.Logic.{_⊎_, inl, inr}
 use mathlib.Core.List.{[]}
 use Rattle.terms.specs.Limits.{cells}
 use Rattle.conflict.specs.declared.action.Action.{Action}
-use Rattle.desk_rules.specs.Desk.{Desk, Request, In}
-use Rattle.desk_rules.specs.Rules.{Outcome, refused, rowsAfter, rule4, close, sendBack}
+use Rattle.desks.specs.Request.{Request}
+use Rattle.laws.specs.Standing.{In}
+use Rattle.desk_rules.specs.Desk.{Desk}
+use Rattle.desks.specs.Begin.{refused}
+use Rattle.desk_rules.specs.Rules.{Outcome, rowsAfter, rule4, close, sendBack}
 use Rattle.desk_rules.specs.Step.{step}
 use Rattle.desk_rules.specs.Moves.{Moved, refuses, begins, commits, gives-up, retries, has-it, promotes, waits-in-front, enters, waits-last, goes-back}
 use Rattle.desk_rules.specs.Effects.{RunEnds, by-commit, by-give-up, by-back}
 use Rattle.desk_rules.proofs.Moved.{step-moved}
-use Rattle.desk_rules.proofs.Queue.{in-none}
+use Rattle.laws.proofs.Standing.{in-none}
 use Rattle.desk_rules.proofs.AnswerTells.{commit-went, give-up-went, ask-back}
 use Rattle.desk_rules.proofs.RunEnd.{wakesAfter}
 use Rattle.desk_rules.proofs.WakeOrder.{GrantedAt, search-order}

@@ -8,10 +8,11 @@ use borrow.Author.Tests.{eqb-true, eqb-false, eq-eqb}
 use lib.Dec.{eqb}
 use Rattle.laws.specs.Choice.{by-test}
 use Rattle.terms.specs.declared.letters.Ask.{Ask}
-use Rattle.desk_rules.specs.Desk.{Status, closed, running, waiting, sentback, Waiter, Desk, In, first, later}
+use Rattle.laws.specs.Standing.{In, first, later}
+use Rattle.desk_rules.specs.Desk.{Status, closed, running, waiting, sentback, Waiter, Desk}
 use Rattle.desk_rules.specs.Invariant.{Falling, Inv}
 use Rattle.desk_rules.specs.Seen.{inFront, waitersBelow, seenBy}
-use Rattle.desk_rules.proofs.Queue.{in-none, in-split}
+use Rattle.laws.proofs.Standing.{in-none, in-split}
 use Rattle.desk_rules.proofs.Statuses.{waiting-open}
 
 -- two queues that fall and have the same waiters are one

@@ -7,17 +7,22 @@ use mathlib.Core.Bool.{true}
 use mathlib.Core.List.{List}
 use native.Mathlib.Omega.{arith}
 use Rattle.laws.specs.Choice.{not-both}
-use Rattle.desk_rules.specs.declared.Answer.{Answer}
-use Rattle.desk_rules.specs.declared.Answer.the-variants.{Go, Back}
-use Rattle.desk_rules.specs.Desk.{Status, closed, running, waiting, sentback, Desk, Request, isLive, at, vacated}
-use Rattle.desk_rules.specs.Rules.{Outcome, refused, withRow, withStatus, rule4}
+use Rattle.desks.specs.declared.Answer.{Answer}
+use Rattle.desks.specs.declared.Answer.the-variants.{Go, Back}
+use Rattle.desks.specs.Request.{Request}
+use Rattle.laws.specs.Functions.{at}
+use Rattle.desks.specs.Places.{vacated}
+use Rattle.desk_rules.specs.Desk.{Status, closed, running, waiting, sentback, Desk, isLive}
+use Rattle.desks.specs.Begin.{refused}
+use Rattle.desk_rules.specs.Rules.{Outcome, withRow, withStatus, rule4}
 use Rattle.desk_rules.specs.Step.{step}
 use Rattle.desk_rules.specs.Asked.{Elder, holder, waiter}
 use Rattle.desk_rules.specs.Moves.{Moved, refuses, begins, commits, gives-up, retries, has-it, promotes, waits-in-front, enters, waits-last, goes-back}
 use Rattle.desk_rules.proofs.AnswerTells.{ask-back}
 use Rattle.desk_rules.specs.Invariant.{Inv}
 use Rattle.desk_rules.proofs.Statuses.{waiting-live, running-live, running-not-waiting}
-use Rattle.desk_rules.proofs.Tests.{at-each, not-older-holders, not-older-waiters}
+use Rattle.laws.proofs.Functions.{at-each}
+use Rattle.desk_rules.proofs.Tests.{not-older-holders, not-older-waiters}
 use Rattle.desk_rules.proofs.RunEnd.{after-each}
 use Rattle.desk_rules.proofs.KeptStatus.{no-place}
 

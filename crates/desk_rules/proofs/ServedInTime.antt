@@ -10,18 +10,21 @@ use native.Mathlib.Omega.{arith}
 use Rattle.laws.specs.Choice.{not-both}
 use Rattle.conflict.specs.History.{History}
 use Rattle.conflict.specs.Runs.{ended}
-use Rattle.desk_rules.specs.Desk.{Waiter, Desk, Request}
+use Rattle.desks.specs.Request.{Request}
+use Rattle.desk_rules.specs.Desk.{Waiter, Desk}
 use Rattle.desk_rules.specs.Locks.{wants}
 use Rattle.desk_rules.specs.Asked.{asker}
-use Rattle.desk_rules.specs.Step.{step, events, Started, after}
-use Rattle.desk_rules.specs.Requests.{writes, deskAfter, historyOf}
+use Rattle.desks.specs.Started.{after}
+use Rattle.desk_rules.specs.Step.{step, events, Started}
+use Rattle.desks.specs.Requests.{writes}
+use Rattle.desk_rules.specs.Requests.{deskAfter, historyOf}
 use Rattle.desk_rules.specs.Course.{from}
 use Rattle.desk_rules.specs.Waiting.{InWay, IsWaiting, Waits, Patient, AllEnd, Granted, Served}
 use Rattle.desk_rules.specs.Service.{Waiters, Service}
 use Rattle.desk_rules.specs.Invariant.{Inv}
 use Rattle.desk_rules.proofs.Kept.{step-inv, started-inv}
 use Rattle.desk_rules.proofs.Settle.{wants-same}
-use Rattle.desk_rules.proofs.StartedThrough.{run-started}
+use Rattle.desks.proofs.StartedThrough.{run-started}
 use Rattle.desk_rules.proofs.InTheWay.{waiter-in, front-only, way-some, way-younger, way-live, chain-rises}
 use Rattle.desk_rules.proofs.WaiterStep.{step-on, step-undisturbed, step-not-ended}
 use Rattle.desk_rules.proofs.NotForgotten.{ended-none, ended-neither, waits-end, ways-through, waits-or-granted}

@@ -11,14 +11,17 @@ use Rattle.conflict.specs.declared.modes.Mode.{Mode}
 use Rattle.conflict.specs.Modes.{needed, covers, beside, grants, asked, isFree}
 use Rattle.laws.specs.Lists.{member}
 use Rattle.conflict.proofs.ModeLaws.{beside-sym, grants-beside, covers-refl, covers-trans, asked-grows, asked-covers}
-use Rattle.desk_rules.specs.Desk.{Waiter, at, In, first, later}
+use Rattle.laws.specs.Functions.{at}
+use Rattle.laws.specs.Standing.{In, first, later}
+use Rattle.desk_rules.specs.Desk.{Waiter}
 use Rattle.desk_rules.specs.Locks.{agrees, wants, wokenFirst, Settled, settle}
 use Rattle.desk_rules.specs.Releasing.{Seated}
 use Rattle.desk_rules.specs.Waiting.{Ahead}
 use Rattle.desk_rules.specs.Invariant.{Falling, FirstBlocked}
-use Rattle.desk_rules.proofs.Queue.{in-none, in-split, in-left}
+use Rattle.laws.proofs.Standing.{in-none, in-split, in-left}
 use Rattle.desk_rules.proofs.AheadLaws.{ahead-none, ahead-split, ahead-in, ahead-of}
-use Rattle.desk_rules.proofs.Tests.{at-same, at-other, at-each, agrees-each, agrees-not}
+use Rattle.laws.proofs.Functions.{at-same, at-other, at-each}
+use Rattle.desk_rules.proofs.Tests.{agrees-each, agrees-not}
 
 -- a row that can be settled: who holds and who waits is listed, and it is as every row is but for the blocker
 pub record Ready (js : List ℕ) (held : ℕ → Mode) (q : List Waiter) : Type 0 where

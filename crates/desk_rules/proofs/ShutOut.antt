@@ -12,15 +12,20 @@ use Rattle.conflict.specs.declared.modes.Mode.the-variants.{U}
 use Rattle.conflict.specs.Modes.{needed, shutsOut, isFree}
 use Rattle.conflict.proofs.ModeLaws.{free-is-free}
 use Rattle.conflict.proofs.Shutting.{u-shuts, shut-free, shut-held, shut-promoted}
-use Rattle.desk_rules.specs.Desk.{Waiter, Desk, Request, at, In}
+use Rattle.desks.specs.Request.{Request}
+use Rattle.laws.specs.Functions.{at}
+use Rattle.laws.specs.Standing.{In}
+use Rattle.desk_rules.specs.Desk.{Waiter, Desk}
 use Rattle.desk_rules.specs.Locks.{agrees, wants}
-use Rattle.desk_rules.specs.Rules.{Outcome, refused, withRow, withStatus, rowsAfter, rule4}
+use Rattle.desks.specs.Begin.{refused}
+use Rattle.desk_rules.specs.Rules.{Outcome, withRow, withStatus, rowsAfter, rule4}
 use Rattle.desk_rules.specs.Asked.{heldThere, queueThere}
 use Rattle.desk_rules.specs.Moves.{Moved, refuses, begins, commits, gives-up, retries, has-it, promotes, waits-in-front, enters, waits-last, goes-back}
 use Rattle.desk_rules.specs.Invariant.{Falling, Inv}
 use Rattle.desk_rules.proofs.Queue.{by-place, falling-left, without-falling}
 use Rattle.desk_rules.proofs.AheadLaws.{younger-ahead}
-use Rattle.desk_rules.proofs.Tests.{at-other, at-each, agrees-each}
+use Rattle.laws.proofs.Functions.{at-other, at-each}
+use Rattle.desk_rules.proofs.Tests.{agrees-each}
 use Rattle.desk_rules.proofs.RunEnd.{row-ready, row-releases}
 
 module _ {d : Desk} (v : Inv d) (x c : ℕ) where

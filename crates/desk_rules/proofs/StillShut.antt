@@ -12,14 +12,16 @@ use Rattle.conflict.specs.Runs.{ended}
 use Rattle.conflict.specs.History.{History}
 use Rattle.conflict.proofs.Appended.{ended-append}
 use Rattle.conflict.proofs.Shutting.{shut-grows}
-use Rattle.desk_rules.specs.Desk.{Desk, Request}
+use Rattle.desks.specs.Request.{Request}
+use Rattle.desk_rules.specs.Desk.{Desk}
 use Rattle.desk_rules.specs.Step.{step, events}
-use Rattle.desk_rules.specs.Requests.{writes, deskAfter, historyOf}
+use Rattle.desks.specs.Requests.{writes}
+use Rattle.desk_rules.specs.Requests.{deskAfter, historyOf}
 use Rattle.desk_rules.specs.Invariant.{Inv}
 use Rattle.desk_rules.proofs.Kept.{step-inv}
 use Rattle.desk_rules.proofs.Moved.{step-moved}
 use Rattle.desk_rules.proofs.Holding.{moved-held}
-use Rattle.desk_rules.proofs.StartedThrough.{after-both, wrote-both}
+use Rattle.desks.proofs.StartedThrough.{after-both, wrote-both}
 use Rattle.desk_rules.proofs.ShutOut.{moved-beside}
 
 -- of two parts of a history in which no run of the job ends, it ends in neither

@@ -1,36 +1,26 @@
 -- The step follows the refusal table: a walk through the letters and what the job is doing, made once (01, Refusals by number).
 -- Assumes nothing.
 use Prim.Native.Nat.{ℕ}
-use mathlib.Core.Option.{Option, none, some}
-use mathlib.Core.Path.{_≡_, refl}
-use mathlib.Core.Bool.{Bool, true, false, not, _&&_}
-use lib.Dec.{ltb, leb}
-use borrow.Author.Tests.{ltb-true, ltb-false, lt-leb, le-leb}
-use Rattle.laws.specs.Choice.{pick, by-test}
+use mathlib.Core.Path.{refl}
+use mathlib.Core.Bool.{_&&_}
+use lib.Dec.{ltb}
+use Rattle.laws.specs.Choice.{by-test}
 use Rattle.terms.specs.declared.letters.Ask.{Ask}
 use Rattle.terms.specs.declared.letters.Letter.the-variants.{Begin, Commit, GiveUp, Retry, Back, Asks}
 use Rattle.terms.specs.declared.letters.Lettered.{Lettered}
 use Rattle.terms.specs.declared.letters.Lettered.the-variants.{Known, Unknown}
-use Rattle.terms.specs.declared.refusals.Refusal.{Refusal}
 use Rattle.terms.specs.Letters.{letterOf}
-use Rattle.terms.specs.Limits.{cells, lastNumber}
+use Rattle.terms.specs.Limits.{cells}
 use Rattle.conflict.specs.Modes.{needed, covers, asked, isFree}
-use Rattle.laws.specs.Lists.{member, firstOf}
-use Rattle.desk_rules.specs.Desk.{Status, closed, running, waiting, sentback, isOpen, Desk, Request}
+use Rattle.laws.specs.Lists.{firstOf}
+use Rattle.desks.specs.Request.{Request}
+use Rattle.desk_rules.specs.Desk.{Status, closed, running, waiting, sentback, isOpen, Desk}
 use Rattle.desk_rules.specs.Locks.{agrees, olderThanHolders, olderThanWaiters, isEmpty}
-use Rattle.desk_rules.specs.Rules.{Outcome, refused, rule4, close, sendBack, grant, queued, rule1, rule2, rule3, ask, retry, begin}
+use Rattle.desk_rules.specs.Rules.{rule4, close, sendBack, grant, queued, rule1, rule2, rule3, ask, retry, begin}
 use Rattle.desk_rules.specs.Step.{stepCommit, stepGiveUp, stepRetry, stepAsk, stepBegin, stepBy, step}
-use Rattle.desk_rules.specs.Table.{holds, order, dueBy, dueOf, Answers, namedBy, named, goes, waits, goes-back}
-
--- what the table says, told of an outcome: a refusal that leaves all as it was, or an answer with the job given
-abbrev pub Meant : Desk → ℕ → Option Refusal → Outcome → Type 0
-Meant d j (some why) o = o ≡ refused d why
-Meant d j none o = Answers (o .said) j
-
--- an outcome that a test picks is answered where both are
-answered : (b : Bool) (x y : Outcome) (j : ℕ) → Answers (x .said) j → Answers (y .said) j → Answers (pick b x y .said) j
-answered true x y j f g = f
-answered false x y j f g = g
+use Rattle.desks.specs.Table.{Answers, namedBy, goes, waits, goes-back}
+use Rattle.desk_rules.specs.Table.{holds, order, dueBy, dueOf, named}
+use Rattle.desks.proofs.TableMeant.{Meant, answered, begin-means, above}
 
 -- rules 1 to 3 refuse nothing
 ask-answered : (d : Desk) (j c : ℕ) (a : Ask) → Answers (ask d j c a .said) j
@@ -46,9 +36,7 @@ ask-answered d j c a =
 -- a begin does what the table says
 begin-meant : (d : Desk) (s : Status) (c : ℕ) → Meant d (d .next) (dueBy d (Known Begin) s c) (stepBegin d)
 unfolding stepBegin begin dueBy holds order firstOf
-begin-meant d s c =
-    by-test (ltb lastNumber (d .next)) (λ t. rw t refl)
-    (λ f. by-test (member 0 (d .jobs)) (λ t. rw (f, t) (goes (d .next))) (λ g. rw (f, g) refl))
+begin-meant d s c = begin-means d (d .next) (d .jobs) (begin d) (d .next) (goes (d .next))
 
 -- a commit does what the table says
 commit-meant : (d : Desk) (j c : ℕ) (s : Status) → Meant d j (dueBy d (Known Commit) s c) (stepCommit d j s)
@@ -74,10 +62,6 @@ retry-meant d j c running = refl
 retry-meant d j c (waiting c′ a) = refl
 retry-meant d j c sentback = goes j
 
--- a cell is above 63 exactly where it is none of the 64
-above : (c : ℕ) → leb cells c ≡ not (ltb c cells)
-above c = by-test (ltb c cells) (λ t. rw t (lt-leb cells c (ltb-true c cells t))) (λ f. rw f (le-leb cells c (ltb-false c cells f)))
-
 -- a request for a cell does what the table says
 ask-meant : (d : Desk) (j c : ℕ) (a : Ask) (s : Status) → Meant d j (dueBy d (Known (Asks a)) s c) (stepAsk d j c a s)
 unfolding stepAsk dueBy holds order firstOf isOpen
@@ -87,7 +71,7 @@ ask-meant d j c a (waiting c′ a′) = refl
 ask-meant d j c a sentback = refl
 
 -- a request does what the table says, whatever its letter
-step-by : (d : Desk) (r : Request) (l : Lettered) → Meant d (namedBy d (r .job) l) (dueBy d l (d .stat (r .job)) (r .cell)) (stepBy d r l)
+step-by : (d : Desk) (r : Request) (l : Lettered) → Meant d (namedBy (d .next) (r .job) l) (dueBy d l (d .stat (r .job)) (r .cell)) (stepBy d r l)
 unfolding stepBy
 step-by d r Unknown = unfold dueBy holds order firstOf in refl
 step-by d r (Known Back) = unfold dueBy holds order firstOf in refl

@@ -1,13 +1,13 @@
--- What the tests of the rules say, in both directions: of every job of a list, of other holders, of waiters, and of a function changed at one number.
+-- What the tests of the rules say, in both directions: of every job of a list, of other holders and of waiters.
 -- Assumes nothing.
 use Prim.Native.Nat.{ℕ, _<_, _≤_}
-use mathlib.Core.Path.{_≡_, refl, sym, ap, subst, _∙_}
+use mathlib.Core.Path.{_≡_, refl, sym, ap, _∙_}
 use mathlib.Core.Logic.{_≢_}
 use mathlib.Core.Bool.{Bool, true, false, _||_}
 use mathlib.Core.List.{List, [], _∷_}
 use lib.Dec.{ltb, eqb}
 use native.Mathlib.Omega.{arith}
-use borrow.Author.Tests.{eqb-true, eqb-false, eq-eqb, ne-eqb, ltb-true, ltb-false}
+use borrow.Author.Tests.{eqb-true, eqb-false, ne-eqb, ltb-true, ltb-false}
 use Rattle.laws.specs.Choice.{by-test, not-both}
 use Rattle.conflict.specs.declared.modes.Mode.{Mode}
 use Rattle.conflict.specs.Modes.{grants, isFree}
@@ -15,30 +15,12 @@ use Rattle.laws.specs.Lists.{member}
 use Rattle.laws.proofs.Lists.{member-first, member-more}
 use Rattle.conflict.proofs.ModeLaws.{is-free, grants-free}
 use Rattle.laws.proofs.Parts.{and-first, and-second, or-either, nor-first, nor-second}
-use Rattle.desk_rules.specs.Desk.{Waiter, at, In, first, later}
+use Rattle.laws.specs.Functions.{at}
+use Rattle.laws.specs.Standing.{In, first, later}
+use Rattle.desk_rules.specs.Desk.{Waiter}
 use Rattle.desk_rules.specs.Locks.{every, everyWaiter, isEmpty, agrees, olderThanHolders, olderThanWaiters}
 use Rattle.desk_rules.specs.Releasing.{Seated}
-use Rattle.desk_rules.proofs.Queue.{in-none, in-split}
-
--- a function changed at one number, where it is changed
-pub at-same : {A : Type 0} (f : ℕ → A) (i : ℕ) (x : A) → at f i x i ≡ x
-unfolding at
-at-same f i x = rw (eq-eqb i i refl)
-
--- and everywhere else
-pub at-other : {A : Type 0} (f : ℕ → A) (i : ℕ) (x : A) (j : ℕ) → j ≢ i → at f i x j ≡ f j
-unfolding at
-at-other f i x j n = rw (ne-eqb j i n)
-
--- so what holds of the new value and of every other old one holds of it
-pub at-each : {A : Type 0} (P : A → Type 0) (f : ℕ → A) (i : ℕ) (x : A) (j : ℕ) → (j ≡ i → P x) → (j ≢ i → P (f j)) → P (at f i x j)
-unfolding at
-at-each P f i x j here′ there =
-    by-test (eqb j i) (λ t. rw t (here′ (eqb-true j i t))) (λ n. rw n (there (eqb-false j i n)))
-
--- and what holds of the new value there, and of every old one elsewhere, holds everywhere
-pub at-all : {A : Type 0} (P : ℕ → A → Type 0) (f : ℕ → A) (i : ℕ) (x : A) → P i x → ((j : ℕ) → j ≢ i → P j (f j)) → (j : ℕ) → P j (at f i x j)
-at-all P f i x h g j = at-each (P j) f i x j (λ e. subst (λ k. P k x) (sym e) h) (g j)
+use Rattle.laws.proofs.Standing.{in-none, in-split}
 
 -- a test that holds of every job of a list holds of each
 pub every-each : (f : ℕ → Bool) (js : List ℕ) → every f js ≡ true → (i : ℕ) → member i js ≡ true → f i ≡ true

@@ -4,21 +4,23 @@ use Prim.Native.Nat.{ℕ}
 use mathlib.Core.Path.{_≡_, refl, sym, _∙_, subst}
 use mathlib.Core.Logic.{_≢_}
 use mathlib.Core.Bool.{false}
-use native.Mathlib.Omega.{arith}
 use Rattle.terms.specs.declared.letters.Ask.{Ask}
 use Rattle.terms.specs.Limits.{cells}
+use Rattle.conflict.proofs.OneEvent.{no-mark, same-action}
 use Rattle.conflict.specs.declared.action.Kind.{Kind}
 use Rattle.conflict.specs.declared.action.Action.{Action}
-use Rattle.conflict.specs.declared.action.Mark.{Mark}
-use Rattle.conflict.specs.declared.action.Event.the-variants.{Does, Ends}
+use Rattle.conflict.specs.declared.action.Event.the-variants.{Does}
 use Rattle.conflict.specs.Modes.{lets}
 use Rattle.conflict.specs.Schedule.{agree}
 use Rattle.conflict.specs.History.{History}
 use Rattle.conflict.proofs.ModeLaws.{covers-lets, beside-sym, covering-keeps-out}
 use Rattle.conflict.proofs.StillHeld.{machine-still}
-use Rattle.desk_rules.specs.Desk.{Desk, Request, In}
+use Rattle.desks.specs.Request.{Request}
+use Rattle.laws.specs.Standing.{In}
+use Rattle.desk_rules.specs.Desk.{Desk}
 use Rattle.desk_rules.specs.Rules.{Outcome, wake, rowsAfter, rule4}
-use Rattle.desk_rules.specs.Step.{recordsBy, Started}
+use Rattle.desks.specs.Records.{recordsBy}
+use Rattle.desk_rules.specs.Step.{Started}
 use Rattle.desk_rules.specs.Course.{from}
 use Rattle.desk_rules.specs.Locking.{Locking}
 use Rattle.desk_rules.specs.Histories.{AskedBy, request, waiter, UnderLock}
@@ -31,12 +33,8 @@ use Rattle.desk_rules.proofs.Holding.{moved-held}
 use Rattle.desk_rules.proofs.Written.{asking, Wrote, nothing, action, mark, step-wrote}
 use Rattle.desk_rules.proofs.Machine.{started-machine}
 use Rattle.desk_rules.proofs.WakeOrder.{GrantedAt, search-order}
-use Rattle.desk_rules.proofs.WakeRecords.{same-action, recorded-wake}
-use Rattle.desk_rules.proofs.Queue.{in-none, in-split}
-
--- an action is no mark
-pub no-mark : {P : Type 0} {x : Action} {m : Mark} {j : ℕ} → Does x ≡ Ends m j → P
-no-mark e = let z : _≡_ {A = ℕ} 0 1 = cc in absurd (omega arith)
+use Rattle.desk_rules.proofs.WakeRecords.{recorded-wake}
+use Rattle.laws.proofs.Standing.{in-none, in-split}
 
 -- what an action of a step was asked by, and the lock that it is under after the step
 abbrev Locked : Desk → Request → Desk → Action → Type 0

@@ -25,9 +25,12 @@ use Rattle.conflict.proofs.Matrix.{beside-held-s, i-and-u-never}
 use Rattle.conflict.proofs.ExactNeeds.{needs-exactly, u-covers, x-covers, promotion-asks, promotion-to-u, becomes-one}
 use Rattle.conflict.proofs.Shutting.{shut-grants, shut-alone, shut-beside, shut-held, u-shuts}
 use Rattle.conflict.proofs.Clauses.{records-update}
-use Rattle.desk_rules.specs.declared.Answer.the-variants.{Go, Back}
-use Rattle.desk_rules.specs.Desk.{Status, Desk, Request, In, first}
-use Rattle.desk_rules.specs.Step.{step, events, recordsBy, recordsOf, ownRecords, wakeRecords, Started}
+use Rattle.desks.specs.declared.Answer.the-variants.{Go, Back}
+use Rattle.desks.specs.Request.{Request}
+use Rattle.laws.specs.Standing.{In, first}
+use Rattle.desk_rules.specs.Desk.{Status, Desk}
+use Rattle.desks.specs.Records.{recordsBy, recordsOf, ownRecords, wakeRecords}
+use Rattle.desk_rules.specs.Step.{step, events, Started}
 use Rattle.desk_rules.specs.Asked.{Asking, OtherHolder, Enters, Elder, holder, waiter, heldThere, ownMode, askedThere, queueThere}
 use Rattle.desk_rules.specs.Table.{holds, order, dueBy, dueOf}
 use Rattle.desk_rules.specs.Course.{from}
@@ -35,7 +38,7 @@ use Rattle.desk_rules.specs.UpdateLock.{Gets, by-go, by-wake, GoesUnchan
 use Rattle.desk_rules.specs.Requests.{deskAfter, historyOf}
 use Rattle.desk_rules.specs.Invariant.{Inv}
 use Rattle.desk_rules.proofs.Kept.{step-inv, started-inv}
-use Rattle.desk_rules.proofs.Queue.{in-right}
+use Rattle.laws.proofs.Standing.{in-right}
 use Rattle.desk_rules.proofs.Statuses.{one-ask}
 use Rattle.desk_rules.proofs.Tests.{not-older-holders}
 use Rattle.desk_rules.proofs.Moved.{step-moved}
@@ -162,7 +165,7 @@ update {d} s =
       recorded-as-read = as-read s;
       refused-as-a-read = λ r t e f p q why.
           let same = same-due d r t e f p q in (
-            λ g. refuses d .refused-exactly t why .1 (sym same ∙ refuses d .refused-exactly r why .0 g),
-            λ g. refuses d .refused-exactly r why .1 (same ∙ refuses d .refused-exactly t why .0 g),
+            λ g. refuses d .by-table .refused-exactly t why .1 (sym same ∙ refuses d .by-table .refused-exactly r why .0 g),
+            λ g. refuses d .by-table .refused-exactly r why .1 (same ∙ refuses d .by-table .refused-exactly t why .0 g),
           );
     }

@@ -8,16 +8,22 @@ use mathlib.Core.List.{List, [], _∷_, _++_}
 use native.Mathlib.Omega.{arith}
 use Rattle.conflict.specs.declared.modes.Mode.{Mode}
 use Rattle.conflict.specs.Modes.{isFree}
-use Rattle.desk_rules.specs.declared.Answer.{Answer}
-use Rattle.desk_rules.specs.declared.Answer.the-variants.{Go, Back}
-use Rattle.desk_rules.specs.Desk.{Status, closed, running, waiting, sentback, Waiter, Row, Desk, Request, at, vacated, In}
-use Rattle.desk_rules.specs.Rules.{Outcome, refused, withRow, withStatus, rule4}
+use Rattle.desks.specs.declared.Answer.{Answer}
+use Rattle.desks.specs.declared.Answer.the-variants.{Go, Back}
+use Rattle.desks.specs.Request.{Request}
+use Rattle.laws.specs.Functions.{at}
+use Rattle.desks.specs.Places.{vacated}
+use Rattle.laws.specs.Standing.{In}
+use Rattle.desk_rules.specs.Desk.{Status, closed, running, waiting, sentback, Waiter, Row, Desk}
+use Rattle.desks.specs.Begin.{refused}
+use Rattle.desk_rules.specs.Rules.{Outcome, withRow, withStatus, rule4}
 use Rattle.desk_rules.specs.Waiting.{InWay, holds-it, ahead, IsWaiting, GivesUp}
 use Rattle.desk_rules.specs.Moves.{Moved, refuses, begins, commits, gives-up, retries, has-it, promotes, waits-in-front, enters, waits-last, goes-back}
 use Rattle.desk_rules.specs.Invariant.{Inv}
 use Rattle.desk_rules.proofs.Statuses.{waiting-open, running-not-waiting, sentback-not-waiting}
-use Rattle.desk_rules.proofs.Queue.{in-none}
-use Rattle.desk_rules.proofs.Tests.{at-other, at-each, at-all, empty-queue}
+use Rattle.laws.proofs.Standing.{in-none}
+use Rattle.laws.proofs.Functions.{at-other, at-each, at-all}
+use Rattle.desk_rules.proofs.Tests.{empty-queue}
 use Rattle.desk_rules.proofs.AheadLaws.{ahead-split, ahead-last}
 use Rattle.desk_rules.proofs.InTheWay.{waiter-in}
 

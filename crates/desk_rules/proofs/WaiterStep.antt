@@ -14,11 +14,14 @@ use Rattle.conflict.specs.History.{History}
 use Rattle.conflict.specs.Runs.{isEnd, ended}
 use Rattle.conflict.proofs.ModeLaws.{free-is-free}
 use Rattle.conflict.proofs.OneEvent.{marked-none, marked-does, marked-ends, ended-is}
-use Rattle.desk_rules.specs.declared.Answer.{Answer}
-use Rattle.desk_rules.specs.Desk.{Status, waiting, Waiter, Desk, Request, In}
+use Rattle.desks.specs.declared.Answer.{Answer}
+use Rattle.desks.specs.Request.{Request}
+use Rattle.laws.specs.Standing.{In}
+use Rattle.desk_rules.specs.Desk.{Status, waiting, Waiter, Desk}
 use Rattle.desk_rules.specs.Locks.{wants}
 use Rattle.desk_rules.specs.Rules.{Outcome, isWoken, rowsAfter, rule4}
-use Rattle.desk_rules.specs.Step.{step, wakeRecords, events}
+use Rattle.desks.specs.Records.{wakeRecords}
+use Rattle.desk_rules.specs.Step.{step, events}
 use Rattle.desk_rules.specs.Waiting.{InWay, holds-it, ahead, IsWaiting, GivesUp, Granted}
 use Rattle.desk_rules.proofs.Moved.{step-moved}
 use Rattle.desk_rules.specs.Invariant.{Inv}

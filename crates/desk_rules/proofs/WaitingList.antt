@@ -14,7 +14,7 @@ use Rattle.laws.proofs.Lists.{member-first, member-more, member-split, member-n
 use Rattle.laws.proofs.Joined.{member-append}
 use Rattle.desk_rules.specs.Desk.{Status}
 use Rattle.desk_rules.specs.Table.{isWaiting}
-use Rattle.desk_rules.specs.Requests.{Rising}
+use Rattle.desks.specs.Requests.{Rising}
 use Rattle.desk_rules.specs.Chain.{waitingBelow}
 
 -- a list that rises and then a number above all of it

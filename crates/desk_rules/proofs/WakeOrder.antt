@@ -8,13 +8,14 @@ use borrow.Author.Tests.{eqb-true, eqb-false}
 use lib.Dec.{eqb}
 use Rattle.laws.specs.Choice.{by-test}
 use Rattle.conflict.specs.declared.action.Action.{Action}
-use Rattle.desk_rules.specs.Desk.{Waiter, In, first, later}
+use Rattle.laws.specs.Standing.{In, first, later}
+use Rattle.desk_rules.specs.Desk.{Waiter}
 use Rattle.desk_rules.specs.Locks.{Settled}
 use Rattle.desk_rules.specs.Rules.{wake, wakesAt, wakesOf}
 use Rattle.desk_rules.specs.Waiting.{Ahead, in-front}
 use Rattle.desk_rules.specs.Waiting as waiting
 use Rattle.desk_rules.specs.WakeOrder.{Before, next, further}
-use Rattle.desk_rules.proofs.Queue.{in-none, in-split, is-first, in-left, in-right, in-either}
+use Rattle.laws.proofs.Standing.{in-none, in-split, is-first, in-left, in-right, in-either}
 
 -- a wake was granted at one of the first n cells: where, and as which waiter
 pub record GrantedAt (s : ℕ → Settled) (n : ℕ) (x : Action) : Type 0 where

@@ -5,18 +5,14 @@ use mathlib.Core.Path.{_≡_, ap, _∙_}
 use mathlib.Core.Bool.{_||_}
 use mathlib.Core.List.{List, [], _∷_}
 use lib.Dec.{eqb}
+use Rattle.conflict.proofs.OneEvent.{same-action, line-none, line-does}
 use Rattle.conflict.specs.declared.action.Action.{Action}
 use Rattle.conflict.specs.declared.action.Event.the-variants.{Does}
 use Rattle.conflict.specs.History.{lineOf}
-use Rattle.conflict.proofs.OneEvent.{line-none, line-does}
-use Rattle.desk_rules.specs.Desk.{In, first, later}
+use Rattle.laws.specs.Standing.{In, first, later}
 use Rattle.desk_rules.specs.Rules.{isWoken}
-use Rattle.desk_rules.specs.Step.{wakeRecords}
-use Rattle.desk_rules.proofs.Queue.{in-none, in-split, is-first}
-
--- an action is one other action only if they are the same
-pub same-action : {x y : Action} → Does x ≡ Does y → x ≡ y
-same-action e = cc
+use Rattle.desks.specs.Records.{wakeRecords}
+use Rattle.laws.proofs.Standing.{in-none, in-split, is-first}
 
 -- an action whose record stands among theirs is one of the wakes
 pub recorded-wake : {a : Action} (xs : List Action) → In (Does a) (wakeRecords xs) → In a xs

@@ -10,7 +10,8 @@ use Rattle.laws.specs.Choice.{by-test, not-both}
 use Rattle.conflict.specs.declared.action.Action.{Action}
 use Rattle.laws.proofs.Lists.{same-refl}
 use Rattle.laws.proofs.Parts.{or-either, or-second}
-use Rattle.desk_rules.specs.Desk.{Status, running, Waiter, In, first, later}
+use Rattle.laws.specs.Standing.{In, first, later}
+use Rattle.desk_rules.specs.Desk.{Status, running, Waiter}
 use Rattle.desk_rules.specs.Locks.{Settled}
 use Rattle.desk_rules.specs.Rules.{wake, wakesOf, isWoken, runAgain}
 use Rattle.desk_rules.proofs.WakeOrder.{search-order}

@@ -14,11 +14,14 @@ use Rattle.conflict.specs.History.{History}
 use Rattle.conflict.proofs.ModeLaws.{asked-free}
 use Rattle.conflict.proofs.ExactNeeds.{promotion-asks}
 use mathlib.Core.List.{[]}
-use Rattle.desk_rules.specs.declared.Answer.the-variants.{Go}
-use Rattle.desk_rules.specs.Desk.{closed, waiting, Waiter, Desk, Request, In}
+use Rattle.desks.specs.declared.Answer.the-variants.{Go}
+use Rattle.desks.specs.Request.{Request}
+use Rattle.laws.specs.Standing.{In}
+use Rattle.desk_rules.specs.Desk.{closed, waiting, Waiter, Desk}
 use Rattle.desk_rules.specs.Locks.{wants}
 use Rattle.desk_rules.specs.Rules.{wake, rowsAfter}
-use Rattle.desk_rules.specs.Step.{recordsBy, step, Started}
+use Rattle.desks.specs.Records.{recordsBy}
+use Rattle.desk_rules.specs.Step.{step, Started}
 use Rattle.desk_rules.specs.Course.{from}
 use Rattle.desk_rules.specs.Waiting.{Ahead}
 use Rattle.desk_rules.specs.WakeOrder.{Before, Sooner, smaller-cell, stood-ahead}

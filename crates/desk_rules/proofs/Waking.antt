@@ -6,17 +6,21 @@ use mathlib.Core.List.{List}
 use Rattle.laws.specs.Choice.{not-both}
 use Rattle.terms.specs.Limits.{cells}
 use Rattle.conflict.specs.declared.action.Action.{Action}
-use Rattle.desk_rules.specs.declared.Answer.{Answer}
-use Rattle.desk_rules.specs.declared.Answer.the-variants.{Go, Back}
-use Rattle.desk_rules.specs.Desk.{Status, closed, sentback, vacated, Waiter, Desk, Request, In}
-use Rattle.desk_rules.specs.Rules.{Outcome, refused, wake, isWoken, rowsAfter, rule4}
+use Rattle.desks.specs.declared.Answer.{Answer}
+use Rattle.desks.specs.declared.Answer.the-variants.{Go, Back}
+use Rattle.desks.specs.Places.{vacated}
+use Rattle.desks.specs.Request.{Request}
+use Rattle.laws.specs.Standing.{In}
+use Rattle.desk_rules.specs.Desk.{Status, closed, sentback, Waiter, Desk}
+use Rattle.desks.specs.Begin.{refused}
+use Rattle.desk_rules.specs.Rules.{Outcome, wake, isWoken, rowsAfter, rule4}
 use Rattle.desk_rules.specs.Moves.{Moved, refuses, begins, commits, gives-up, retries, has-it, promotes, waits-in-front, enters, waits-last, goes-back}
 use Rattle.desk_rules.specs.Invariant.{Inv}
 use Rattle.desk_rules.specs.Effects.{WakeTells}
 use Rattle.desk_rules.proofs.Release.{woken-covers}
 use Rattle.desk_rules.proofs.WakeOrder.{search-order}
 use Rattle.desk_rules.proofs.RunEnd.{wakesAfter, row-releases, granted-woken, left-not-woken, woken-after}
-use Rattle.desk_rules.proofs.Queue.{in-none}
+use Rattle.laws.proofs.Standing.{in-none}
 
 module _ {d : Desk} (v : Inv d) (j : ℕ) (s : Status) (js : List ℕ) (said : Answer) where
   -- who is granted at a cell when job j's run ends

@@ -9,12 +9,14 @@ use Rattle.terms.specs.declared.letters.Lettered.the-variants.{Known}
 use Rattle.terms.specs.Letters.{letterOf}
 use Rattle.conflict.specs.Modes.{needed, covers}
 use Rattle.conflict.proofs.ModeLaws.{asked-free}
-use Rattle.desk_rules.specs.declared.Answer.the-variants.{Go}
-use Rattle.desk_rules.specs.Desk.{Desk, Request}
-use Rattle.desk_rules.specs.Rules.{Outcome, refused, rule4}
+use Rattle.desks.specs.declared.Answer.the-variants.{Go}
+use Rattle.desks.specs.Request.{Request}
+use Rattle.desk_rules.specs.Desk.{Desk}
+use Rattle.desks.specs.Begin.{refused}
+use Rattle.desk_rules.specs.Rules.{Outcome, rule4}
 use Rattle.desk_rules.specs.Asked.{ownMode, askedThere}
 use Rattle.desk_rules.specs.Moves.{fitsIn, Moved, refuses, begins, commits, gives-up, retries, has-it, promotes, waits-in-front, enters, waits-last, goes-back}
-use Rattle.desk_rules.proofs.Answers.{other-answer}
+use Rattle.desks.proofs.Answers.{other-answer}
 use Rattle.desk_rules.proofs.AnswerTells.{no-ask, same-ask}
 
 module _ (d : Desk) (r : Request) (a : Ask) (l : letterOf (r .kind) ≡ Known (Asks a)) (n : covers (ownMode d r) (needed a) ≡ false) where

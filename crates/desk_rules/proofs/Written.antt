@@ -17,18 +17,24 @@ use Rattle.conflict.specs.Modes.{needed, recorded, covers, beside, grants, aske
 use Rattle.conflict.specs.History.{History}
 use Rattle.conflict.proofs.OneEvent.{back-not-last, isLast}
 use Rattle.conflict.proofs.ModeLaws.{covers-refl, covers-none, asked-covers, asked-grows}
-use Rattle.desk_rules.specs.declared.Answer.{Answer}
-use Rattle.desk_rules.specs.declared.Answer.the-variants.{Go, Back as sent-back}
-use Rattle.desk_rules.specs.Desk.{Status, closed, sentback, isOpen, Desk, Request, Waiter, Row, at, vacated, isLive}
-use Rattle.desk_rules.specs.Rules.{Outcome, refused, withRow, withStatus, wakesOf, rowsAfter, rule4, grant}
-use Rattle.desk_rules.specs.Step.{recordsBy, step, wentBy, ownRecords, wakeRecords, recordsOf, events}
+use Rattle.desks.specs.declared.Answer.{Answer}
+use Rattle.desks.specs.declared.Answer.the-variants.{Go, Back as sent-back}
+use Rattle.desks.specs.Request.{Request}
+use Rattle.laws.specs.Functions.{at}
+use Rattle.desks.specs.Places.{vacated}
+use Rattle.desk_rules.specs.Desk.{Status, closed, sentback, isOpen, Desk, Waiter, Row, isLive}
+use Rattle.desks.specs.Begin.{refused}
+use Rattle.desk_rules.specs.Rules.{Outcome, withRow, withStatus, wakesOf, rowsAfter, rule4, grant}
+use Rattle.desks.specs.Records.{recordsBy, wentBy, ownRecords, wakeRecords, recordsOf}
+use Rattle.desk_rules.specs.Step.{step, events}
 use Rattle.desk_rules.specs.Asked.{Asking}
 use Rattle.desk_rules.specs.Moves.{Moved}
 use Rattle.desk_rules.specs.Moves.Moved.{refuses, begins, commits, gives-up, retries, has-it, promotes, waits-in-front, enters, waits-last, goes-back}
 use Rattle.desk_rules.proofs.Moved.{step-moved}
 use Rattle.desk_rules.specs.Invariant.{Inv}
 use Rattle.desk_rules.proofs.Statuses.{running-open}
-use Rattle.desk_rules.proofs.Tests.{at-each, agrees-each}
+use Rattle.laws.proofs.Functions.{at-each}
+use Rattle.desk_rules.proofs.Tests.{agrees-each}
 use Rattle.desk_rules.proofs.Settle.{taking-pairs}
 use Rattle.desk_rules.proofs.RunEnd.{row-ready}
 use Rattle.desk_rules.proofs.ExactModes.{granted-mode}

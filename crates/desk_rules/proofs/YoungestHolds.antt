@@ -8,11 +8,12 @@ use mathlib.Core.List.{List, [], _∷_}
 use native.Mathlib.Omega.{arith}
 use Rattle.conflict.specs.declared.modes.Mode.{Mode}
 use Rattle.conflict.specs.Modes.{isFree}
-use Rattle.desk_rules.specs.Desk.{Waiter, Desk, In, first}
+use Rattle.laws.specs.Standing.{In, first}
+use Rattle.desk_rules.specs.Desk.{Waiter, Desk}
 use Rattle.desk_rules.specs.Waiting.{InWay, holds-it, ahead, IsWaiting}
 use Rattle.desk_rules.specs.Invariant.{Falling, FirstBlocked, Inv}
 use Rattle.desk_rules.specs.Chain.{Next}
-use Rattle.desk_rules.proofs.Queue.{in-none, in-split}
+use Rattle.laws.proofs.Standing.{in-none, in-split}
 use Rattle.desk_rules.proofs.AheadLaws.{ahead-in, ahead-younger}
 use Rattle.desk_rules.proofs.InTheWay.{in-way-held}
 

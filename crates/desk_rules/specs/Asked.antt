@@ -6,15 +6,15 @@ use mathlib.Core.Bool.{true, false}
 use mathlib.Core.List.{List}
 use Rattle.terms.specs.declared.letters.Ask.{Ask}
 use Rattle.terms.specs.declared.letters.Letter.the-variants.{Asks}
-use Rattle.terms.specs.declared.letters.Lettered.{Lettered}
 use Rattle.terms.specs.declared.letters.Lettered.the-variants.{Known}
-use Rattle.terms.specs.Letters.{letterOf, hasJob, hasCell}
+use Rattle.terms.specs.Letters.{letterOf}
 use Rattle.terms.specs.Limits.{cells}
 use Rattle.conflict.specs.declared.modes.Mode.{Mode}
 use Rattle.conflict.specs.Modes.{needed, covers, grants, asked, isFree}
-use Rattle.desk_rules.specs.Desk.{running, In, Waiter, Desk, Request}
+use Rattle.desks.specs.Request.{Request}
+use Rattle.laws.specs.Standing.{In}
+use Rattle.desk_rules.specs.Desk.{running, Waiter, Desk}
 use Rattle.desk_rules.specs.Locks.{olderThanHolders, olderThanWaiters}
-use Rattle.desk_rules.specs.Table.{letterIs}
 
 -- a running job asks for a cell that there is
 pub record Asking (d : Desk) (r : Request) (a : Ask) : Type 0 where
@@ -72,8 +72,3 @@ pub record Enters (d : Desk) (r : Request) (a : Ask) : Type 0 where
 pub data Hindered (d : Desk) (r : Request) (a : Ask) : Type 0 where
   waits-already : (w : Waiter) → In w (queueThere d r) → Hindered d r a
   disagrees : (i : ℕ) → Opposed d r (needed a) i → Hindered d r a
-
--- two requests are alike to their letter: the same job where it has a job, and the same cell where it has a cell
-pub record Alike (l : Lettered) (r s : Request) : Type 0 where
-  pub job : letterIs hasJob l ≡ true → r .job ≡ s .job
-  pub cell : letterIs hasCell l ≡ true → r .cell ≡ s .cell

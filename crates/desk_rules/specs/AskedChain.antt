@@ -7,7 +7,7 @@ use lib.Dec.{ltb}
 use lib.ListN.{length}
 use Rattle.laws.specs.Lists.{firstOf, filled}
 use Rattle.terms.specs.declared.refusals.Refusal.{Refusal}
-use Rattle.terms.specs.declared.refusals.Refusal.the-variants.{UnknownKind, CellAbove, NotOpen, Waiting, SentBack, AllOpen, NoNumberLeft, Running, BadLine, StartedAtZero, TooManyLines, JobOutside, Ended, ShortOrder, NoRoom, TooLong, ShortList}
+use Rattle.terms.specs.declared.refusals.Refusal.the-variants.{UnknownKind, CellAbove, NotOpen, Waiting, SentBack, AllOpen, NoNumberLeft, Running, BadLine, StartedAtZero, TooManyLines, JobOutside, Ended, ShortOrder, NoRoom, TooLong, ShortList, NoRetry}
 use Rattle.terms.specs.Refusals.{numberOf, fieldOf}
 use Rattle.terms.specs.Limits.{places}
 use Rattle.desk_rules.specs.declared.Chained.{Chained}
@@ -35,6 +35,7 @@ chainHolds s n ShortOrder = false
 chainHolds s n NoRoom = false
 chainHolds s n TooLong = false
 chainHolds s n ShortList = ltb n places
+chainHolds s n NoRetry = false
 
 -- the order of the tests: 3, then 5, then 18
 unfoldable pub chainOrder : List Refusal

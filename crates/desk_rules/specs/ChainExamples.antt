@@ -2,10 +2,11 @@
 use Prim.Native.Nat.{ℕ}
 use mathlib.Core.List.{List, [], _∷_, _++_}
 use lib.ListN.{take, replicate}
-use Rattle.desk_rules.specs.Desk.{Request, freshDesk}
+use Rattle.desks.specs.Request.{Request}
+use Rattle.desk_rules.specs.Desk.{freshDesk}
 use Rattle.desk_rules.specs.Requests.{deskAfter}
 use Rattle.desk_rules.specs.AskedChain.{askChain, chainNumbers}
-use Rattle.desk_rules.specs.Examples.{request, begins}
+use Rattle.desks.specs.Told.{request, begins}
 
 -- who asks for a job's chain with so many places, which hold 7 before; the answer in its two numbers, and the first places of the list after it
 pub record Question : Type 0 where

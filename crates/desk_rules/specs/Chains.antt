@@ -14,7 +14,7 @@ use Rattle.conflict.specs.Modes.{isFree}
 use Rattle.desk_rules.specs.declared.Chained.the-variants.{Jobs, No}
 use Rattle.desk_rules.specs.Desk.{running, waiting, sentback, Waiter, Desk, isOpen, isLive}
 use Rattle.desk_rules.specs.Table.{isWaiting}
-use Rattle.desk_rules.specs.Requests.{Rising}
+use Rattle.desks.specs.Requests.{Rising}
 use Rattle.desk_rules.specs.Waiting.{IsWaiting}
 use Rattle.desk_rules.specs.Chain.{youngerThan, chainOf, Next, IsChain, waitingBelow}
 use Rattle.desk_rules.specs.AskedChain.{ChainTold, askChain}

@@ -1,55 +1,12 @@
--- All that a desk shows from now on, whatever way it is kept: the words of demand 3 and the promises are said of this, once for the paper's desk and for every desk that runs.
-use Prim.Native.Nat.{ℕ}
-use mathlib.Core.List.{List, [], _∷_}
-use Rattle.conflict.specs.History.{History}
-use Rattle.desk_rules.specs.Desk.{Desk, Request}
-use Rattle.desk_rules.specs.Stepping.{Stepped, Stepping, through}
-use Rattle.desk_rules.specs.Rules.{Outcome}
-use Rattle.desk_rules.specs.Step.{step, recordsOf}
-use Rattle.desk_rules.specs.Requests.{gives, writes}
+-- All that a lock desk shows from now on, whatever way it is kept: the words of demand 3 and the promises are said of this, once for the paper's desk and for every desk that runs.
+use Rattle.desks.specs.Course as desks
+use Rattle.desks.specs.Course.{course}
+use Rattle.desk_rules.specs.Desk.{Desk}
+use Rattle.desk_rules.specs.Step.{step}
 
--- what is shown: the desk after any requests, and what the step of one more request then leaves and tells; and the history that further requests then write
-pub record Course : Type 0 where
-  pub seen : List Request → Desk
-  pub does : List Request → Request → Outcome
-  pub wrote : List Request → List Request → History
-  pub gave : List Request → List Request → List ℕ
-
--- the desk as it is now
-abbrev pub now : Course → Desk
-now k = k .seen []
-
--- what the step of a request leaves and tells now
-abbrev pub to : Course → Request → Outcome
-to k = k .does []
-
--- the history records of that step
-abbrev pub records : Course → Request → History
-records k r = recordsOf r (to k r .said) (to k r .wakes)
-
--- what is shown once a request was made
-abbrev pub later : Course → Request → Course
-later k r =
-    record {
-      seen = λ rs. k .seen (r ∷ rs);
-      does = λ rs. k .does (r ∷ rs);
-      wrote = λ rs. k .wrote (r ∷ rs);
-      gave = λ rs. k .gave (r ∷ rs);
-    }
-
--- a step as it is seen: the other desk that is seen in what it leaves, with its answer and its wakes
-abbrev pub shown : {S T : Type 0} → (S → T) → Stepped S → Stepped T
-shown see o = record { desk = see (o .desk); said = o .said; wakes = o .wakes }
-
--- what a desk shows, by the paper's desk that is seen in each of its states, and its step
-abbrev pub course : {S : Type 0} → (S → Desk) → Stepping S → S → Course
-course view step d =
-    record {
-      seen = λ rs. view (through step d rs);
-      does = λ rs r. shown view (step (through step d rs) r);
-      wrote = λ rs. writes step (through step d rs);
-      gave = λ rs. gives step (through step d rs);
-    }
+-- what a lock desk shows, as desks of the paper
+abbrev pub Course : Type 0
+Course = desks.Course Desk
 
 -- what the paper's desk shows
 abbrev pub from : Desk → Course

@@ -5,10 +5,13 @@ use mathlib.Core.Bool.{true, false}
 use mathlib.Core.List.{[], _∷_, _++_}
 use Rattle.terms.specs.declared.letters.Ask.{Ask}
 use Rattle.conflict.specs.Modes.{needed, covers, grants}
-use Rattle.desk_rules.specs.declared.Answer.the-variants.{Go, Wait, Back}
-use Rattle.desk_rules.specs.Desk.{Request, Waiter, In}
+use Rattle.desks.specs.declared.Answer.the-variants.{Go, Wait, Back}
+use Rattle.desks.specs.Request.{Request}
+use Rattle.laws.specs.Standing.{In}
+use Rattle.desk_rules.specs.Desk.{Waiter}
 use Rattle.desk_rules.specs.Asked.{Asking, OtherHolder, Opposed, Promotes, Enters, Hindered, asker, heldThere, ownMode, askedThere, queueThere}
-use Rattle.desk_rules.specs.Course.{Course, now, to}
+use Rattle.desks.specs.Course.{now, to}
+use Rattle.desk_rules.specs.Course.{Course}
 
 pub record Decides (k : Course) (r : Request) (a : Ask) : Type 0 where
   -- a job that holds a covering mode: go. Nothing changes (01, rule 1)

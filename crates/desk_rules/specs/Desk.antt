@@ -1,10 +1,8 @@
 -- The paper's desk: jobs by number, what each job is doing, and for each cell who holds it and who waits (01, Jobs and their numbers).
 use Prim.Native.Nat.{ℕ}
 use mathlib.Core.Bool.{Bool, true, false}
-use mathlib.Core.List.{List, [], _∷_, map}
+use mathlib.Core.List.{List, []}
 use lib.ListN.{replicate}
-use lib.Dec.{eqb}
-use Rattle.laws.specs.Choice.{pick}
 use Rattle.terms.specs.declared.letters.Ask.{Ask}
 use Rattle.terms.specs.Limits.{places}
 use Rattle.conflict.specs.declared.modes.Mode.{Mode}
@@ -36,11 +34,6 @@ pub record Waiter : Type 0 where
   pub job : ℕ
   pub ask : Ask
 
--- it stands in the list: a waiter in a queue, an action among the wakes, an event in a history
-pub data In {A : Type 0} (w : A) : List A → Type 0 where
-  first : {q : List A} → In w (w ∷ q)
-  later : {v : A} {q : List A} → In w q → In w (v ∷ q)
-
 -- a cell: the mode that each job holds, and the queue, its front first
 pub record Row : Type 0 where
   pub held : ℕ → Mode
@@ -53,16 +46,6 @@ pub record Desk : Type 0 where
   pub stat : ℕ → Status
   pub row : ℕ → Row
 
--- a request by numbers: kind is the letter's byte (01, Refusals by number: any numbers)
-pub record Request : Type 0 where
-  pub kind : ℕ
-  pub job : ℕ
-  pub cell : ℕ
-
--- a function as before but at one number
-unfoldable pub at : {A : Type 0} → (ℕ → A) → ℕ → A → ℕ → A
-at f i x j = pick (eqb j i) x (f j)
-
 -- nobody holds the cell and nobody waits for it
 unfoldable pub idle : Row
 idle = record { held = λ j. Free; queue = [] }
@@ -70,12 +53,3 @@ idle = record { held = λ j. Free; queue = [] }
 -- a fresh desk: its first number is next, every place is free, every job closed, every cell idle (01, Jobs and their numbers)
 unfoldable pub freshDesk : ℕ → Desk
 freshDesk n = record { next = n; jobs = replicate places 0; stat = λ j. closed; row = λ c. idle }
-
--- a new job takes the first free place
-unfoldable pub seated : ℕ → List ℕ → List ℕ
-seated j [] = []
-seated j (k ∷ ks) = pick (eqb k 0) (j ∷ ks) (k ∷ seated j ks)
-
--- a job that is closed frees its place
-unfoldable pub vacated : ℕ → List ℕ → List ℕ
-vacated j ks = map (λ k. pick (eqb k j) 0 k) ks

@@ -1,17 +1,9 @@
--- What it is for a desk to follow another, kept in another way: the one thing to show of each desk that runs.
-use Prim.Native.Nat.{ℕ, _<_, _≤_}
-use mathlib.Core.Path.{_≡_}
-use Rattle.terms.specs.Limits.{lastNumber}
-use Rattle.conflict.specs.History.{History}
-use Rattle.desk_rules.specs.Desk.{Desk, Request, freshDesk}
-use Rattle.desk_rules.specs.Stepping.{Stepping}
-use Rattle.desk_rules.specs.Step.{step, StartedOn}
-use Rattle.desk_rules.specs.Course.{shown}
-
--- by the other desk that is seen in each state: a new desk is seen as a new one, and a step of a started desk, what it leaves, answers and wakes, as the step of the desk that is seen in it
-pub record Follows {S T : Type 0} (see : S → T) (does : Stepping S) (new : ℕ → S) (theirs : Stepping T) (fresh : ℕ → T) : Type 0 where
-  pub starts : (n : ℕ) → 0 < n → n ≤ lastNumber → see (new n) ≡ fresh n
-  pub same : (d : S) (h : History) → StartedOn does new d h → (r : Request) → shown see (does d r) ≡ theirs (see d) r
+-- What it is for a desk that runs to be the paper's desk, kept in another way.
+use Prim.Native.Nat.{ℕ}
+use Rattle.desks.specs.Stepping.{Stepping}
+use Rattle.desks.specs.Follows.{Follows}
+use Rattle.desk_rules.specs.Desk.{Desk, freshDesk}
+use Rattle.desk_rules.specs.Step.{step}
 
 -- a desk that follows the paper's desk
 abbrev pub Faithful : {S : Type 0} → (S → Desk) → Stepping S → (ℕ → S) → Type 0

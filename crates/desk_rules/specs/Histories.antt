@@ -2,7 +2,7 @@
 use Prim.Native.Nat.{ℕ, _+_}
 use mathlib.Core.Path.{_≡_}
 use mathlib.Core.Logic.{_≢_}
-use mathlib.Core.Bool.{Bool, true, false}
+use mathlib.Core.Bool.{true}
 use mathlib.Core.List.{[], _∷_}
 use lib.Dec.{eqb}
 use Rattle.laws.specs.Choice.{pick}
@@ -11,11 +11,11 @@ use Rattle.terms.specs.declared.letters.Letter.the-variants.{Asks}
 use Rattle.terms.specs.declared.letters.Lettered.the-variants.{Known}
 use Rattle.terms.specs.Letters.{letterOf}
 use Rattle.conflict.specs.declared.action.Action.{Action}
-use Rattle.conflict.specs.declared.action.Mark.{Mark}
 use Rattle.conflict.specs.declared.action.Event.the-variants.{Does, Ends}
 use Rattle.conflict.specs.Modes.{needed, recorded, covers, beside, lets}
 use Rattle.conflict.specs.History.{History}
-use Rattle.desk_rules.specs.Desk.{waiting, Desk, Request}
+use Rattle.desks.specs.Request.{Request}
+use Rattle.desk_rules.specs.Desk.{waiting, Desk}
 
 -- what an action that a step writes was asked by: the step's own request, or, for a wake, the request that its job waits with
 pub data AskedBy (d : Desk) (r : Request) (x : Action) (a : Ask) : Type 0 where
@@ -28,17 +28,6 @@ pub record UnderLock (d : Desk) (x : Action) (a : Ask) : Type 0 where
   pub covered : covers (d .row (x .cell) .held (x .job)) (needed a) ≡ true
   pub lawful : lets (d .row (x .cell) .held (x .job)) (x .kind) ≡ true
   pub besides : (i : ℕ) → i ≢ x .job → beside (d .row (x .cell) .held i) (d .row (x .cell) .held (x .job)) ≡ true
-
--- the history has actions alone, and no mark
-unfoldable pub onlyActions : History → Bool
-onlyActions [] = true
-onlyActions (Does a ∷ h) = onlyActions h
-onlyActions (Ends m j ∷ h) = false
-
--- a history without a mark, or with one mark and that first
-pub data MarkFirst : History → Type 0 where
-  no-mark : {h : History} → onlyActions h ≡ true → MarkFirst h
-  mark : (m : Mark) (j : ℕ) {h : History} → onlyActions h ≡ true → MarkFirst (Ends m j ∷ h)
 
 -- how many records of a job stand in a history
 unfoldable pub recordsFor : ℕ → History → ℕ

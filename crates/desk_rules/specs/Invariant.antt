@@ -10,8 +10,10 @@ use Rattle.terms.specs.Limits.{cells, places}
 use Rattle.conflict.specs.declared.modes.Mode.{Mode}
 use Rattle.conflict.specs.Modes.{needed, covers, beside, grants, isFree}
 use Rattle.laws.specs.Lists.{member}
-use Rattle.desk_rules.specs.Desk.{Status, closed, waiting, Waiter, Row, Desk, isOpen, isLive, In}
+use Rattle.laws.specs.Standing.{In}
+use Rattle.desk_rules.specs.Desk.{Status, closed, waiting, Waiter, Row, Desk, isOpen, isLive}
 use Rattle.desk_rules.specs.Locks.{wants}
+use Rattle.desks.specs.Places.{Once}
 
 -- the queue runs from younger to older
 abbrev pub Falling : List Waiter → Type 0
@@ -39,11 +41,6 @@ pub record RowInv (stat : ℕ → Status) (c : ℕ) (r : Row) : Type 0 where
   pub holds : (j : ℕ) → isFree (r .held j) ≡ false → isLive (stat j) ≡ true
   -- only cells that there are have waiters
   pub within : (w : Waiter) → In w (r .queue) → c < cells
-
--- no number stands twice among the places, 0 for a free place apart
-abbrev pub Once : List ℕ → Type 0
-Once [] = Unit {0}
-Once (k ∷ ks) = (k ≢ 0 → member k ks ≡ false) × Once ks
 
 -- of the desk
 pub record Inv (d : Desk) : Type 0 where

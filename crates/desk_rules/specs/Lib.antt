@@ -1,11 +1,8 @@
-pub mod AnswerWords
 pub mod Desk
 pub mod Locks
-pub mod Stepping
 pub mod Rules
 pub mod Step
 pub mod Table
-pub mod Start
 pub mod Requests
 pub mod Seen
 pub mod Course
@@ -30,8 +27,6 @@ pub mod Refuses
 pub mod Locking
 pub mod Decides
 pub mod Wakes
-pub mod Recorded
-pub mod DeskLimits
 pub mod SerialHistory
 pub mod Examples
 pub mod ChainExamples

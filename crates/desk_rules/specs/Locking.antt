@@ -12,10 +12,13 @@ use Rattle.conflict.specs.Modes.{beside, lets, isFree}
 use Rattle.conflict.specs.Schedule.{agree}
 use Rattle.conflict.specs.History.{History}
 use Rattle.conflict.specs.Runs.{ended}
-use Rattle.desk_rules.specs.Desk.{Request, In, isLive}
+use Rattle.desks.specs.Request.{Request}
+use Rattle.laws.specs.Standing.{In}
+use Rattle.desk_rules.specs.Desk.{isLive}
 use Rattle.desk_rules.specs.Effects.{Keeps}
 use Rattle.desk_rules.specs.Histories.{AskedBy, UnderLock}
-use Rattle.desk_rules.specs.Course.{Course, now, to, records}
+use Rattle.desks.specs.Course.{now, to, records}
+use Rattle.desk_rules.specs.Course.{Course}
 
 pub record Locking (k : Course) (h : History) : Type 0 where
   -- modes held by different jobs on a cell may stand beside each other, and who holds a cell is live

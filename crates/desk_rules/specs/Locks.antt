@@ -7,7 +7,8 @@ use Rattle.laws.specs.Choice.{pick}
 use Rattle.conflict.specs.declared.modes.Mode.{Mode}
 use Rattle.conflict.specs.declared.modes.Mode.the-variants.{Free}
 use Rattle.conflict.specs.Modes.{needed, grants, asked, isFree}
-use Rattle.desk_rules.specs.Desk.{Waiter, Row, at}
+use Rattle.laws.specs.Functions.{at}
+use Rattle.desk_rules.specs.Desk.{Waiter, Row}
 
 -- the test holds of every job of the list
 unfoldable pub every : (ℕ → Bool) → List ℕ → Bool

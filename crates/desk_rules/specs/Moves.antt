@@ -12,10 +12,14 @@ use Rattle.terms.specs.Letters.{letterOf}
 use Rattle.terms.specs.Limits.{lastNumber}
 use Rattle.conflict.specs.declared.modes.Mode.{Mode}
 use Rattle.conflict.specs.Modes.{needed, covers, isFree}
-use Rattle.desk_rules.specs.declared.Answer.the-variants.{Go, Wait, Back}
-use Rattle.desk_rules.specs.Desk.{closed, running, waiting, sentback, isOpen, Waiter, Desk, Request, at, seated, vacated}
+use Rattle.desks.specs.declared.Answer.the-variants.{Go, Wait, Back}
+use Rattle.desks.specs.Request.{Request}
+use Rattle.laws.specs.Functions.{at}
+use Rattle.desks.specs.Places.{seated, vacated}
+use Rattle.desk_rules.specs.Desk.{closed, running, waiting, sentback, isOpen, Waiter, Desk}
 use Rattle.desk_rules.specs.Locks.{agrees, olderThanHolders, olderThanWaiters, isEmpty}
-use Rattle.desk_rules.specs.Rules.{Outcome, refused, withRow, withStatus, rule4}
+use Rattle.desks.specs.Begin.{refused}
+use Rattle.desk_rules.specs.Rules.{Outcome, withRow, withStatus, rule4}
 use Rattle.desk_rules.specs.Table.{Due}
 use Rattle.desk_rules.specs.Asked.{Asking, asker, heldThere, ownMode, askedThere, queueThere}
 

@@ -1,14 +1,17 @@
 -- EVERY PROMISE OF A DESK, said once: of the paper's desk, and of each desk that runs, by what it shows from now on and the history that it has written.
 use Rattle.terms.specs.declared.letters.Ask.{Ask}
 use Rattle.conflict.specs.History.{History}
-use Rattle.desk_rules.specs.Desk.{Request}
-use Rattle.desk_rules.specs.Course.{Course, now}
+use Rattle.desks.specs.DeskLimits.{DeskLimits}
+use Rattle.desks.specs.Numbers.{Numbers}
+use Rattle.desk_rules.specs.Desk.{isOpen}
+use Rattle.desks.specs.Request.{Request}
+use Rattle.desks.specs.Course.{now}
+use Rattle.desk_rules.specs.Course.{Course}
 use Rattle.desk_rules.specs.Refuses.{Refuses}
 use Rattle.desk_rules.specs.StepEffects.{StepEffects}
 use Rattle.desk_rules.specs.Decides.{Decides}
 use Rattle.desk_rules.specs.Wakes.{Wakes}
-use Rattle.desk_rules.specs.Recorded.{Recorded}
-use Rattle.desk_rules.specs.DeskLimits.{DeskLimits}
+use Rattle.desks.specs.Recorded.{Recorded}
 use Rattle.desk_rules.specs.Locking.{Locking}
 use Rattle.desk_rules.specs.SerialHistory.{SerialHistory}
 use Rattle.desk_rules.specs.Service.{Service}
@@ -23,7 +26,8 @@ pub record Promises (h : History) (k : Course) : Type 0 where
   pub decides : (r : Request) (a : Ask) → Decides k r a
   pub wakes : (r : Request) → Wakes k r
   pub recorded : (r : Request) → Recorded k r
-  pub limits : DeskLimits (now k)
+  pub limits : DeskLimits (now k .next) (now k .jobs) (λ j. isOpen (now k .stat j))
+  pub numbers : Numbers (λ d. d .next) k
   -- demand 2: locks, and the history
   pub locking : Locking k h
   pub serial : SerialHistory h

@@ -8,7 +8,9 @@ use Rattle.laws.specs.Lists.{member}
 use Rattle.conflict.specs.declared.modes.Mode.{Mode}
 use Rattle.conflict.specs.declared.modes.Mode.the-variants.{Free}
 use Rattle.conflict.specs.Modes.{covers, beside, grants, isFree}
-use Rattle.desk_rules.specs.Desk.{In, Waiter, Row, Desk, Request}
+use Rattle.desks.specs.Request.{Request}
+use Rattle.laws.specs.Standing.{In}
+use Rattle.desk_rules.specs.Desk.{Waiter, Row, Desk}
 use Rattle.desk_rules.specs.Locks.{without, Settled, wants}
 use Rattle.desk_rules.specs.Invariant.{Falling, FirstBlocked}
 use Rattle.desk_rules.specs.Rules.{Outcome, wakesOf}

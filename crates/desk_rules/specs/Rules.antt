@@ -5,24 +5,21 @@ use mathlib.Core.List.{List, [], _∷_, _++_}
 use lib.Dec.{eqb}
 use Rattle.laws.specs.Choice.{pick}
 use Rattle.terms.specs.declared.letters.Ask.{Ask}
-use Rattle.terms.specs.declared.refusals.Refusal.{Refusal}
 use Rattle.terms.specs.Limits.{cells}
 use Rattle.conflict.specs.declared.modes.Mode.{Mode}
 use Rattle.conflict.specs.declared.action.Action.{Action}
 use Rattle.conflict.specs.Modes.{needed, recorded, covers, asked, isFree}
-use Rattle.desk_rules.specs.declared.Answer.{Answer}
-use Rattle.desk_rules.specs.declared.Answer.the-variants.{Go, Wait, Back, No}
-use Rattle.desk_rules.specs.Desk.{Status, running, waiting, sentback, closed, Waiter, Row, Desk, at, seated, vacated}
-use Rattle.desk_rules.specs.Stepping.{Stepped}
+use Rattle.desks.specs.declared.Answer.{Answer}
+use Rattle.desks.specs.declared.Answer.the-variants.{Go, Wait, Back}
+use Rattle.laws.specs.Functions.{at}
+use Rattle.desks.specs.Places.{seated, vacated}
+use Rattle.desk_rules.specs.Desk.{Status, running, waiting, sentback, closed, Waiter, Row, Desk}
+use Rattle.desks.specs.Stepping.{Stepped}
 use Rattle.desk_rules.specs.Locks.{agrees, olderThanHolders, olderThanWaiters, isEmpty, Settled, released}
 
 -- what a step of the paper's desk leaves and tells
 abbrev pub Outcome : Type 0
 Outcome = Stepped Desk
-
--- a refusal changes nothing and wakes nobody (01, Refusals by number)
-unfoldable pub refused : Desk → Refusal → Outcome
-refused d why = record { desk = d; said = No why; wakes = [] }
 
 -- the desk with another row for one cell
 unfoldable pub withRow : Desk → ℕ → Row → Desk

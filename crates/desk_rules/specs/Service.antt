@@ -10,10 +10,13 @@ use Rattle.terms.specs.declared.letters.Lettered.the-variants.{Known}
 use Rattle.terms.specs.Letters.{letterOf}
 use Rattle.conflict.specs.Modes.{needed, covers, isFree}
 use Rattle.conflict.specs.Runs.{ended}
-use Rattle.desk_rules.specs.declared.Answer.the-variants.{Wait}
-use Rattle.desk_rules.specs.Desk.{running, waiting, Waiter, In, Request, isLive}
+use Rattle.desks.specs.declared.Answer.the-variants.{Wait}
+use Rattle.desks.specs.Request.{Request}
+use Rattle.laws.specs.Standing.{In}
+use Rattle.desk_rules.specs.Desk.{running, waiting, Waiter, isLive}
 use Rattle.desk_rules.specs.Locks.{wants}
-use Rattle.desk_rules.specs.Course.{Course, now, to, later}
+use Rattle.desks.specs.Course.{now, to, later}
+use Rattle.desk_rules.specs.Course.{Course}
 use Rattle.desk_rules.specs.Waiting.{Ahead, InWay, WasInWay, IsWaiting, Chain, Waits, GivesUp, Patient, AllEnd, AtMostInWay, Granted, Served, ServedInTime}
 use Rattle.desk_rules.specs.Asked.{asker}
 

@@ -7,9 +7,11 @@ use Rattle.terms.specs.declared.letters.Ask.{Ask}
 use Rattle.terms.specs.declared.letters.Letter.the-variants.{Begin, Commit, GiveUp, Retry, Asks}
 use Rattle.terms.specs.declared.letters.Lettered.the-variants.{Known}
 use Rattle.terms.specs.Letters.{letterOf}
-use Rattle.desk_rules.specs.declared.Answer.the-variants.{Go, Wait, Back}
-use Rattle.desk_rules.specs.Desk.{closed, sentback, Request}
-use Rattle.desk_rules.specs.Course.{Course, now, to}
+use Rattle.desks.specs.declared.Answer.the-variants.{Go, Wait, Back}
+use Rattle.desks.specs.Request.{Request}
+use Rattle.desk_rules.specs.Desk.{closed, sentback}
+use Rattle.desks.specs.Course.{now, to}
+use Rattle.desk_rules.specs.Course.{Course}
 use Rattle.desk_rules.specs.Effects.{Away, Begins, Retries, Closes, SendsBack, Grants, Exactly, StartsToWait}
 
 pub record StepEffects (k : Course) : Type 0 where

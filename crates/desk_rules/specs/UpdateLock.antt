@@ -17,10 +17,13 @@ use Rattle.conflict.specs.declared.modes.Mode.{Mode}
 use Rattle.conflict.specs.declared.modes.Mode.the-variants.{S, X, I, U}
 use Rattle.conflict.specs.Modes.{needed, covers, shutsOut, isFree, Becomes}
 use Rattle.conflict.specs.Runs.{ended}
-use Rattle.desk_rules.specs.declared.Answer.the-variants.{Go, Back, No}
-use Rattle.desk_rules.specs.Desk.{waiting, Request, In}
+use Rattle.desks.specs.declared.Answer.the-variants.{Go, Back, No}
+use Rattle.desks.specs.Request.{Request}
+use Rattle.laws.specs.Standing.{In}
+use Rattle.desk_rules.specs.Desk.{waiting}
 use Rattle.desk_rules.specs.Asked.{Asking, OtherHolder, Enters, heldThere, ownMode, queueThere}
-use Rattle.desk_rules.specs.Course.{Course, now, to, later, records}
+use Rattle.desks.specs.Course.{now, to, later, records}
+use Rattle.desk_rules.specs.Course.{Course}
 
 -- what a job holds of a cell now
 abbrev pub holding : Course → ℕ → ℕ → Mode

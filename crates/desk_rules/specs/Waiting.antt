@@ -14,10 +14,13 @@ use Rattle.conflict.specs.declared.modes.Mode.{Mode}
 use Rattle.conflict.specs.Modes.{needed, covers, isFree}
 use Rattle.laws.specs.Lists.{member, distinct}
 use Rattle.conflict.specs.Runs.{ended}
-use Rattle.desk_rules.specs.Desk.{running, waiting, Waiter, Row, Desk, Request, isOpen, isLive, In}
+use Rattle.desks.specs.Request.{Request}
+use Rattle.laws.specs.Standing.{In}
+use Rattle.desk_rules.specs.Desk.{running, waiting, Waiter, Row, Desk, isOpen, isLive}
 use Rattle.desk_rules.specs.Locks.{wants}
 use Rattle.desk_rules.specs.Rules.{Outcome, wake}
-use Rattle.desk_rules.specs.Course.{Course, now}
+use Rattle.desks.specs.Course.{now}
+use Rattle.desk_rules.specs.Course.{Course}
 
 -- v stands ahead of w in the queue
 pub data Ahead (v w : Waiter) : List Waiter → Type 0 where

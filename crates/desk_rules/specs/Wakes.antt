@@ -7,14 +7,17 @@ use mathlib.Core.List.{[]}
 use Rattle.laws.specs.Lists.{member}
 use Rattle.terms.specs.declared.letters.Ask.{Ask}
 use Rattle.conflict.specs.declared.action.Action.{Action}
-use Rattle.desk_rules.specs.Desk.{waiting, Request, In}
+use Rattle.desks.specs.Request.{Request}
+use Rattle.laws.specs.Standing.{In}
+use Rattle.desk_rules.specs.Desk.{waiting}
 use Rattle.desk_rules.specs.Rules.{isWoken}
 use Rattle.desk_rules.specs.Table.{named}
 use Rattle.desk_rules.specs.Effects.{RunEnds, WakeTells, WokenWith}
 use Rattle.desk_rules.specs.WakeOrder.{Before, Sooner}
 use Rattle.desk_rules.specs.Releasing.{AllReleased}
 use Rattle.desk_rules.specs.Histories.{recordsFor}
-use Rattle.desk_rules.specs.Course.{Course, now, to, records}
+use Rattle.desks.specs.Course.{now, to, records}
+use Rattle.desk_rules.specs.Course.{Course}
 
 pub record Wakes (k : Course) (r : Request) : Type 0 where
   -- nobody is woken but by a commit, a give-up or a sending back, and then rule 4 is carried out

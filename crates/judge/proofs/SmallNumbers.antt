@@ -10,12 +10,13 @@ use lib.Dec.{ltb, eqb}
 use lib.ListN.{length}
 use Rattle.laws.specs.Choice.{by-test}
 use Rattle.laws.specs.Lists.{put}
+use Rattle.laws.specs.Sorted.{insert, sorted}
 use Rattle.terms.specs.Limits.{judgedJobs, judgedLines}
 use Rattle.conflict.specs.declared.action.Event.the-variants.{Does, Ends}
 use Rattle.conflict.specs.History.{History, isCommit, commitOrder}
 use Rattle.conflict.specs.Dirty.{ReadOf, dirtyOf}
 use Rattle.conflict.proofs.OneEvent.{order-none, order-does, order-ends}
-use Rattle.judge_rules.specs.Judged.{orderly, knotted, insert, sorted, jobsOf, findingOf}
+use Rattle.judge_rules.specs.Judged.{orderly, knotted, jobsOf, findingOf}
 use Rattle.judge_rules.specs.HistoryText.{readingsOf, Faulty, firstFaulty, eventsIn}
 use Rattle.judge_rules.specs.Judgement.{sayFinding, sayHistory, sayLines, judgementOf}
 use Rattle.judge_rules.proofs.Walking.{no-more}

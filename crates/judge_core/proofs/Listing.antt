@@ -11,9 +11,9 @@ use lib.ListN.{length}
 use borrow.Author.Tests.{eqb-true, eqb-false}
 use Rattle.laws.specs.Choice.{by-test, not-both}
 use Rattle.laws.specs.Lists.{member, put}
+use Rattle.laws.specs.Sorted.{under, ascending}
 use Rattle.laws.proofs.Parts.{and-first, and-second, and-both, or-either, or-first, or-second}
-use Rattle.judge_rules.specs.Order.{under, ascending}
-use Rattle.judge_rules.proofs.Sorted.{under-all, ascending-only}
+use Rattle.laws.proofs.Sorted.{under-all, ascending-only}
 use Rattle.judge_core.specs.Lists.{listed}
 
 -- a number that is put in front stands before what follows

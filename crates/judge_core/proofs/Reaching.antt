@@ -11,15 +11,15 @@ use lib.Seq.{take-length}
 use borrow.Author.Tests.{eqb-true, lt-ltb, le-ltb, ltb-true, not-true, not-false}
 use Rattle.laws.specs.Choice.{by-test, not-both}
 use Rattle.laws.specs.Lists.{member}
+use Rattle.laws.specs.Sorted.{under, ascending}
 use Rattle.laws.proofs.Lists.{same-refl, member-first, member-more}
 use Rattle.laws.proofs.Parts.{and-first, and-second, and-both, or-either, or-first, or-second}
+use Rattle.laws.proofs.Sorted.{under-each}
 use Rattle.conflict.specs.declared.action.Kind.{Kind}
 use Rattle.conflict.specs.declared.action.Action.{Action}
 use Rattle.conflict.specs.Schedule.{conflicts}
 use Rattle.conflict.specs.Cells.{inSet}
 use Rattle.conflict.proofs.Conflicting.{conflict-cell}
-use Rattle.judge_rules.specs.Order.{under, ascending}
-use Rattle.judge_rules.proofs.Firsts.{under-each}
 use Rattle.judge_core.specs.Meeting.{kindBy, actionBy, actionAt, clashing, meetsLater, meetings}
 use Rattle.judge_core.specs.Grouped.{Lined}
 use Rattle.judge_core.specs.Reaching.{lastKey, Reach, lastMet, mayMeet, Masked}

@@ -9,11 +9,12 @@ use native.Mathlib.Nat.{zero-add}
 use native.Mathlib.Omega.{arith}
 use lib.ListN.{length, take, drop, length-append, length-take, length-drop}
 use Rattle.laws.specs.Lists.{member, filled}
+use Rattle.laws.specs.Sorted.{ascending}
 use Rattle.conflict.specs.Schedule.{edge}
 use Rattle.conflict.specs.History.{History, committedPart}
 use Rattle.judge_rules.specs.declared.verdict.Verdict.{Verdict}
 use Rattle.judge_rules.specs.declared.verdict.Verdict.the-variants.{Orderly, Knot}
-use Rattle.judge_rules.specs.Order.{Edges, first, preceded, ascending, orderOf, stuck}
+use Rattle.judge_rules.specs.Order.{Edges, first, preceded, orderOf, stuck}
 use Rattle.judge_rules.specs.Knot.{least, upTo, from, walk, turnTo, turn, knotIn}
 use Rattle.judge_rules.specs.Judged.{orderly, knotted, findingBy, judged, jobsOf, findingOf}
 use Rattle.judge_rules.specs.Meant.{Knotted}

@@ -11,10 +11,10 @@ use borrow.Author.Tests.{eqb-true}
 use lib.Dec.{eqb}
 use Rattle.laws.specs.Choice.{not-both}
 use Rattle.laws.specs.Lists.{member}
+use Rattle.laws.specs.Sorted.{under, ascending}
 use Rattle.laws.proofs.Lists.{same-refl}
 use Rattle.laws.proofs.Parts.{and-first, and-second, or-either, or-first, or-second}
-use Rattle.judge_rules.specs.Order.{under, ascending}
-use Rattle.judge_rules.proofs.Firsts.{under-each}
+use Rattle.laws.proofs.Sorted.{under-each}
 use Rattle.judge_core.specs.Meeting.{meetsLater, meetings}
 
 -- what stands at a place of a list is in it

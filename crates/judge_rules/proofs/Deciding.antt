@@ -6,12 +6,12 @@ use mathlib.Core.Logic.{_↔_}
 use mathlib.Core.Bool.{true, false}
 use mathlib.Core.List.{List}
 use Rattle.laws.specs.Choice.{not-both}
+use Rattle.laws.specs.Sorted.{ascending}
 use Rattle.conflict.specs.Schedule.{Schedule, Equivalent, serial, ConflictSerializable, edge, names, Forward}
 use Rattle.conflict.proofs.Edges.{edge-names}
 use Rattle.conflict.proofs.Forward.{forward, forward-serializable}
 use Rattle.conflict.proofs.Backward.{refuted}
 use Rattle.conflict.proofs.CommittedJobs.{names-wider}
-use Rattle.judge_rules.specs.Order.{ascending}
 use Rattle.judge_rules.specs.Judged.{Finding, orderly, knotted, isOrderly, judged}
 use Rattle.judge_rules.specs.Meant.{Orderly}
 use Rattle.judge_rules.proofs.Judging.{says-orderly, says-knot}

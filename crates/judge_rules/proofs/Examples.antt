@@ -5,6 +5,7 @@ use Prim.Native.Nat.{ℕ}
 use mathlib.Core.Path.{_≡_, refl}
 use mathlib.Core.List.{List, [], _∷_, map}
 use Rattle.laws.specs.Lists.{member, put, filled}
+use Rattle.laws.specs.Sorted.{insert, sorted}
 use Rattle.conflict.specs.Modes.{recorded}
 use Rattle.conflict.specs.declared.action.Kind.the-variants.{Read, Write, Increment}
 use Rattle.conflict.specs.declared.action.Mark.the-variants.{Commit, Back}
@@ -19,7 +20,7 @@ use Rattle.text_rules.specs.Lines.{parts, fieldAhead, afterField, isDigit, digi
 use Rattle.text_rules.specs.Split.{inFront, linesOf}
 use Rattle.judge_rules.specs.Order.{preceded, first, ready, without, ends, leads, taken, orderOf, stuck}
 use Rattle.judge_rules.specs.Knot.{predecessor, upTo, from, walk, least, turnTo, turn, knotIn}
-use Rattle.judge_rules.specs.Judged.{Finding, orderly, knotted, findingBy, judged, insert, sorted, jobsOf, findingOf}
+use Rattle.judge_rules.specs.Judged.{Finding, orderly, knotted, findingBy, judged, jobsOf, findingOf}
 use Rattle.judge_rules.specs.HistoryText.{readingsOf, faultOfGood, faultOf, lineFault, endedAfter, orLater, firstFaulty, eventOf, eventsIn, bare}
 use Rattle.judge_rules.specs.Judgement.{sayFinding, sayHistory, sayLines, judgementOf, inNumbers}
 use Rattle.judge_rules.specs.JudgedSet.{tells, told, cases}

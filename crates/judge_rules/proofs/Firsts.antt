@@ -1,18 +1,20 @@
 -- The first job that passes a test: it is there and passes, it is missing only where none does, and in an ascending list it is the smallest that does.
 -- Assumes nothing.
-use Prim.Native.Nat.{ℕ, _≤_, _<_}
+use Prim.Native.Nat.{ℕ, _≤_}
 use mathlib.Core.Path.{_≡_, refl, sym, ap, _∙_}
 use mathlib.Core.Bool.{Bool, true, false}
 use mathlib.Core.List.{List, [], _∷_}
 use mathlib.Core.Option.{Option, none, some}
 use native.Mathlib.Omega.{arith}
-use lib.Dec.{ltb, eqb}
-use borrow.Author.Tests.{eqb-true, ltb-true}
+use lib.Dec.{eqb}
+use borrow.Author.Tests.{eqb-true}
 use Rattle.laws.specs.Choice.{by-test, not-both}
 use Rattle.laws.specs.Lists.{member}
+use Rattle.laws.specs.Sorted.{under, ascending}
 use Rattle.laws.proofs.Lists.{member-first, member-more}
-use Rattle.laws.proofs.Parts.{and-first, and-second, or-either}
-use Rattle.judge_rules.specs.Order.{under, ascending, first}
+use Rattle.laws.proofs.Parts.{and-second, or-either}
+use Rattle.laws.proofs.Sorted.{head-least}
+use Rattle.judge_rules.specs.Order.{first}
 use Rattle.judge_rules.specs.Meant.{Smallest}
 
 -- a proof by whether there is one
@@ -43,21 +45,6 @@ first-none f [] h j m = not-both m refl
 first-none f (k ∷ ks) h j m =
     by-test (f k) (λ t. some-none (rw t at h))
     (λ g. or-either (eqb k j) (member j ks) m (λ e. rw (← eqb-true k j e) g) (λ l. first-none f ks (rw g at h) j l))
-
--- who is smaller than all is smaller than each
-pub under-each : (j : ℕ) (ks : List ℕ) → under j ks ≡ true → (k : ℕ) → member k ks ≡ true → j < k
-unfolding under member
-under-each j [] h k m = not-both m refl
-under-each j (i ∷ ks) h k m =
-    or-either (eqb i k) (member k ks) m (λ e. rw (← eqb-true i k e) (ltb-true j i (and-first (ltb j i) (under j ks) h)))
-    (λ l. under-each j ks (and-second (ltb j i) (under j ks) h) k l)
-
--- the first of an ascending list is the smallest
-pub head-least : (j : ℕ) (js : List ℕ) → ascending (j ∷ js) ≡ true → (k : ℕ) → member k (j ∷ js) ≡ true → j ≤ k
-unfolding ascending member
-head-least j js h k m =
-    or-either (eqb j k) (member k js) m (λ e. let q : j ≡ k = eqb-true j k e in omega arith)
-    (λ l. let q : j < k = under-each j js (and-first (under j js) (ascending js) h) k l in omega arith)
 
 -- in an ascending list the one found is the smallest that passes
 pub first-least : (f : ℕ → Bool) (js : List ℕ) → ascending js ≡ true → (j : ℕ) → first f js ≡ some j → (k : ℕ) → member k js ≡ true → f k ≡ true → j ≤ k

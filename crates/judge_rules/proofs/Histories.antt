@@ -7,16 +7,16 @@ use mathlib.Core.Bool.{true}
 use mathlib.Core.List.{List}
 use Rattle.laws.specs.Choice.{by-test, not-both}
 use Rattle.laws.specs.Lists.{member, distinct}
+use Rattle.laws.specs.Sorted.{ascending}
+use Rattle.laws.proofs.Sorted.{sorted-member, sorted-ascending, ascending-only}
 use Rattle.conflict.specs.Schedule.{Equivalent, serial, ConflictSerializable, edge, names}
 use Rattle.conflict.specs.History.{History, isCommit, marked, committedPart, commitOrder}
 use Rattle.conflict.proofs.Marks.{listed}
 use Rattle.conflict.proofs.CommittedJobs.{committed-part-names}
-use Rattle.judge_rules.specs.Order.{ascending}
 use Rattle.judge_rules.specs.Judged.{Finding, orderly, knotted, isOrderly, jobsOf, findingOf}
 use Rattle.judge_rules.specs.Meant.{Orderly, Knotted, SmallestFirst, Says}
 use Rattle.judge_rules.proofs.Judging.{says-orderly, says-knot, says-smallest-first, judged-exactly}
 use Rattle.judge_rules.proofs.Deciding.{by-finding, knotted-is, said-serial, decides}
-use Rattle.judge_rules.proofs.Sorted.{sorted-member, sorted-ascending, ascending-only}
 
 -- the jobs judged are those with a c
 pub jobs-committed : (h : History) (j : ℕ) → member j (jobsOf h) ≡ marked isCommit j h

@@ -8,8 +8,9 @@ use mathlib.Core.List.{List, [], _∷_, _++_}
 use native.Mathlib.Omega.{arith}
 use Rattle.laws.specs.Choice.{not-both}
 use Rattle.laws.specs.Lists.{member}
+use Rattle.laws.specs.Sorted.{ascending}
 use Rattle.laws.proofs.Lists.{member-first}
-use Rattle.judge_rules.specs.Order.{Edges, ascending, orderOf, stuck}
+use Rattle.judge_rules.specs.Order.{Edges, orderOf, stuck}
 use Rattle.judge_rules.specs.Knot.{knotIn}
 use Rattle.judge_rules.specs.Judged.{Finding, orderly, knotted, findingBy, judged}
 use Rattle.judge_rules.specs.Meant.{Orderly, Knotted, SmallestFirst, Takes, Shown, Says}

@@ -7,15 +7,16 @@ use mathlib.Core.List.{List, [], _∷_, _++_}
 use native.Mathlib.Omega.{arith}
 use lib.ListN.{length}
 use Rattle.laws.specs.Lists.{member, distinct}
+use Rattle.laws.specs.Sorted.{ascending}
 use Rattle.laws.proofs.Lists.{member-first}
 use Rattle.conflict.specs.Schedule.{knot}
 use Rattle.conflict.proofs.Ways.{knot-on}
-use Rattle.judge_rules.specs.Order.{Edges, preceded, ascending}
+use Rattle.judge_rules.specs.Order.{Edges, preceded}
 use Rattle.judge_rules.specs.Knot.{upTo, from, walk, least, turnTo, turn, knotIn}
 use Rattle.judge_rules.specs.Meant.{Smallest, Cycle, Shown}
 use Rattle.judge_rules.specs.Meant.Walk.{starts}
-use Rattle.judge_rules.proofs.Firsts.{head-least}
 use Rattle.laws.proofs.Joined.{not-empty}
+use Rattle.laws.proofs.Sorted.{head-least}
 use Rattle.judge_rules.proofs.Turns.{cut, from-first, least-is, least-low, turned-keeps, turned-member, turned-once}
 use Rattle.judge_rules.proofs.Walking.{cycle-knot, cycle-within, cycle-once, walk-closes}
 

@@ -12,7 +12,6 @@ pub mod Knots
 pub mod OneKnot
 pub mod Judging
 pub mod Deciding
-pub mod Sorted
 pub mod Histories
 pub mod Readings
 pub mod LineFaults
@@ -36,4 +35,5 @@ pub mod VerdictLine
 pub mod Printed
 pub mod VerdictWords
 pub mod TextBack
+pub mod NumberOrder
 pub mod Examples

@@ -7,14 +7,16 @@ use mathlib.Core.List.{List, [], _∷_, _++_}
 use native.Mathlib.Omega.{arith}
 use lib.ListN.{length}
 use Rattle.laws.specs.Lists.{member, distinct}
+use Rattle.laws.specs.Sorted.{ascending}
 use Rattle.laws.proofs.Lists.{member-first, member-more, once-first}
 use Rattle.laws.proofs.Parts.{nor-second}
-use Rattle.judge_rules.specs.Order.{Edges, preceded, ascending}
+use Rattle.judge_rules.specs.Order.{Edges, preceded}
 use Rattle.judge_rules.specs.Knot.{predecessor, walk, least, turnTo, turn, knotIn}
 use Rattle.judge_rules.specs.Meant.{Smallest, Walk, Cycle, Shown}
 use Rattle.judge_rules.specs.Meant.Walk.{starts, goes}
-use Rattle.judge_rules.proofs.Firsts.{head-least, smallest-found}
+use Rattle.judge_rules.proofs.Firsts.{smallest-found}
 use Rattle.laws.proofs.Joined.{member-append, not-empty-mid}
+use Rattle.laws.proofs.Sorted.{head-least}
 use Rattle.judge_rules.proofs.Turns.{upTo-mid, from-mid, least-is, least-low, turned-member, turned-once}
 use Rattle.judge_rules.proofs.Walking.{no-more, walk-within, walk-once, cycle-once, walk-closes}
 use Rattle.judge_rules.proofs.Knots.{start-smallest}

@@ -8,9 +8,10 @@ use borrow.Author.Tests.{eqb-true}
 use lib.Dec.{eqb}
 use Rattle.laws.specs.Choice.{by-test, not-both}
 use Rattle.laws.specs.Lists.{member, distinct, pos}
+use Rattle.laws.specs.Sorted.{ascending}
 use Rattle.laws.proofs.Lists.{first-ahead, pos-both, member-first, member-more}
 use Rattle.laws.proofs.Parts.{and-both, or-either}
-use Rattle.judge_rules.specs.Order.{Edges, without, ascending}
+use Rattle.judge_rules.specs.Order.{Edges, without}
 use Rattle.judge_rules.specs.Meant.{Takes, Orderly}
 use Rattle.judge_rules.specs.Meant.Takes.{stops, takes}
 use Rattle.judge_rules.proofs.Without.{gone, stays, left-before, left-other, ascending-left}

@@ -9,9 +9,10 @@ use borrow.Author.Tests.{eqb-true, not-true, not-false}
 use lib.Dec.{eqb}
 use Rattle.laws.specs.Choice.{not-both}
 use Rattle.laws.specs.Lists.{member}
+use Rattle.laws.specs.Sorted.{ascending}
 use Rattle.laws.proofs.Lists.{member-first, member-more}
 use Rattle.laws.proofs.Parts.{or-either, or-first, or-second}
-use Rattle.judge_rules.specs.Order.{Edges, preceded, ready, ascending}
+use Rattle.judge_rules.specs.Order.{Edges, preceded, ready}
 use Rattle.judge_rules.specs.Meant.{Smallest}
 use Rattle.judge_rules.proofs.Firsts.{first-is, first-none, first-smallest}
 

@@ -14,7 +14,7 @@ use Rattle.laws.specs.Choice.{by-test, not-both}
 use Rattle.terms.specs.declared.refusals.Field.{Field}
 use Rattle.terms.specs.declared.refusals.Field.the-variants.{First}
 use Rattle.terms.specs.declared.refusals.Refusal.{Refusal}
-use Rattle.terms.specs.declared.refusals.Refusal.the-variants.{UnknownKind, CellAbove, NotOpen, Waiting, SentBack, AllOpen, NoNumberLeft, Running, BadLine, StartedAtZero, TooManyLines, JobOutside, Ended, ShortOrder, NoRoom, TooLong, ShortList}
+use Rattle.terms.specs.declared.refusals.Refusal.the-variants.{UnknownKind, CellAbove, NotOpen, Waiting, SentBack, AllOpen, NoNumberLeft, Running, BadLine, StartedAtZero, TooManyLines, JobOutside, Ended, ShortOrder, NoRoom, TooLong, ShortList, NoRetry}
 use Rattle.terms.specs.Letters.{ofHistories, hasCell}
 use Rattle.terms.specs.Limits.{lastNumber}
 use Rattle.conflict.specs.declared.action.Mark.{Mark}
@@ -181,3 +181,4 @@ only-limits ls all n why f = by-row why (due-holds ls n why (f .due))
     by-row NoRoom t = unfold holds in not-both t refl
     by-row TooLong t = unfold holds in not-both t refl
     by-row ShortList t = unfold holds in not-both t refl
+    by-row NoRetry t = unfold holds in not-both t refl

@@ -10,8 +10,9 @@ use borrow.Author.Tests.{eqb-true, not-true}
 use lib.Dec.{eqb}
 use Rattle.laws.specs.Choice.{by-test, not-both}
 use Rattle.laws.specs.Lists.{member}
+use Rattle.laws.specs.Sorted.{ascending}
 use Rattle.laws.proofs.Lists.{member-first, member-later, member-more}
-use Rattle.judge_rules.specs.Order.{Edges, preceded, ready, without, ascending, ends, leads, taken, orderOf, stuck}
+use Rattle.judge_rules.specs.Order.{Edges, preceded, ready, without, ends, leads, taken, orderOf, stuck}
 use Rattle.judge_rules.specs.Meant.{Fits, SmallestFirst, Smallest, Takes}
 use Rattle.judge_rules.specs.Meant.Takes.{stops, takes}
 use Rattle.judge_rules.proofs.Without.{left-before, left-other, ascending-left}

@@ -11,11 +11,12 @@ use borrow.Author.Tests.{eqb-true}
 use lib.Dec.{eqb}
 use Rattle.laws.specs.Choice.{by-test, not-both}
 use Rattle.laws.specs.Lists.{member, distinct}
+use Rattle.laws.specs.Sorted.{ascending}
 use Rattle.laws.proofs.Lists.{member-first, member-more, once-first, once-rest, member-other}
 use Rattle.laws.proofs.Parts.{and-both, or-either}
 use Rattle.conflict.specs.Schedule.{path, knot}
 use Rattle.conflict.proofs.Ways.{path-edge, path-more, knot-of}
-use Rattle.judge_rules.specs.Order.{Edges, preceded, without, ascending}
+use Rattle.judge_rules.specs.Order.{Edges, preceded, without}
 use Rattle.judge_rules.specs.Knot.{predecessor, upTo, walk}
 use Rattle.judge_rules.specs.Meant.{Smallest, Walk, Cycle}
 use Rattle.judge_rules.specs.Meant.Walk.{starts, goes}

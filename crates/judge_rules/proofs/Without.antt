@@ -10,9 +10,10 @@ use lib.Dec.{ltb, eqb}
 use borrow.Author.Tests.{eqb-true}
 use Rattle.laws.specs.Choice.{by-test, not-both}
 use Rattle.laws.specs.Lists.{member}
+use Rattle.laws.specs.Sorted.{under, ascending}
 use Rattle.laws.proofs.Lists.{member-later}
 use Rattle.laws.proofs.Parts.{and-first, and-second, and-both}
-use Rattle.judge_rules.specs.Order.{under, ascending, without}
+use Rattle.judge_rules.specs.Order.{without}
 
 -- the job is gone
 pub gone : (j : ℕ) (ks : List ℕ) → member j (without j ks) ≡ false

@@ -2,8 +2,7 @@
 use Prim.Native.Nat.{ℕ}
 use mathlib.Core.Bool.{Bool, true, false}
 use mathlib.Core.List.{List, [], _∷_}
-use lib.Dec.{ltb, eqb}
-use Rattle.laws.specs.Choice.{pick}
+use Rattle.laws.specs.Sorted.{sorted}
 use Rattle.conflict.specs.Schedule.{edge}
 use Rattle.conflict.specs.History.{History, committedPart, commitOrder}
 use Rattle.judge_rules.specs.Order.{Edges, orderOf, stuck}
@@ -27,16 +26,6 @@ findingBy e order (j ∷ left) = knotted (knotIn e (j ∷ left))
 -- what is found of jobs in ascending order
 unfoldable pub judged : Edges → List ℕ → Finding
 judged e jobs = findingBy e (orderOf e jobs) (stuck e jobs)
-
--- one more job in its place among others in ascending order, where it is not there already
-unfoldable pub insert : ℕ → List ℕ → List ℕ
-insert j [] = j ∷ []
-insert j (k ∷ ks) = pick (ltb j k) (j ∷ k ∷ ks) (pick (eqb j k) (k ∷ ks) (k ∷ insert j ks))
-
--- the jobs in ascending order, each once
-unfoldable pub sorted : List ℕ → List ℕ
-sorted [] = []
-sorted (j ∷ js) = insert j (sorted js)
 
 -- the jobs with a c, in ascending order, each once; a committed job without actions counts too (01, The judge's rules)
 unfoldable pub jobsOf : History → List ℕ

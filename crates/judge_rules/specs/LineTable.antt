@@ -11,7 +11,7 @@ use Rattle.terms.specs.declared.letters.Letter.the-variants.{Begin, Commit, Giv
 use Rattle.terms.specs.declared.refusals.Field.{Field}
 use Rattle.terms.specs.declared.refusals.Field.the-variants.{First, Second, Third, Fourth}
 use Rattle.terms.specs.declared.refusals.Refusal.{Refusal}
-use Rattle.terms.specs.declared.refusals.Refusal.the-variants.{UnknownKind, CellAbove, NotOpen, Waiting, SentBack, AllOpen, NoNumberLeft, Running, BadLine, StartedAtZero, TooManyLines, JobOutside, Ended, ShortOrder, NoRoom, TooLong, ShortList}
+use Rattle.terms.specs.declared.refusals.Refusal.the-variants.{UnknownKind, CellAbove, NotOpen, Waiting, SentBack, AllOpen, NoNumberLeft, Running, BadLine, StartedAtZero, TooManyLines, JobOutside, Ended, ShortOrder, NoRoom, TooLong, ShortList, NoRetry}
 use Rattle.terms.specs.Letters.{hasCell}
 use Rattle.terms.specs.Limits.{cells, judgedJobs, judgedLines}
 use Rattle.terms.specs.Refusals.{fieldNumber}
@@ -84,6 +84,7 @@ holds n before r ShortOrder = false
 holds n before r NoRoom = false
 holds n before r TooLong = false
 holds n before r ShortList = false
+holds n before r NoRetry = false
 
 -- the row of this refusal holds for line n of the lines
 abbrev pub holdsAt : List Reading → ℕ → Refusal → Bool

@@ -1,25 +1,15 @@
 -- The judge's order: of the jobs that are left, the smallest without a predecessor among them is taken away, again and again (01, The judge's rules: Orderly, Knot).
 use Prim.Native.Nat.{ℕ, zero, suc}
-use mathlib.Core.Bool.{Bool, true, false, not, _&&_, _||_}
+use mathlib.Core.Bool.{Bool, false, not, _||_}
 use mathlib.Core.List.{List, [], _∷_}
 use mathlib.Core.Option.{Option, none, some}
 use lib.ListN.{length}
-use lib.Dec.{ltb, eqb}
+use lib.Dec.{eqb}
 use Rattle.laws.specs.Choice.{pick}
 
 -- a test of which job has an edge to which
 abbrev pub Edges : Type 0
 Edges = ℕ → ℕ → Bool
-
--- whether j is smaller than each of the jobs
-unfoldable pub under : ℕ → List ℕ → Bool
-under j [] = true
-under j (k ∷ ks) = ltb j k && under j ks
-
--- whether the jobs stand in ascending order, none twice
-unfoldable pub ascending : List ℕ → Bool
-ascending [] = true
-ascending (j ∷ js) = under j js && ascending js
 
 -- whether some job of those that are left has an edge to j: j has a remaining predecessor
 unfoldable pub preceded : Edges → List ℕ → ℕ → Bool

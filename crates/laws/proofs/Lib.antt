@@ -2,3 +2,9 @@ pub mod Parts
 pub mod Lists
 pub mod Joined
 pub mod Filled
+pub mod Functions
+pub mod Sorted
+pub mod Larger
+pub mod Walking
+pub mod Copies
+pub mod Standing

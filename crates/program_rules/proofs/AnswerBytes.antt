@@ -14,8 +14,8 @@ use Rattle.text_rules.specs.Decimal.{decimal}
 use Rattle.text_rules.specs.Records.{answerRecord}
 use Rattle.text_rules.specs.Split.{joined}
 use Rattle.text_rules.proofs.RecordBytes.{go-bytes, wait-bytes, back-bytes, no-bytes, wake-bytes, nine-bytes}
-use Rattle.desk_rules.specs.declared.Answer.the-variants.{Go, Wait, Back, No}
-use Rattle.desk_rules.specs.AnswerWords.{wordOf, numberBeside, fieldBeside}
+use Rattle.desks.specs.declared.Answer.the-variants.{Go, Wait, Back, No}
+use Rattle.desks.specs.AnswerWords.{wordOf, numberBeside, fieldBeside}
 use Rattle.program_rules.specs.OverLines.{Told, wakeLines, answerLines, written}
 use Rattle.program_rules.specs.Programs.{runOn, answersOf}
 

@@ -11,12 +11,12 @@ use Rattle.text_rules.specs.declared.splitter.Splitter.{Splitter}
 use Rattle.text_rules.specs.Split.{part, following, fresh, linesOf, joined, afterAll, foundIn, foundLast, foundOver, numberedOn}
 use Rattle.text_rules.proofs.Found.{finds-all}
 use Rattle.text_rules.proofs.TextLines.{lines-one}
-use Rattle.desk_arrays.specs.Steps.{emptyDesk}
 use Rattle.program_rules.specs.declared.Clerk.{Clerk}
+use Rattle.program_rules.specs.declared.Method.{Method}
 use Rattle.program_rules.specs.declared.View.{View}
 use Rattle.program_rules.specs.OverLines.{Told, written}
-use Rattle.desk_arrays.specs.Seen.{onArrays}
-use Rattle.program_rules.specs.Programs.{firstNumber, arraysRun}
+use Rattle.program_rules.specs.Desks.{newDesks, onDesks}
+use Rattle.program_rules.specs.Programs.{firstNumber, desksRun}
 use Rattle.program_rules.specs.Work.{startedClerk, viewed, roomy, unended, owing, workOf, finishOf}
 use Rattle.program_rules.specs.Callers.{Course, starts, works, empties, Standing}
 use Rattle.program_rules.specs.Tellings.{tellings, deskAfter, clerkAfter, recordsIn}
@@ -32,26 +32,26 @@ unfolding workOf
 call-did view c chunk from out at h = called (length chunk) view c chunk from out at h .did
 
 -- a call brings a course on
-did-stands : {view : View} {text sent p out then : List ℕ} {c d : Clerk} {at to : ℕ} → Standing view text sent c out at → Did view c p out at d then to → Standing view (text ++ p) sent d then to
-did-stands {view} {text} {sent} {p} {out} {c = c} {at = at} s d =
+did-stands : {m : Method} {view : View} {text sent p out then : List ℕ} {c d : Clerk} {at to : ℕ} → Standing m view text sent c out at → Did view c p out at d then to → Standing m view (text ++ p) sent d then to
+did-stands {m} {view} {text} {sent} {p} {out} {c = c} {at = at} s d =
     record {
-      clerk = d .clerk ∙ ap (λ x. clerkAfter x p) (s .clerk) ∙ sym (clerk-append startedClerk text p);
+      clerk = d .clerk ∙ ap (λ x. clerkAfter x p) (s .clerk) ∙ sym (clerk-append (startedClerk m) text p);
       said =
           ap (λ l. sent ++ l) (d .text)
           ∙ sym (append-assoc sent (take at out) (recordsIn view c p))
           ∙ ap₂ (λ l x. l ++ recordsIn view x p) (s .said) (s .clerk)
-          ∙ sym (records-append view startedClerk text p);
+          ∙ sym (records-append view (startedClerk m) text p);
       within = d .within;
     }
 
 -- writing out does too
-empty-stands : {view : View} {text sent out : List ℕ} {c : Clerk} {at : ℕ} → Standing view text sent c out at → (next : List ℕ) → Standing view text (sent ++ take at out) c next 0
+empty-stands : {m : Method} {view : View} {text sent out : List ℕ} {c : Clerk} {at : ℕ} → Standing m view text sent c out at → (next : List ℕ) → Standing m view text (sent ++ take at out) c next 0
 empty-stands {sent = sent} {out} {at = at} s next = record { clerk = s .clerk; said = append-nil (sent ++ take at out) ∙ s .said; within = omega arith }
 
 -- EVERY COURSE: what has been written out and what still stands in the buffer are the records of the lines that have ended, and the clerk has seen all bytes
-pub course-stands : {view : View} {text sent : List ℕ} {c : Clerk} {out : List ℕ} {at : ℕ} → Course view text sent c out at → Standing view text sent c out at
-course-stands {view} (starts out) = record { clerk = sym (clerk-none startedClerk); said = sym (records-none view startedClerk); within = omega arith }
-course-stands {view} (works {c = c} {out = out} {at = at} k chunk from) = did-stands (course-stands k) (call-did view c chunk from out at (course-stands k .within))
+pub course-stands : {m : Method} {view : View} {text sent : List ℕ} {c : Clerk} {out : List ℕ} {at : ℕ} → Course m view text sent c out at → Standing m view text sent c out at
+course-stands {m} {view} (starts out) = record { clerk = sym (clerk-none (startedClerk m)); said = sym (records-none view (startedClerk m)); within = omega arith }
+course-stands {m} {view} (works {c = c} {out = out} {at = at} k chunk from) = did-stands (course-stands k) (call-did view c chunk from out at (course-stands k .within))
 course-stands (empties k next) = empty-stands (course-stands k) next
 
 -- the lines that are found in a text and at its end are those of the text as one chunk
@@ -60,9 +60,9 @@ unfolding foundOver joined following
 one-chunk text = finds-all (text ∷ []) ∙ ap (λ t. numberedOn 1 (linesOf t)) (append-nil text)
 
 -- told one after another they are the run
-text-told : (text : List ℕ) → tellings onArrays (emptyDesk firstNumber) (foundIn fresh text ++ foundLast (afterAll fresh text)) ≡ arraysRun text
-unfolding arraysRun
-text-told text = ap (tellings onArrays (emptyDesk firstNumber)) (one-chunk text) ∙ tellings-run onArrays (emptyDesk firstNumber) 1 (linesOf text) (lines-one text)
+text-told : (m : Method) (text : List ℕ) → tellings onDesks (newDesks m firstNumber) (foundIn fresh text ++ foundLast (afterAll fresh text)) ≡ desksRun m text
+unfolding desksRun
+text-told m text = ap (tellings onDesks (newDesks m firstNumber)) (one-chunk text) ∙ tellings-run onDesks (newDesks m firstNumber) 1 (linesOf text) (lines-one text)
 
 -- what is written of a line that is owed, or of none
 owed-written : (v : Told → List ℕ) (b : Bool) (t : Told) → written v (pick b (t ∷ []) []) ≡ pick b (v t) []
@@ -75,21 +75,21 @@ abbrev pub owed : View → Splitter → List ℕ
 owed view s = pick (owing s) (viewed view (unended s)) []
 
 -- what the end of the input adds
-pub last-records : (view : View) (text : List ℕ) → recordsIn view startedClerk text ++ owed view (afterAll fresh text) ≡ written (viewed view) (arraysRun text)
+pub last-records : (m : Method) (view : View) (text : List ℕ) → recordsIn view (startedClerk m) text ++ owed view (afterAll fresh text) ≡ written (viewed view) (desksRun m text)
 unfolding recordsIn startedClerk
-last-records view text =
-    let d = emptyDesk firstNumber in
+last-records m view text =
+    let d = newDesks m firstNumber in
     let fs = foundIn fresh text in
     let s = afterAll fresh text in
-    ap (λ l. written (viewed view) (tellings onArrays d fs) ++ l)
-    (sym (ap (written (viewed view)) (last-told onArrays (deskAfter onArrays d fs) s (open-always text)) ∙ owed-written (viewed view) (owing s) (unended s)))
-    ∙ sym (written-append (viewed view) (tellings onArrays d fs) (tellings onArrays (deskAfter onArrays d fs) (foundLast s)))
-    ∙ ap (written (viewed view)) (sym (tellings-append onArrays d fs (foundLast s)) ∙ text-told text)
+    ap (λ l. written (viewed view) (tellings onDesks d fs) ++ l)
+    (sym (ap (written (viewed view)) (last-told onDesks (deskAfter onDesks d fs) s (open-always text)) ∙ owed-written (viewed view) (owing s) (unended s)))
+    ∙ sym (written-append (viewed view) (tellings onDesks d fs) (tellings onDesks (deskAfter onDesks d fs) (foundLast s)))
+    ∙ ap (written (viewed view)) (sym (tellings-append onDesks d fs (foundLast s)) ∙ text-told m text)
 
 -- the splitter of a clerk who has seen the text
-pub seen-splitter : {c : Clerk} (text : List ℕ) → c ≡ clerkAfter startedClerk text → c .splitter ≡ afterAll fresh text
+pub seen-splitter : (m : Method) {c : Clerk} (text : List ℕ) → c ≡ clerkAfter (startedClerk m) text → c .splitter ≡ afterAll fresh text
 unfolding clerkAfter startedClerk
-seen-splitter text e = ap (λ x. x .splitter) e
+seen-splitter m text e = ap (λ x. x .splitter) e
 
 -- the end of the input: its record stands behind the others
 pub finish-take : (view : View) (c : Clerk) (out : List ℕ) (at : ℕ) → at ≤ length out → roomy out at ≡ true →
@@ -99,11 +99,11 @@ finish-take view c out at h g =
     by-test (owing (c .splitter)) (λ e. rw (e, g) (put-take out at (viewed view (unended (c .splitter))) h)) (λ e. rw e (sym (append-nil (take at out))))
 
 -- EVERY COURSE TO ITS END: all that has been written out, with what stands in the buffer once the input has ended, is what is written of the run of the text
-pub course-finishes : {view : View} {text sent : List ℕ} {c : Clerk} {out : List ℕ} {at : ℕ} → Course view text sent c out at → roomy out at ≡ true →
-    sent ++ take (finishOf view c out at .finished .at) (finishOf view c out at .out) ≡ written (viewed view) (arraysRun text)
-course-finishes {view} {text} {sent} {c} {out} {at} k g =
+pub course-finishes : {m : Method} {view : View} {text sent : List ℕ} {c : Clerk} {out : List ℕ} {at : ℕ} → Course m view text sent c out at → roomy out at ≡ true →
+    sent ++ take (finishOf view c out at .finished .at) (finishOf view c out at .out) ≡ written (viewed view) (desksRun m text)
+course-finishes {m} {view} {text} {sent} {c} {out} {at} k g =
     let s = course-stands k in
     ap (λ l. sent ++ l) (finish-take view c out at (s .within) g)
     ∙ sym (append-assoc sent (take at out) (owed view (c .splitter)))
-    ∙ ap₂ (λ l x. l ++ owed view x) (s .said) (seen-splitter text (s .clerk))
-    ∙ last-records view text
+    ∙ ap₂ (λ l x. l ++ owed view x) (s .said) (seen-splitter m text (s .clerk))
+    ∙ last-records m view text

@@ -9,10 +9,11 @@ use borrow.Author.Tests.{le-leb}
 use lib.ListN.{length, take}
 use Rattle.laws.specs.Choice.{by-test}
 use Rattle.program_rules.specs.declared.Clerk.{Clerk}
+use Rattle.program_rules.specs.declared.Method.{Method}
 use Rattle.program_rules.specs.declared.View.{View}
 use Rattle.program_rules.specs.declared.View.the-variants.{Answers, History, Chains}
 use Rattle.program_rules.specs.OverLines.{written}
-use Rattle.program_rules.specs.Programs.{arraysRun}
+use Rattle.program_rules.specs.Programs.{desksRun}
 use Rattle.program_rules.specs.Work.{viewed, lineRoom, roomy, unended, owing, finishOf}
 use Rattle.program_rules.specs.Closing.{closing, closingRoom, programRoom, closeOf, endOf}
 use Rattle.program_rules.specs.Callers.{Course}
@@ -70,9 +71,9 @@ module _ (view : View) (c : Clerk) (out : List ℕ) (at : ℕ) (h : at + program
       close-take view c (f .out) (f .finished .at) (closing-room view c out at h) ∙ ap (λ l. l ++ closing view c) (finish-take view c out at (omega arith) (roomy-at view c out at h))
 
 -- EVERY COURSE TO ITS END: all that has been written out, with what stands in the buffer at the end, is what is written of the run of the text, and then what the program writes last
-pub course-ends : {view : View} {text sent : List ℕ} {c : Clerk} {out : List ℕ} {at : ℕ} → Course view text sent c out at → at + programRoom view ≤ length out →
-    sent ++ take (endOf view c out at .finished .at) (endOf view c out at .out) ≡ written (viewed view) (arraysRun text) ++ closing view c
-course-ends {view} {text} {sent} {c} {out} {at} k h =
+pub course-ends : {m : Method} {view : View} {text sent : List ℕ} {c : Clerk} {out : List ℕ} {at : ℕ} → Course m view text sent c out at → at + programRoom view ≤ length out →
+    sent ++ take (endOf view c out at .finished .at) (endOf view c out at .out) ≡ written (viewed view) (desksRun m text) ++ closing view c
+course-ends {m} {view} {text} {sent} {c} {out} {at} k h =
     let f = finishOf view c out at in
     ap (λ l. sent ++ l) (close-take view c (f .out) (f .finished .at) (closing-room view c out at h))
     ∙ sym (append-assoc sent (take (f .finished .at) (f .out)) (closing view c))

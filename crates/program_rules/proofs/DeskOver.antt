@@ -1,4 +1,4 @@
--- The desk after the lines that a splitter finds is the desk after the lines of the text; so the clerk's desk is that after all lines of what it has seen.
+-- The desk after the lines that a splitter finds is the desk after the lines of the text; so the clerk's desks are those after all lines of what it has seen.
 -- Assumes nothing.
 use Prim.Native.Nat.{ℕ, _+_, _-_, _^_, _≤_, _<_}
 use mathlib.Core.Path.{_≡_, refl, sym, ap, _∙_}
@@ -11,9 +11,9 @@ use Rattle.laws.specs.Choice.{by-test}
 use Rattle.terms.specs.Limits.{requestLines}
 use Rattle.text_rules.specs.Split.{following, fresh, linesOf, oneLine, every, numberedOn, afterAll, foundIn, foundLast}
 use Rattle.text_rules.proofs.TextLines.{lines-one}
-use Rattle.desk_rules.specs.Stepping.{Stepping}
-use Rattle.desk_arrays.specs.Steps.{emptyDesk}
-use Rattle.desk_arrays.specs.Seen.{onArrays}
+use Rattle.desks.specs.Stepping.{Stepping}
+use Rattle.program_rules.specs.declared.Method.{Method}
+use Rattle.program_rules.specs.Desks.{newDesks, onDesks}
 use Rattle.program_rules.specs.OverLines.{lineBy}
 use Rattle.program_rules.specs.Chains.{deskOver}
 use Rattle.program_rules.specs.Programs.{firstNumber}
@@ -50,14 +50,14 @@ module _ {S : Type 0} (step : Stepping S) where
       (λ e. rw e (desk-past d n (l ∷ ls) (ltb-true requestLines n e)))
       (λ e. rw e (desk-first d n l ls (p .0) (ltb-false requestLines n e) ∙ desk-run (lineBy step d n l .desk) (n + 1) ls (p .1)))
 
--- THE CLERK'S DESK: after some bytes it is the desk after the lines of the text, a last line that lacks its newline among them
-pub clerk-desk : (text : List ℕ) → clerkAfter startedClerk text .desk ≡ deskOver onArrays (emptyDesk firstNumber) 1 (linesOf text)
+-- THE CLERK'S DESKS: after some bytes they are the desks after the lines of the text, a last line that lacks its newline among them
+pub clerk-desk : (m : Method) (text : List ℕ) → clerkAfter (startedClerk m) text .desks ≡ deskOver onDesks (newDesks m firstNumber) 1 (linesOf text)
 unfolding clerkAfter startedClerk
-clerk-desk text =
-    let d = emptyDesk firstNumber in
+clerk-desk m text =
+    let d = newDesks m firstNumber in
     let fs = foundIn fresh text in
     let s = afterAll fresh text in
-    sym (last-desk onArrays (deskAfter onArrays d fs) s (open-always text))
-    ∙ sym (desk-append onArrays d fs (foundLast s))
-    ∙ ap (deskAfter onArrays d) (one-chunk text)
-    ∙ desk-run onArrays d 1 (linesOf text) (lines-one text)
+    sym (last-desk onDesks (deskAfter onDesks d fs) s (open-always text))
+    ∙ sym (desk-append onDesks d fs (foundLast s))
+    ∙ ap (deskAfter onDesks d) (one-chunk text)
+    ∙ desk-run onDesks d 1 (linesOf text) (lines-one text)

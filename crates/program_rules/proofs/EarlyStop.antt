@@ -13,11 +13,12 @@ use Rattle.text_rules.specs.declared.splitter.Splitter.{Splitter}
 use Rattle.text_rules.specs.Split.{kept, following, fresh, taken, afterAll, Found, foundAt, foundNow, foundIn}
 use Rattle.text_rules.proofs.Chunks.{after-append}
 use Rattle.program_rules.specs.declared.Clerk.{Clerk}
+use Rattle.program_rules.specs.declared.Method.{Method}
 use Rattle.program_rules.specs.declared.View.{View}
-use Rattle.desk_rules.specs.Stepping.{Stepping}
+use Rattle.desks.specs.Stepping.{Stepping}
 use Rattle.program_rules.specs.OverLines.{written}
-use Rattle.desk_arrays.specs.Seen.{onArrays}
-use Rattle.program_rules.specs.Programs.{arraysRun}
+use Rattle.program_rules.specs.Desks.{onDesks}
+use Rattle.program_rules.specs.Programs.{desksRun}
 use Rattle.program_rules.specs.Work.{startedClerk, viewed, unended, owing, allRead}
 use Rattle.program_rules.specs.Tellings.{tellings, deskAfter, clerkAfter, recordsIn}
 use Rattle.program_rules.proofs.Records.{records-append}
@@ -72,9 +73,9 @@ none-moved step d s (b ∷ t) h =
     past-moved step d (taken s b) (foundIn (taken s b) t) (past-taken s b h) ∙ none-moved step d (taken s b) t (past-read (taken s b) (past-taken s b h))
 
 -- so the desk of a clerk who has read every line stays as it is
-pub desk-stays : (c : Clerk) (t : List ℕ) → allRead (c .splitter) ≡ true → clerkAfter c t .desk ≡ c .desk
+pub desk-stays : (c : Clerk) (t : List ℕ) → allRead (c .splitter) ≡ true → clerkAfter c t .desks ≡ c .desks
 unfolding clerkAfter
-desk-stays c t h = none-moved onArrays (c .desk) (c .splitter) t h
+desk-stays c t h = none-moved onDesks (c .desks) (c .splitter) t h
 
 -- and no line is owed
 none-owed : (s : Splitter) → allRead s ≡ true → owing s ≡ false
@@ -84,23 +85,23 @@ none-owed s h = by-test (s .ended) (λ e. rw e) (λ e. rw (e, lt-leb (s .line) r
 -- a clerk who has read every line writes nothing more
 pub writes-no-more : (view : View) (c : Clerk) (t : List ℕ) → allRead (c .splitter) ≡ true → recordsIn view c t ≡ []
 unfolding recordsIn
-writes-no-more view c t h = ap (written (viewed view)) (none-told onArrays (c .desk) (c .splitter) t h) ∙ unfold written in refl
+writes-no-more view c t h = ap (written (viewed view)) (none-told onDesks (c .desks) (c .splitter) t h) ∙ unfold written in refl
 
 -- what a clerk has written who has read every line is all that is written of the text
-read-written : (view : View) (text : List ℕ) → allRead (afterAll fresh text) ≡ true → recordsIn view startedClerk text ≡ written (viewed view) (arraysRun text)
-read-written view text h =
-    sym (append-nil (recordsIn view startedClerk text))
-    ∙ ap (λ b. recordsIn view startedClerk text ++ pick b (viewed view (unended (afterAll fresh text))) []) (sym (none-owed (afterAll fresh text) h))
-    ∙ last-records view text
+read-written : (m : Method) (view : View) (text : List ℕ) → allRead (afterAll fresh text) ≡ true → recordsIn view (startedClerk m) text ≡ written (viewed view) (desksRun m text)
+read-written m view text h =
+    sym (append-nil (recordsIn view (startedClerk m) text))
+    ∙ ap (λ b. recordsIn view (startedClerk m) text ++ pick b (viewed view (unended (afterAll fresh text))) []) (sym (none-owed (afterAll fresh text) h))
+    ∙ last-records m view text
 
 -- and of the text with whatever follows
-pub more-written : (view : View) (text more : List ℕ) → allRead (afterAll fresh text) ≡ true → recordsIn view startedClerk text ≡ written (viewed view) (arraysRun (text ++ more))
-more-written view text more h =
-    sym (append-nil (recordsIn view startedClerk text))
-    ∙ ap (λ l. recordsIn view startedClerk text ++ l) (sym (writes-no-more view (clerkAfter startedClerk text) more (unfold clerkAfter startedClerk in h)))
-    ∙ sym (records-append view startedClerk text more)
-    ∙ read-written view (text ++ more) (rw (after-append fresh text more) (read-after (afterAll fresh text) more h))
+pub more-written : (m : Method) (view : View) (text more : List ℕ) → allRead (afterAll fresh text) ≡ true → recordsIn view (startedClerk m) text ≡ written (viewed view) (desksRun m (text ++ more))
+more-written m view text more h =
+    sym (append-nil (recordsIn view (startedClerk m) text))
+    ∙ ap (λ l. recordsIn view (startedClerk m) text ++ l) (sym (writes-no-more view (clerkAfter (startedClerk m) text) more (unfold clerkAfter startedClerk in h)))
+    ∙ sym (records-append view (startedClerk m) text more)
+    ∙ read-written m view (text ++ more) (rw (after-append fresh text more) (read-after (afterAll fresh text) more h))
 
 -- so what follows writes nothing
-pub nothing-after : (view : View) (text more : List ℕ) → allRead (afterAll fresh text) ≡ true → written (viewed view) (arraysRun text) ≡ written (viewed view) (arraysRun (text ++ more))
-nothing-after view text more h = sym (read-written view text h) ∙ more-written view text more h
+pub nothing-after : (m : Method) (view : View) (text more : List ℕ) → allRead (afterAll fresh text) ≡ true → written (viewed view) (desksRun m text) ≡ written (viewed view) (desksRun m (text ++ more))
+nothing-after m view text more h = sym (read-written m view text h) ∙ more-written m view text more h

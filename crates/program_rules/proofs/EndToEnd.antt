@@ -1,26 +1,24 @@
 -- From end to end, of texts alone: whatever text comes in, the text that `history` writes is read back by the judge's reader, and where it keeps within the judge's limits the judge says orderly, and so does `verdict` (01, What is delivered; demand 2).
 -- Assumes nothing.
-use Prim.Native.Nat.{ℕ, _≤_, _<_}
-use mathlib.Core.Path.{_≡_, sym, ap, _∙_, subst}
-use mathlib.Core.Logic.{_≢_, _⊎_}
+use Prim.Native.Nat.{ℕ, _≤_}
+use mathlib.Core.Path.{_≡_, sym, _∙_, subst}
+use mathlib.Core.Logic.{_⊎_}
 use mathlib.Core.Bool.{true}
 use mathlib.Core.List.{List, [], _∷_, _++_, map, append-nil}
 use native.Mathlib.Omega.{arith}
-use lib.Dec.{eqb}
 use lib.ListN.{length}
-use borrow.Author.Tests.{eqb-true, eqb-false}
-use Rattle.laws.specs.Choice.{by-test}
 use Rattle.terms.specs.declared.refusals.Refusal.{Refusal}
 use Rattle.terms.specs.declared.refusals.Refusal.the-variants.{TooManyLines, JobOutside}
 use Rattle.laws.specs.Lists.{member, distinct}
-use Rattle.conflict.specs.Schedule.{Equivalent, serial, ConflictSerializable, edge}
+use Rattle.conflict.specs.Schedule.{Equivalent, serial, edge}
 use Rattle.conflict.specs.History.{History, isCommit, marked, committedPart, commitOrder}
 use Rattle.conflict.specs.Dirty.{IsDirty}
-use Rattle.conflict.proofs.DirtyFound.{first-is-dirty}
 use Rattle.conflict.proofs.Marks.{listed}
 use Rattle.text_rules.specs.Decimal.{decimal}
+use Rattle.text_rules.specs.EventRecords.{textOf}
 use Rattle.text_rules.specs.Split.{linesOf, joined}
 use Rattle.desk_rules.specs.Step.{Started}
+use Rattle.desk_rules.proofs.RecordLimits.{recorded-jobs, recorded-cells}
 use Rattle.desk_rules.proofs.Serial.{serial-history}
 use Rattle.judge_rules.specs.declared.verdict.Verdict.the-variants.{Orderly, Knot, Dirty, No}
 use Rattle.judge_rules.specs.HistoryText.{readingsOf, eventsIn}
@@ -31,29 +29,37 @@ use Rattle.judge_rules.specs.LineTable.{FirstFault, AllReadBack, AllFaultless}
 use Rattle.judge_rules.specs.Answers.{InOrder}
 use Rattle.judge_rules.specs.KeepsLimits.{KeepsLimits}
 use Rattle.judge_rules.specs.VerdictLine.{verdictOf}
-use Rattle.judge_rules.proofs.JudgedTexts.{dirty-said, knot-said, knot-said-exactly}
-use Rattle.judge_rules.proofs.ReadBack.{only-limits}
-use Rattle.judge_rules.proofs.Printed.{printed-orderly}
-use Rattle.judge_rules.proofs.Refusing.{short-exactly, line-0-short, refused-exactly}
 use Rattle.program_rules.specs.Programs.{runOn, historyOf}
 use Rattle.program_rules.specs.Shown.{givenIn, historyOn}
 use Rattle.program_rules.proofs.SameShown.{history-is}
 use Rattle.program_rules.proofs.StartedHistory.{history-started, history-jobs}
 use Rattle.program_rules.proofs.HistoryLength.{history-no-longer}
-use Rattle.program_rules.proofs.StartedTexts.{started-read-back, started-says, started-fits, started-faultless, started-orderly, started-order}
+use Rattle.program_rules.proofs.PlainTexts.{Plain, plain-read-back, plain-says, plain-fault, plain-refused, plain-not-dirty, plain-no-knot, plain-fits, plain-faultless, plain-verdict, plain-orderly, plain-order}
 
 module _ (text : List ℕ) where
   -- what is written is the history of a started desk
   started : Started (history-started text .0) (historyOn text)
   started = history-started text .1
 
+  -- so it can be read back
+  pub history-plain : Plain (historyOn text)
+  history-plain = record { jobs = recorded-jobs started; at = recorded-cells started; ends = serial-history started .no-event-after-end }
+
+  -- what holds of the text of that history holds of what `history` writes
+  of-written : (P : List ℕ → Type 0) → P (textOf (historyOn text)) → P (historyOf text)
+  of-written P = subst P (sym (history-is text))
+
+  -- it is not dirty
+  clean : IsDirty (historyOn text) → ⊥
+  clean = serial-history started .never-dirty (historyOn text) [] (sym (append-nil (historyOn text)))
+
   -- THE HISTORY IS READ BACK: no line that `history` writes is a bad line, has a cell above 63, or is for a job that has committed or given up before it
   pub history-read-back : AllReadBack (readingsOf (historyOf text))
-  history-read-back = subst (λ t. AllReadBack (readingsOf t)) (sym (history-is text)) (started-read-back started)
+  history-read-back = of-written (λ t. AllReadBack (readingsOf t)) (plain-read-back history-plain)
 
   -- and its lines say what the desk did
   pub history-says : eventsIn (readingsOf (historyOf text)) ≡ historyOn text
-  history-says = ap (λ t. eventsIn (readingsOf t)) (history-is text) ∙ started-says started
+  history-says = of-written (λ t. eventsIn (readingsOf t) ≡ historyOn text) (plain-says history-plain)
 
   -- the history that is read in what is written
   abbrev pub readIn : History
@@ -74,30 +80,19 @@ module _ (text : List ℕ) where
 
   -- since every line is read back, the first faulty one, if there is one, is line 4,097 or is for a job outside 1 to 255
   pub history-fault : (n : ℕ) (why : Refusal) → FirstFault (readingsOf (historyOf text)) n why → (why ≡ TooManyLines) ⊎ (why ≡ JobOutside)
-  history-fault n why f = only-limits (readingsOf (historyOf text)) history-read-back n why f
+  history-fault n why = of-written (λ t. FirstFault (readingsOf t) n why → (why ≡ TooManyLines) ⊎ (why ≡ JobOutside)) (plain-fault history-plain n why)
 
   -- and where the order buffer has its 255 places, the judge has no other refusal for it
   pub history-refused : (buffer : List ℕ) → 255 ≤ length buffer → (n : ℕ) (why : Refusal) → judgementOf (historyOf text) buffer .said ≡ No n why → (why ≡ TooManyLines) ⊎ (why ≡ JobOutside)
-  history-refused buffer room n why e =
-      by-test (eqb n 0)
-      (λ t.
-      let z : n ≡ 0 = eqb-true n 0 t in
-      let q : judgementOf (historyOf text) buffer .said ≡ No 0 why = rw z at e in
-      let less : length buffer < 255 = short-exactly (historyOf text) buffer .0 (q ∙ ap (No 0) (line-0-short (historyOf text) buffer why q)) in
-      absurd (omega arith))
-      (λ f. let other′ : n ≢ 0 = eqb-false n 0 f in history-fault n why (refused-exactly (historyOf text) buffer n why (omega arith) .0 e .1))
+  history-refused buffer room n why = of-written (λ t. judgementOf t buffer .said ≡ No n why → (why ≡ TooManyLines) ⊎ (why ≡ JobOutside)) (plain-refused history-plain buffer room n why)
 
   -- and the judge never says of it that it is dirty
   pub history-not-dirty : (buffer : List ℕ) (i j : ℕ) → judgementOf (historyOf text) buffer .said ≡ Dirty i j → ⊥
-  history-not-dirty buffer i j e =
-      let d = dirty-said (historyOf text) buffer i j e in
-      history-never-dirty readIn [] (sym (append-nil readIn)) (first-is-dirty readIn i j (d .2 .first))
+  history-not-dirty buffer i j = of-written (λ t. judgementOf t buffer .said ≡ Dirty i j → ⊥) (plain-not-dirty history-plain clean buffer i j)
 
   -- nor does it ever find a knot in it
   pub history-no-knot : (buffer : List ℕ) (n : ℕ) → judgementOf (historyOf text) buffer .said ≡ Knot n → ⊥
-  history-no-knot buffer n e =
-      let k = knot-said (historyOf text) buffer n e in
-      knot-said-exactly (historyOf text) buffer (k .0) (k .1) .0 (n, e) .0 (subst (λ h. ConflictSerializable (committedPart h)) (sym history-says) (serial-history started .serializable))
+  history-no-knot buffer n = of-written (λ t. judgementOf t buffer .said ≡ Knot n → ⊥) (plain-no-knot history-plain (serial-history started .serializable) buffer n)
 
   -- the judge's limits by what comes in alone: at most 255 begins that go, and at most 4,096 lines
   pub small-input : length (givenIn (runOn text)) ≤ 255 → length (linesOf text) ≤ 4_096 → KeepsLimits (historyOn text)
@@ -106,23 +101,25 @@ module _ (text : List ℕ) where
   module _ (limits : KeepsLimits (historyOn text)) where
     -- within the judge's limits no line of it is faulty
     pub history-faultless : AllFaultless (readingsOf (historyOf text))
-    history-faultless = subst (λ t. AllFaultless (readingsOf t)) (sym (history-is text)) (started-faultless started limits)
+    history-faultless = of-written (λ t. AllFaultless (readingsOf t)) (plain-faultless history-plain limits)
 
     -- THE HISTORY IS ORDERLY: the judge says so, with the number of committed jobs
     pub history-orderly : (buffer : List ℕ) → 255 ≤ length buffer → judgementOf (historyOf text) buffer .said ≡ Orderly (length (commitOrder (historyOn text)))
-    history-orderly buffer room = subst (λ t. judgementOf t buffer .said ≡ Orderly (length (commitOrder (historyOn text)))) (sym (history-is text)) (started-orderly started limits buffer room)
+    history-orderly buffer room =
+        of-written (λ t. judgementOf t buffer .said ≡ Orderly (length (commitOrder (historyOn text)))) (plain-orderly history-plain limits (serial-history started .serializable) clean buffer room)
 
     -- and their serial order, smallest first, fills the buffer's first places
     pub history-order : (buffer : List ℕ) → 255 ≤ length buffer → InOrder (historyOn text) buffer (judgementOf (historyOf text) buffer .order) (length (commitOrder (historyOn text)))
-    history-order buffer room = subst (λ t. InOrder (historyOn text) buffer (judgementOf t buffer .order) (length (commitOrder (historyOn text)))) (sym (history-is text)) (started-order started limits buffer room)
+    history-order buffer room =
+        of-written (λ t. InOrder (historyOn text) buffer (judgementOf t buffer .order) (length (commitOrder (historyOn text)))) (plain-order history-plain limits (serial-history started .serializable) clean buffer room)
 
     -- it is no longer than the verdict program reads
     pub history-fits : length (historyOf text) ≤ 65_536
-    history-fits = subst (λ t. length t ≤ 65_536) (sym (history-is text)) (started-fits started limits)
+    history-fits = of-written (λ t. length t ≤ 65_536) (plain-fits history-plain limits)
 
     -- THE VERDICT ON IT: the program `verdict` prints `orderly` and the order that takes at each place the smallest number whose predecessors all stand already, a tab before each job
     pub history-verdict : (order : List ℕ) × SmallestFirst (edge (committedPart (historyOn text))) (jobsOf (historyOn text)) order
         × (verdictOf (historyOf text) ≡ 111 ∷ 114 ∷ 100 ∷ 101 ∷ 114 ∷ 108 ∷ 121 ∷ joined (map (λ j. 9 ∷ decimal j) order) ++ 10 ∷ [])
     history-verdict =
-        let p = printed-orderly (historyOf text) history-fits history-faultless (subst (λ h. ConflictSerializable (committedPart h)) (sym history-says) (serial-history started .serializable)) (history-never-dirty readIn [] (sym (append-nil readIn))) in
-        (p .0, subst (λ h. SmallestFirst (edge (committedPart h)) (jobsOf h) (p .0)) history-says (p .1), p .2)
+        of-written (λ t. (order : List ℕ) × SmallestFirst (edge (committedPart (historyOn text))) (jobsOf (historyOn text)) order × (verdictOf t ≡ 111 ∷ 114 ∷ 100 ∷ 101 ∷ 114 ∷ 108 ∷ 121 ∷ joined (map (λ j. 9 ∷ decimal j) order) ++ 10 ∷ []))
+        (plain-verdict history-plain limits (serial-history started .serializable) clean)

@@ -7,6 +7,7 @@ use mathlib.Core.List.{List, _++_, append-assoc}
 use native.Mathlib.Omega.{arith}
 use lib.ListN.{length, take}
 use Rattle.program_rules.specs.declared.Clerk.{Clerk}
+use Rattle.program_rules.specs.declared.Method.{Method}
 use Rattle.program_rules.specs.declared.View.{View}
 use Rattle.program_rules.specs.Programs.{programOf}
 use Rattle.program_rules.specs.Work.{startedClerk, allRead}
@@ -17,25 +18,25 @@ use Rattle.program_rules.proofs.EarlyStop.{more-written}
 use Rattle.program_rules.proofs.Closings.{close-take, ends-take}
 use Rattle.program_rules.proofs.ChainsWritten.{program-is, closing-stays}
 
-module _ (view : View) (c : Clerk) (text : List ℕ) (e : c ≡ clerkAfter startedClerk text) where
+module _ (m : Method) (view : View) (c : Clerk) (text : List ℕ) (e : c ≡ clerkAfter (startedClerk m) text) where
   -- of a text that the clerk has seen: the records of the lines that have ended, that of a last line that lacks its newline, and what is written last
-  all-parts : (recordsIn view startedClerk text ++ owed view (c .splitter)) ++ closing view c ≡ programOf view text
+  all-parts : (recordsIn view (startedClerk m) text ++ owed view (c .splitter)) ++ closing view c ≡ programOf m view text
   all-parts =
-      ap₂ (λ l x. l ++ closing view x) (ap (λ s. recordsIn view startedClerk text ++ owed view s) (seen-splitter text e) ∙ last-records view text) e ∙ program-is view text
+      ap₂ (λ l x. l ++ closing view x) (ap (λ s. recordsIn view (startedClerk m) text ++ owed view s) (seen-splitter m text e) ∙ last-records m view text) e ∙ program-is m view text
 
   module _ (out : List ℕ) where
     -- the input has ended: what the end puts into the buffer makes it all
-    pub ended-all : programRoom view ≤ length out → recordsIn view startedClerk text ++ take (endOf view c out 0 .finished .at) (endOf view c out 0 .out) ≡ programOf view text
+    pub ended-all : programRoom view ≤ length out → recordsIn view (startedClerk m) text ++ take (endOf view c out 0 .finished .at) (endOf view c out 0 .out) ≡ programOf m view text
     ended-all h =
-        ap (λ l. recordsIn view startedClerk text ++ l) (ends-take view c out 0 (omega arith))
-        ∙ sym (append-assoc (recordsIn view startedClerk text) (owed view (c .splitter)) (closing view c))
+        ap (λ l. recordsIn view (startedClerk m) text ++ l) (ends-take view c out 0 (omega arith))
+        ∙ sym (append-assoc (recordsIn view (startedClerk m) text) (owed view (c .splitter)) (closing view c))
         ∙ all-parts
 
     -- every line has been read: what is written last makes it all, whatever would follow
     pub closed-all : closingRoom view ≤ length out → allRead (c .splitter) ≡ true → (more : List ℕ) →
-        recordsIn view startedClerk text ++ take (closeOf view c out 0 .finished .at) (closeOf view c out 0 .out) ≡ programOf view (text ++ more)
+        recordsIn view (startedClerk m) text ++ take (closeOf view c out 0 .finished .at) (closeOf view c out 0 .out) ≡ programOf m view (text ++ more)
     closed-all h r more =
-        let s = ap allRead (sym (seen-splitter text e)) ∙ r in
-        ap (λ l. recordsIn view startedClerk text ++ l) (close-take view c out 0 (omega arith))
-        ∙ ap₂ (λ a b. a ++ b) (more-written view text more s) (ap (closing view) e ∙ closing-stays view text more s)
-        ∙ program-is view (text ++ more)
+        let s = ap allRead (sym (seen-splitter m text e)) ∙ r in
+        ap (λ l. recordsIn view (startedClerk m) text ++ l) (close-take view c out 0 (omega arith))
+        ∙ ap₂ (λ a b. a ++ b) (more-written m view text more s) (ap (closing view) e ∙ closing-stays m view text more s)
+        ∙ program-is m view (text ++ more)

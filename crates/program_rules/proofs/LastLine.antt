@@ -26,7 +26,7 @@ use Rattle.text_rules.specs.Split.{kept, fresh, taken, afterAll, Sized, foundAt
 use Rattle.text_rules.proofs.Cuts.{taken-ended}
 use Rattle.text_rules.proofs.Held.{fresh-sized, taken-sized}
 use Rattle.text_rules.proofs.GoodLine.{good-is-record}
-use Rattle.desk_rules.specs.Stepping.{Stepping}
+use Rattle.desks.specs.Stepping.{Stepping}
 use Rattle.program_rules.specs.OverLines.{answered, lineBy}
 use Rattle.program_rules.specs.Work.{toldBad, unended, owing}
 use Rattle.program_rules.specs.Tellings.{telling, tellings, deskAfter}

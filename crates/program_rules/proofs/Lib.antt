@@ -11,6 +11,7 @@ pub mod AnyCourse
 pub mod DeskOver
 pub mod Closings
 pub mod WholeProgram
+pub mod TwoDesks
 pub mod ArraysArePaper
 pub mod EarlyStop
 pub mod ChainsWritten
@@ -19,10 +20,11 @@ pub mod Programs
 pub mod SameShown
 pub mod StartedHistory
 pub mod HistoryLength
-pub mod StartedTexts
+pub mod PlainTexts
 pub mod EndToEnd
 pub mod BadLines
 pub mod FromOne
 pub mod MillionLines
 pub mod AnswerBytes
 pub mod ChainBytes
+pub mod StampEndToEnd

@@ -14,14 +14,18 @@ use Rattle.terms.specs.Limits.{requestLines}
 use Rattle.text_rules.specs.Split.{linesOf, joined, oneLine, hasNewline, every}
 use Rattle.text_rules.proofs.TextLines.{lines-one, lines-end, lines-only}
 use Rattle.desk_rules.specs.Desk.{freshDesk}
+use Rattle.stamp_rules.specs.Desk.{freshDesk as stamp-fresh}
+use Rattle.stamp_rules.specs.Step.{step as stamp-step}
+use Rattle.program_rules.specs.declared.Method.{Method}
+use Rattle.program_rules.specs.declared.Method.the-variants.{Locks, Stamps}
 use Rattle.program_rules.specs.declared.View.{View}
 use Rattle.program_rules.specs.declared.View.the-variants.{Answers, History, Chains}
 use Rattle.desk_rules.specs.Step.{step}
 use Rattle.desk_rules.specs.Chain.{allChains}
-use Rattle.desk_rules.specs.Stepping.{Stepping}
+use Rattle.desks.specs.Stepping.{Stepping}
 use Rattle.program_rules.specs.OverLines.{Told, lineBy, runOf, answerLines, historyLines, written}
 use Rattle.program_rules.specs.Chains.{deskOver, chainText}
-use Rattle.program_rules.specs.Programs.{firstNumber, runOn, deskOn, answersOf, historyOf, chainsOf, programOf}
+use Rattle.program_rules.specs.Programs.{firstNumber, runOn, stampRunOn, runBy, deskOn, answersOf, historyOf, chainsOf, stampAnswersOf, stampHistoryOf, programOf}
 
 -- what holds of every line holds of the first ones
 first-every : (f : List ℕ → Bool) (n : ℕ) (ls : List (List ℕ)) → every f ls ≡ true → every f (take n ls) ≡ true
@@ -77,26 +81,34 @@ module _ {S : Type 0} (step : Stepping S) where
   run-all d n [] h = refl
   run-all d n (l ∷ ls) h = rw (le-ltb requestLines n (omega arith)) (ap suc (run-all (lineBy step d n l .desk) (n + 1) ls (omega arith)))
 
--- EACH LINE HAS ITS ANSWER: of a text of at most 1,000,000 lines as many answers are told as it has lines
-pub all-lines-told : (text : List ℕ) → length (linesOf text) ≤ 1_000_000 → length (runOn text) ≡ length (linesOf text)
-unfolding runOn
-all-lines-told text h = run-all step (freshDesk firstNumber) 1 (linesOf text) (omega arith)
+-- EACH LINE HAS ITS ANSWER: of a text of at most 1,000,000 lines as many answers are told as it has lines, by either method
+pub all-lines-told : (m : Method) (text : List ℕ) → length (linesOf text) ≤ 1_000_000 → length (runBy m text) ≡ length (linesOf text)
+unfolding runBy runOn stampRunOn
+all-lines-told Locks text h = run-all step (freshDesk firstNumber) 1 (linesOf text) (omega arith)
+all-lines-told Stamps text h = run-all stamp-step (stamp-fresh firstNumber) 1 (linesOf text) (omega arith)
 
--- the run of a text is that of its first 1,000,000 lines
-run-million : (text : List ℕ) → runOn text ≡ runOn (joined (take 1_000_000 (linesOf text)))
-unfolding runOn
-run-million text =
-    sym (run-first step (freshDesk firstNumber) 1 1_000_000 (linesOf text) (omega arith)) ∙ ap (runOf step (freshDesk firstNumber) 1) (sym (first-lines 1_000_000 text))
+-- the run of the lines of a text is that of its first 1,000,000 lines, on any desk
+run-million : {S : Type 0} (step : Stepping S) (d : S) (text : List ℕ) → runOf step d 1 (linesOf text) ≡ runOf step d 1 (linesOf (joined (take 1_000_000 (linesOf text))))
+run-million step d text = sym (run-first step d 1 1_000_000 (linesOf text) (omega arith)) ∙ ap (runOf step d 1) (sym (first-lines 1_000_000 text))
 
--- and so is the desk after it
+-- so is that on the fresh desk of a method
+by-million : (m : Method) (text : List ℕ) → runBy m text ≡ runBy m (joined (take 1_000_000 (linesOf text)))
+unfolding runBy runOn stampRunOn
+by-million Locks text = run-million step (freshDesk firstNumber) text
+by-million Stamps text = run-million stamp-step (stamp-fresh firstNumber) text
+
+-- and so is the paper's desk after it
 desk-million : (text : List ℕ) → deskOn text ≡ deskOn (joined (take 1_000_000 (linesOf text)))
 unfolding deskOn
 desk-million text =
     sym (over-first step (freshDesk firstNumber) 1 1_000_000 (linesOf text) (omega arith)) ∙ ap (deskOver step (freshDesk firstNumber) 1) (sym (first-lines 1_000_000 text))
 
 -- A MILLION LINES: each program writes of a text what it writes of the text's first 1,000,000 lines
-pub million-lines : (view : View) (text : List ℕ) → programOf view text ≡ programOf view (joined (take 1_000_000 (linesOf text)))
-unfolding programOf answersOf historyOf chainsOf
-million-lines Answers text = ap (written answerLines) (run-million text)
-million-lines History text = ap (written historyLines) (run-million text)
-million-lines Chains text = ap (λ d. chainText (allChains d)) (desk-million text)
+pub million-lines : (m : Method) (view : View) (text : List ℕ) → programOf m view text ≡ programOf m view (joined (take 1_000_000 (linesOf text)))
+unfolding programOf answersOf historyOf chainsOf stampAnswersOf stampHistoryOf runBy
+million-lines Locks Answers text = ap (written answerLines) (by-million Locks text)
+million-lines Locks History text = ap (written historyLines) (by-million Locks text)
+million-lines Locks Chains text = ap (λ d. chainText (allChains d)) (desk-million text)
+million-lines Stamps Answers text = ap (written answerLines) (by-million Stamps text)
+million-lines Stamps History text = ap (written historyLines) (by-million Stamps text)
+million-lines Stamps Chains text = refl

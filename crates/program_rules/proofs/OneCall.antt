@@ -14,11 +14,11 @@ use Rattle.text_rules.specs.declared.splitter.Splitter.{Splitter}
 use Rattle.text_rules.specs.Split.{part, cutOf, foundAt, foundNow}
 use Rattle.text_rules.specs.Wrote.{putFrom}
 use Rattle.text_rules.proofs.Cuts.{cut-ahead}
-use Rattle.desk_arrays.specs.declared.state.Desk.{Desk}
 use Rattle.program_rules.specs.declared.Clerk.{Clerk}
+use Rattle.program_rules.specs.declared.Desks.{Desks}
 use Rattle.program_rules.specs.declared.View.{View}
 use Rattle.program_rules.specs.OverLines.{Told, Lined, written}
-use Rattle.desk_arrays.specs.Seen.{onArrays}
+use Rattle.program_rules.specs.Desks.{onDesks}
 use Rattle.program_rules.specs.Work.{viewed, roomy, due, answering, turning, cutting, Working, stopped, workBy}
 use Rattle.program_rules.specs.Tellings.{telling, tellings, deskAfter, clerkAfter, recordsIn}
 use Rattle.program_rules.proofs.Parts.{part-none, part-split, cut-leads, cut-finds}
@@ -89,41 +89,41 @@ module _ (view : View) (c : Clerk) (chunk : List ℕ) (from : ℕ) (h : from < l
   line = part chunk from (cutOf (c .splitter) chunk from .next)
 
   -- the line that ends in them, answered
-  abbrev told : Lined Desk
-  told = telling onArrays (c .desk) (foundAt cut)
+  abbrev told : Lined Desks
+  told = telling onDesks (c .desks) (foundAt cut)
 
   -- the records of the bytes are those of the line that the cut finds
-  line-records : recordsIn view c line ≡ written (viewed view) (tellings onArrays (c .desk) (foundNow cut))
+  line-records : recordsIn view c line ≡ written (viewed view) (tellings onDesks (c .desks) (foundNow cut))
   unfolding recordsIn
-  line-records = ap (λ fs. written (viewed view) (tellings onArrays (c .desk) fs)) (cut-finds (c .splitter) chunk from h)
+  line-records = ap (λ fs. written (viewed view) (tellings onDesks (c .desks) fs)) (cut-finds (c .splitter) chunk from h)
 
   -- and so is the clerk
-  line-clerk : clerkAfter c line ≡ record { desk = deskAfter onArrays (c .desk) (foundNow cut); splitter = cut }
+  line-clerk : clerkAfter c line ≡ record { desks = deskAfter onDesks (c .desks) (foundNow cut); splitter = cut }
   unfolding clerkAfter
-  line-clerk = λ i. record { desk = deskAfter onArrays (c .desk) (cut-finds (c .splitter) chunk from h i); splitter = cut-leads (c .splitter) chunk from i }
+  line-clerk = λ i. record { desks = deskAfter onDesks (c .desks) (cut-finds (c .splitter) chunk from h i); splitter = cut-leads (c .splitter) chunk from i }
 
   module _ (out : List ℕ) (at : ℕ) (g : at ≤ length out) where
     -- a line that is answered
-    answered-did : due cut ≡ true → Did view c line out at (record { desk = told .desk; splitter = cut }) (putFrom out at (viewed view (told .told))) (at + length (viewed view (told .told)))
+    answered-did : due cut ≡ true → Did view c line out at (record { desks = told .desk; splitter = cut }) (putFrom out at (viewed view (told .told))) (at + length (viewed view (told .told)))
     answered-did e =
         let l = put-length out at (viewed view (told .told)) g in
         record {
-          clerk = (λ i. record { desk = sym (due-desk (c .desk) cut e) i; splitter = cut }) ∙ sym line-clerk;
+          clerk = (λ i. record { desks = sym (due-desk (c .desks) cut e) i; splitter = cut }) ∙ sym line-clerk;
           text =
               put-take out at (viewed view (told .told)) g
-              ∙ ap (λ r. take at out ++ r) (sym (line-records ∙ ap (written (viewed view)) (due-told (c .desk) cut e) ∙ written-one (viewed view) (told .told)));
+              ∙ ap (λ r. take at out ++ r) (sym (line-records ∙ ap (written (viewed view)) (due-told (c .desks) cut e) ∙ written-one (viewed view) (told .told)));
           within = l .0;
           long = l .1;
         }
 
     -- a line that is not
-    passed-did : due cut ≡ false → Did view c line out at (record { desk = c .desk; splitter = cut }) out at
+    passed-did : due cut ≡ false → Did view c line out at (record { desks = c .desks; splitter = cut }) out at
     passed-did e =
         record {
-          clerk = (λ i. record { desk = sym (not-due-desk (c .desk) cut e) i; splitter = cut }) ∙ sym line-clerk;
+          clerk = (λ i. record { desks = sym (not-due-desk (c .desks) cut e) i; splitter = cut }) ∙ sym line-clerk;
           text =
               sym (append-nil (take at out))
-              ∙ ap (λ r. take at out ++ r) (sym (line-records ∙ ap (written (viewed view)) (not-due-told (c .desk) cut e) ∙ written-none (viewed view)));
+              ∙ ap (λ r. take at out ++ r) (sym (line-records ∙ ap (written (viewed view)) (not-due-told (c .desks) cut e) ∙ written-none (viewed view)));
           within = g;
           long = omega arith;
         }

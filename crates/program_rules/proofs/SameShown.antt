@@ -10,14 +10,14 @@ use Rattle.terms.specs.Letters.{letterOf}
 use Rattle.conflict.specs.declared.action.Action.{Action}
 use Rattle.conflict.specs.declared.action.Event.the-variants.{Does, Ends}
 use Rattle.conflict.specs.History.{History}
-use Rattle.desk_rules.specs.declared.Answer.{Answer}
-use Rattle.desk_rules.specs.declared.Answer.the-variants.{Go, Wait, Back as goes-back, No}
-use Rattle.desk_rules.specs.Desk.{Request}
-use Rattle.desk_rules.specs.Step.{wentBy, ownRecords, wakeRecords, recordsOf}
+use Rattle.desks.specs.declared.Answer.{Answer}
+use Rattle.desks.specs.declared.Answer.the-variants.{Go, Wait, Back as goes-back, No}
+use Rattle.desks.specs.Request.{Request}
+use Rattle.desks.specs.Records.{wentBy, ownRecords, wakeRecords, recordsOf}
 use Rattle.text_rules.specs.EventRecords.{textOf}
 use Rattle.text_rules.proofs.RecordLines.{text-append}
 use Rattle.program_rules.specs.OverLines.{Told, historyLines, written}
-use Rattle.program_rules.specs.Programs.{runOn, historyOf}
+use Rattle.program_rules.specs.Programs.{runOn, historyOf, stampRunOn, stampHistoryOf}
 use Rattle.program_rules.specs.Shown.{granted, ended, goShows, answerShows, wakesShow, answersShow, answersShowAll, historyShows, historyOfRun}
 
 -- what some records show and then others
@@ -76,3 +76,8 @@ run-written (t ∷ ts) =
 pub history-is : (text : List ℕ) → historyOf text ≡ textOf (historyOfRun (runOn text))
 unfolding historyOf
 history-is text = run-written (runOn text)
+
+-- and so does the timestamp desk's (02, No. 6)
+pub stamp-history-is : (text : List ℕ) → stampHistoryOf text ≡ textOf (historyOfRun (stampRunOn text))
+unfolding stampHistoryOf
+stamp-history-is text = run-written (stampRunOn text)

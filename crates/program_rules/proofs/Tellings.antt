@@ -13,7 +13,7 @@ use Rattle.terms.specs.Letters.{ofRequests}
 use Rattle.terms.specs.Limits.{requestLines}
 use Rattle.text_rules.specs.Split.{kept, following, oneLine, every, Found, numberedOn}
 use Rattle.text_rules.proofs.ShortLines.{short-reads}
-use Rattle.desk_rules.specs.Stepping.{Stepping}
+use Rattle.desks.specs.Stepping.{Stepping}
 use Rattle.program_rules.specs.OverLines.{answered, lineBy, runOf}
 use Rattle.program_rules.specs.Tellings.{telling, tellings, deskAfter}
 

@@ -6,12 +6,12 @@ use mathlib.Core.Bool.{true, false}
 use mathlib.Core.List.{List}
 use native.Mathlib.Omega.{arith}
 use lib.Dec.{leb}
-use lib.ListN.{length, take}
+use lib.ListN.{length}
 use borrow.Author.Tests.{lt-ltb, le-ltb, leb-true}
 use Rattle.laws.specs.Choice.{by-test, not-both}
 use Rattle.terms.specs.declared.letters.Letter.{Letter}
 use Rattle.terms.specs.declared.refusals.Field.{Field}
-use Rattle.terms.specs.Letters.{byteOf, ofRequests}
+use Rattle.terms.specs.Letters.{ofRequests}
 use Rattle.terms.specs.Limits.{requestLines}
 use Rattle.text_rules.specs.declared.Reading.the-variants.{Good, Bad}
 use Rattle.text_rules.specs.declared.splitter.Splitter.{Splitter}
@@ -19,13 +19,12 @@ use Rattle.text_rules.specs.Lines.{readLine}
 use Rattle.text_rules.specs.Split.{cutOf, foundAt}
 use Rattle.text_rules.specs.Wrote.{Wrote, putFrom}
 use Rattle.text_rules.proofs.Cuts.{cut-ahead}
-use Rattle.desk_arrays.specs.declared.state.Said.{Said}
-use Rattle.desk_arrays.specs.declared.state.Outcome.{Outcome}
-use Rattle.desk_arrays.specs.Steps.{stepOf}
+use Rattle.desks.specs.Stepping.{Stepped}
 use Rattle.program_rules.specs.declared.Clerk.{Clerk}
+use Rattle.program_rules.specs.declared.Desks.{Desks}
 use Rattle.program_rules.specs.declared.View.{View}
-use Rattle.program_rules.specs.OverLines.{Told, answered, lineBy}
-use Rattle.desk_arrays.specs.Stands.{wakesTold}
+use Rattle.program_rules.specs.OverLines.{asked, toldBy, answered, lineBy}
+use Rattle.program_rules.specs.Desks.{onDesks}
 use Rattle.program_rules.specs.Work.{viewed, roomy, due, toldBad, Turn, answering, turning, cutting, stopped, workBy}
 
 module _ (view : View) (c : Clerk) (chunk : List ℕ) (from : ℕ) (out : List ℕ) (at : ℕ) where
@@ -64,11 +63,6 @@ turn-is : (c : Clerk) {at to : ℕ} {bytes out after : List ℕ} → Wrote at to
     _≡_ {A = Turn} (record { clerk = c; at = at + length bytes; out = putFrom out at bytes }) (record { clerk = c; at = to; out = after })
 turn-is c w = λ i. record { clerk = c; at = sym (w .ends) i; out = sym (put-is w) i }
 
--- what is told of a good line whose request has had this answer
-abbrev pub toldBy : ℕ → Letter → ℕ → ℕ → Said → Told
-toldBy line l job cell said =
-    record { line = line; request = record { kind = byteOf l; job = job; cell = cell }; said = said .answer; wakes = take (said .count) (said .wakes) }
-
 module _ (view : View) (c : Clerk) (out : List ℕ) (at : ℕ) where
   -- no line is to be answered: nothing changes
   pub turn-passes : due (c .splitter) ≡ false → turning view c out at ≡ record { clerk = c; at = at; out = out }
@@ -83,15 +77,15 @@ module _ (view : View) (c : Clerk) (out : List ℕ) (at : ℕ) where
   turn-bad e f w = rw (e, f) (turn-is c w)
 
   -- a good line
-  pub turn-good : {l : Letter} {job cell to : ℕ} {o : Outcome} {after : List ℕ} → due (c .splitter) ≡ true → readLine ofRequests (foundAt (c .splitter) .bytes) ≡ Good l job cell →
-      o ≡ stepOf (c .desk) (byteOf l) job cell → Wrote at to (viewed view (toldBy (c .splitter .line) l job cell (o .said))) out after →
-      turning view c out at ≡ record { clerk = record { desk = o .desk; splitter = c .splitter }; at = to; out = after }
-  unfolding turning answering lineBy answered wakesTold
+  pub turn-good : {l : Letter} {job cell to : ℕ} {o : Stepped Desks} {after : List ℕ} → due (c .splitter) ≡ true → readLine ofRequests (foundAt (c .splitter) .bytes) ≡ Good l job cell →
+      o ≡ onDesks (c .desks) (asked l job cell) → Wrote at to (viewed view (toldBy (c .splitter .line) (asked l job cell) o)) out after →
+      turning view c out at ≡ record { clerk = record { desks = o .desk; splitter = c .splitter }; at = to; out = after }
+  unfolding turning answering lineBy answered
   turn-good {l} {job} {cell} {to} {o} {after} e f s =
       subst
-      (λ (x : Outcome). Wrote at to (viewed view (toldBy (c .splitter .line) l job cell (x .said))) out after → turning view c out at ≡ record { clerk = record { desk = x .desk; splitter = c .splitter }; at = to; out = after })
+      (λ (x : Stepped Desks). Wrote at to (viewed view (toldBy (c .splitter .line) (asked l job cell) x)) out after → turning view c out at ≡ record { clerk = record { desks = x .desk; splitter = c .splitter }; at = to; out = after })
       (sym s)
-      (λ w. rw (e, f) (turn-is (record { desk = stepOf (c .desk) (byteOf l) job cell .desk; splitter = c .splitter }) w))
+      (λ w. rw (e, f) (turn-is (record { desks = onDesks (c .desks) (asked l job cell) .desk; splitter = c .splitter }) w))
 
 -- the number of a line that is to be answered is at most 1,000,000
 pub due-line : (s : Splitter) → due s ≡ true → s .line ≤ requestLines

@@ -6,28 +6,29 @@ use lib.ListN.{length, take}
 use Rattle.laws.specs.Choice.{pick}
 use Rattle.text_rules.specs.Split.{part}
 use Rattle.program_rules.specs.declared.Clerk.{Clerk}
+use Rattle.program_rules.specs.declared.Method.{Method}
 use Rattle.program_rules.specs.declared.View.{View}
 use Rattle.program_rules.specs.Work.{startedClerk, workOf}
 use Rattle.program_rules.specs.Closing.{endOf}
 use Rattle.program_rules.specs.Tellings.{clerkAfter, recordsIn}
 
 -- any course of calls: the bytes that the clerk has worked on, what has been written out, the clerk, the buffer, and the place after its last record
-pub data Course (view : View) : List ℕ → List ℕ → Clerk → List ℕ → ℕ → Type 0 where
+pub data Course (m : Method) (view : View) : List ℕ → List ℕ → Clerk → List ℕ → ℕ → Type 0 where
   -- a caller starts with any buffer
-  starts : (out : List ℕ) → Course view [] [] startedClerk out 0
+  starts : (out : List ℕ) → Course m view [] [] (startedClerk m) out 0
   -- he may call the work on any chunk, from any place
-  works : {text sent : List ℕ} {c : Clerk} {out : List ℕ} {at : ℕ} → Course view text sent c out at → (chunk : List ℕ) (from : ℕ) →
-      Course view (text ++ part chunk from (workOf view c chunk from out at .worked .next)) sent
+  works : {text sent : List ℕ} {c : Clerk} {out : List ℕ} {at : ℕ} → Course m view text sent c out at → (chunk : List ℕ) (from : ℕ) →
+      Course m view (text ++ part chunk from (workOf view c chunk from out at .worked .next)) sent
       (workOf view c chunk from out at .worked .clerk)
       (workOf view c chunk from out at .out)
       (workOf view c chunk from out at .worked .at)
   -- and at any time he may write out what stands in the buffer, and go on with any buffer
-  empties : {text sent : List ℕ} {c : Clerk} {out : List ℕ} {at : ℕ} → Course view text sent c out at → (next : List ℕ) → Course view text (sent ++ take at out) c next 0
+  empties : {text sent : List ℕ} {c : Clerk} {out : List ℕ} {at : ℕ} → Course m view text sent c out at → (next : List ℕ) → Course m view text (sent ++ take at out) c next 0
 
 -- where a course has come to: the clerk has seen all bytes, and what has been written out and what still stands in the buffer are the records of the lines that have ended
-pub record Standing (view : View) (text sent : List ℕ) (c : Clerk) (out : List ℕ) (at : ℕ) : Type 0 where
-  pub clerk : c ≡ clerkAfter startedClerk text
-  pub said : sent ++ take at out ≡ recordsIn view startedClerk text
+pub record Standing (m : Method) (view : View) (text sent : List ℕ) (c : Clerk) (out : List ℕ) (at : ℕ) : Type 0 where
+  pub clerk : c ≡ clerkAfter (startedClerk m) text
+  pub said : sent ++ take at out ≡ recordsIn view (startedClerk m) text
   pub within : at ≤ length out
 
 -- the programs' caller between two calls: the clerk, what has been written out, and the buffer
@@ -51,8 +52,8 @@ callsOver view s [] = s
 callsOver view s (c ∷ cs) = callsOver view (callsOn (suc (length c)) view s c 0) cs
 
 -- all that he has written out when the input has ended, for the chunks that he has read and the buffer that he has
-unfoldable pub sentOver : View → List ℕ → List (List ℕ) → List ℕ
-sentOver view out chunks =
-    let s = callsOver view (record { clerk = startedClerk; sent = []; out = out }) chunks in
+unfoldable pub sentOver : Method → View → List ℕ → List (List ℕ) → List ℕ
+sentOver m view out chunks =
+    let s = callsOver view (record { clerk = startedClerk m; sent = []; out = out }) chunks in
     let e = endOf view (s .clerk) (s .out) 0 in
     s .sent ++ take (e .finished .at) (e .out)

@@ -5,7 +5,7 @@ use lib.Dec.{ltb}
 use Rattle.laws.specs.Choice.{pick}
 use Rattle.terms.specs.Limits.{requestLines}
 use Rattle.text_rules.specs.Records.{jobsLine}
-use Rattle.desk_rules.specs.Stepping.{Stepping}
+use Rattle.desks.specs.Stepping.{Stepping}
 use Rattle.program_rules.specs.OverLines.{lineBy}
 
 -- the desk after lines numbered from n on; after 1,000,000 lines nothing is read (01, Lines)

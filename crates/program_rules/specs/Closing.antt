@@ -1,4 +1,4 @@
--- What a program writes once its last line has been answered, and how the clerk puts that into the buffer: the chains of those who wait (02, No. 3).
+-- What a program writes once its last line has been answered, and how the clerk puts that into the buffer: the chains of those who wait (02, Nos. 3 and 6).
 use Prim.Native.Nat.{ℕ, _+_, _*_}
 use mathlib.Core.Bool.{true, false}
 use mathlib.Core.List.{List, []}
@@ -9,16 +9,24 @@ use Rattle.terms.specs.Limits.{places}
 use Rattle.text_rules.specs.Wrote.{putFrom}
 use Rattle.desk_chain.specs.Chains.{chainsOn}
 use Rattle.program_rules.specs.declared.Clerk.{Clerk}
+use Rattle.program_rules.specs.declared.Desks.{Desks}
+use Rattle.program_rules.specs.declared.Method.{Method}
+use Rattle.program_rules.specs.declared.Method.the-variants.{Locks, Stamps}
 use Rattle.program_rules.specs.declared.View.{View}
 use Rattle.program_rules.specs.declared.View.the-variants.{Answers, History, Chains}
 use Rattle.program_rules.specs.Chains.{chainText}
 use Rattle.program_rules.specs.Work.{lineRoom, Finishing, finishOf}
 
+-- the chains of those who wait, by the method: on the lock desk, and on the timestamp desk nobody does
+unfoldable pub chainsBy : Method → Desks → List ℕ
+chainsBy Locks d = chainText (chainsOn (d .locks))
+chainsBy Stamps d = []
+
 -- what is written at the end, behind the records of the lines: the chains of those who wait on the clerk's desk; of answers and history nothing
 unfoldable pub closing : View → Clerk → List ℕ
 closing Answers c = []
 closing History c = []
-closing Chains c = chainText (chainsOn (c .desk))
+closing Chains c = chainsBy (c .desks .method) (c .desks)
 
 -- no job of a chain has more bytes: ten digits, and the tab or the newline behind them
 abbrev pub jobRoom : ℕ

@@ -1,5 +1,6 @@
 pub mod OverLines
 pub mod Chains
+pub mod Desks
 pub mod Programs
 pub mod Work
 pub mod Closing

@@ -13,8 +13,8 @@ use Rattle.terms.specs.Limits.{requestLines}
 use Rattle.text_rules.specs.declared.Reading.{Reading}
 use Rattle.text_rules.specs.declared.Reading.the-variants.{Good, Bad}
 use Rattle.text_rules.specs.Lines.{refusalOf, readLine}
-use Rattle.desk_rules.specs.declared.Answer.the-variants.{No}
-use Rattle.desk_rules.specs.Desk.{Request}
+use Rattle.desks.specs.declared.Answer.the-variants.{No}
+use Rattle.desks.specs.Request.{Request}
 use Rattle.program_rules.specs.OverLines.{Told, requestIn}
 
 -- of lines numbered from n on: each up to line 1,000,000 has its answer under its number, and that is refusal 9 with a field exactly where the line is bad at that field; what follows has none (01, Lines; 02, No. 5)

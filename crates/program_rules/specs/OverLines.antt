@@ -4,6 +4,7 @@ use mathlib.Core.List.{List, [], _∷_, _++_}
 use mathlib.Core.Option.{Option, none, some}
 use lib.Dec.{ltb}
 use Rattle.laws.specs.Choice.{pick}
+use Rattle.terms.specs.declared.letters.Letter.{Letter}
 use Rattle.terms.specs.declared.words.Word.the-variants.{Wake}
 use Rattle.terms.specs.declared.refusals.Refusal.{Refusal}
 use Rattle.terms.specs.Letters.{byteOf, ofRequests}
@@ -13,12 +14,12 @@ use Rattle.text_rules.specs.declared.Reading.{Reading}
 use Rattle.text_rules.specs.declared.Reading.the-variants.{Good, Bad}
 use Rattle.text_rules.specs.Lines.{refusalOf, readLine}
 use Rattle.text_rules.specs.Records.{answerRecord}
-use Rattle.desk_rules.specs.declared.Answer.{Answer}
-use Rattle.desk_rules.specs.declared.Answer.the-variants.{No}
-use Rattle.desk_rules.specs.AnswerWords.{wordOf, numberBeside, fieldBeside}
-use Rattle.desk_rules.specs.Desk.{Request}
-use Rattle.desk_rules.specs.Stepping.{Stepping}
-use Rattle.desk_rules.specs.Step.{recordsOf}
+use Rattle.desks.specs.declared.Answer.{Answer}
+use Rattle.desks.specs.declared.Answer.the-variants.{No}
+use Rattle.desks.specs.AnswerWords.{wordOf, numberBeside, fieldBeside}
+use Rattle.desks.specs.Request.{Request}
+use Rattle.desks.specs.Stepping.{Stepped, Stepping}
+use Rattle.desks.specs.Records.{recordsOf}
 use Rattle.text_rules.specs.EventRecords.{textOf}
 
 -- what is known of one line when it has been answered: its number, the request that it says, the answer and the wakes
@@ -37,15 +38,23 @@ pub record Lined (S : Type 0) : Type 0 where
   pub desk : S
   pub told : Told
 
+-- the request of a good line
+abbrev pub asked : Letter → ℕ → ℕ → Request
+asked l job cell = record { kind = byteOf l; job = job; cell = cell }
+
 -- the request that a line says; a bad line says none
 abbrev pub requestIn : Reading → Request
 requestIn (Bad at) = noRequest
-requestIn (Good l job cell) = record { kind = byteOf l; job = job; cell = cell }
+requestIn (Good l job cell) = asked l job cell
+
+-- what is known of a line whose request was this step
+abbrev pub toldBy : {S : Type 0} → ℕ → Request → Stepped S → Told
+toldBy n r o = record { line = n; request = r; said = o .said; wakes = o .wakes }
 
 -- a line that the reader refuses is answered by that refusal, and the desk does not see it; any other is a step
 abbrev pub answeredBy : {S : Type 0} → Stepping S → S → ℕ → Request → Option Refusal → Lined S
 answeredBy step d n r (some why) = record { desk = d; told = record { line = n; request = r; said = No why; wakes = [] } }
-answeredBy step d n r none = let o = step d r in record { desk = o .desk; told = record { line = n; request = r; said = o .said; wakes = o .wakes } }
+answeredBy step d n r none = let o = step d r in record { desk = o .desk; told = toldBy n r o }
 
 -- a line is answered as it reads: refusal 9 with the field at fault where it is bad, and else a step
 unfoldable pub answered : {S : Type 0} → Stepping S → S → ℕ → Reading → Lined S

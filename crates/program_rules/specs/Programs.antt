@@ -1,16 +1,19 @@
--- The desk programs as definitions from text to text (01, What is delivered; 02, No. 3).
+-- The desk programs as definitions from text to text, over the paper's lock desk and over the timestamp desk (01, What is delivered; 02, Nos. 3 and 6).
 use Prim.Native.Nat.{ℕ}
-use mathlib.Core.List.{List}
+use mathlib.Core.List.{List, []}
 use Rattle.text_rules.specs.Split.{linesOf}
 use Rattle.desk_rules.specs.Desk.{Desk, freshDesk}
 use Rattle.desk_rules.specs.Step.{step}
 use Rattle.desk_rules.specs.Chain.{allChains}
-use Rattle.desk_arrays.specs.Steps.{emptyDesk}
-use Rattle.desk_arrays.specs.Seen.{onArrays}
+use Rattle.stamp_rules.specs.Desk as stamp
+use Rattle.stamp_rules.specs.Step as stamp-step
+use Rattle.program_rules.specs.declared.Method.{Method}
+use Rattle.program_rules.specs.declared.Method.the-variants.{Locks, Stamps}
 use Rattle.program_rules.specs.declared.View.{View}
 use Rattle.program_rules.specs.declared.View.the-variants.{Answers, History, Chains}
 use Rattle.program_rules.specs.OverLines.{Told, runOf, answerLines, historyLines, written}
 use Rattle.program_rules.specs.Chains.{deskOver, chainText}
+use Rattle.program_rules.specs.Desks.{newDesks, onDesks}
 
 -- the number that the desk programs start at (01, Lines)
 abbrev pub firstNumber : ℕ
@@ -20,9 +23,18 @@ firstNumber = 1
 unfoldable pub runOn : List ℕ → List Told
 runOn text = runOf step (freshDesk firstNumber) 1 (linesOf text)
 
--- the run of a text on the desk that runs
-unfoldable pub arraysRun : List ℕ → List Told
-arraysRun text = runOf onArrays (emptyDesk firstNumber) 1 (linesOf text)
+-- the run of a text on a fresh timestamp desk (02, No. 6)
+unfoldable pub stampRunOn : List ℕ → List Told
+stampRunOn text = runOf stamp-step.step (stamp.freshDesk firstNumber) 1 (linesOf text)
+
+-- the run of a text on the fresh desk of a method
+unfoldable pub runBy : Method → List ℕ → List Told
+runBy Locks text = runOn text
+runBy Stamps text = stampRunOn text
+
+-- the run of a text on the desks that run
+unfoldable pub desksRun : Method → List ℕ → List Told
+desksRun m text = runOf onDesks (newDesks m firstNumber) 1 (linesOf text)
 
 -- the desk of the paper after the lines of a text
 unfoldable pub deskOn : List ℕ → Desk
@@ -40,8 +52,19 @@ historyOf text = written historyLines (runOn text)
 unfoldable pub chainsOf : List ℕ → List ℕ
 chainsOf text = chainText (allChains (deskOn text))
 
--- what the program of a view writes, from text to text
-unfoldable pub programOf : View → List ℕ → List ℕ
-programOf Answers text = answersOf text
-programOf History text = historyOf text
-programOf Chains text = chainsOf text
+-- the program `stamp_answers` (02, No. 6)
+unfoldable pub stampAnswersOf : List ℕ → List ℕ
+stampAnswersOf text = written answerLines (stampRunOn text)
+
+-- the program `stamp_history` (02, No. 6)
+unfoldable pub stampHistoryOf : List ℕ → List ℕ
+stampHistoryOf text = written historyLines (stampRunOn text)
+
+-- what the program of a method and a view writes, from text to text; nobody waits on a timestamp desk, so it has no chains
+unfoldable pub programOf : Method → View → List ℕ → List ℕ
+programOf Locks Answers text = answersOf text
+programOf Locks History text = historyOf text
+programOf Locks Chains text = chainsOf text
+programOf Stamps Answers text = stampAnswersOf text
+programOf Stamps History text = stampHistoryOf text
+programOf Stamps Chains text = []

@@ -10,10 +10,10 @@ use Rattle.conflict.specs.declared.action.Mark.{Mark}
 use Rattle.conflict.specs.declared.action.Mark.the-variants.{Commit, GiveUp, Back}
 use Rattle.conflict.specs.declared.action.Event.the-variants.{Does, Ends}
 use Rattle.conflict.specs.History.{History}
-use Rattle.desk_rules.specs.declared.Answer.{Answer}
-use Rattle.desk_rules.specs.declared.Answer.the-variants.{Go, Wait, Back as goes-back, No}
-use Rattle.desk_rules.specs.Step.{recordsOf}
-use Rattle.desk_rules.specs.Requests.{givenBy}
+use Rattle.desks.specs.declared.Answer.{Answer}
+use Rattle.desks.specs.declared.Answer.the-variants.{Go, Wait, Back as goes-back, No}
+use Rattle.desks.specs.Records.{recordsOf}
+use Rattle.desks.specs.Requests.{givenBy}
 use Rattle.program_rules.specs.OverLines.{Told}
 use Rattle.program_rules.specs.Programs.{runOn}
 

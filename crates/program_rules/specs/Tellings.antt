@@ -7,9 +7,9 @@ use Rattle.terms.specs.Limits.{requestLines}
 use Rattle.text_rules.specs.Split.{Found, afterAll, foundIn}
 use Rattle.program_rules.specs.declared.Clerk.{Clerk}
 use Rattle.program_rules.specs.declared.View.{View}
-use Rattle.desk_rules.specs.Stepping.{Stepping}
+use Rattle.desks.specs.Stepping.{Stepping}
 use Rattle.program_rules.specs.OverLines.{Told, Lined, lineBy, written}
-use Rattle.desk_arrays.specs.Seen.{onArrays}
+use Rattle.program_rules.specs.Desks.{onDesks}
 use Rattle.program_rules.specs.Work.{viewed}
 
 module _ {S : Type 0} (step : Stepping S) where
@@ -29,8 +29,8 @@ module _ {S : Type 0} (step : Stepping S) where
 
 -- the clerk after some bytes
 unfoldable pub clerkAfter : Clerk → List ℕ → Clerk
-clerkAfter c bytes = record { desk = deskAfter onArrays (c .desk) (foundIn (c .splitter) bytes); splitter = afterAll (c .splitter) bytes }
+clerkAfter c bytes = record { desks = deskAfter onDesks (c .desks) (foundIn (c .splitter) bytes); splitter = afterAll (c .splitter) bytes }
 
 -- the records of the lines that end in them
 unfoldable pub recordsIn : View → Clerk → List ℕ → List ℕ
-recordsIn view c bytes = written (viewed view) (tellings onArrays (c .desk) (foundIn (c .splitter) bytes))
+recordsIn view c bytes = written (viewed view) (tellings onDesks (c .desks) (foundIn (c .splitter) bytes))

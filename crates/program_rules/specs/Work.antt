@@ -15,21 +15,21 @@ use Rattle.text_rules.specs.Lines.{readLine}
 use Rattle.text_rules.specs.Records.{longestRecord}
 use Rattle.text_rules.specs.Split.{fresh, cutOf, foundAt}
 use Rattle.text_rules.specs.Wrote.{putFrom}
-use Rattle.desk_rules.specs.declared.Answer.the-variants.{No}
-use Rattle.desk_arrays.specs.Steps.{emptyDesk}
-use Rattle.desk_arrays.specs.declared.state.Desk as arrays
+use Rattle.desks.specs.declared.Answer.the-variants.{No}
 use Rattle.program_rules.specs.declared.Clerk.{Clerk}
+use Rattle.program_rules.specs.declared.Desks.{Desks}
+use Rattle.program_rules.specs.declared.Method.{Method}
 use Rattle.program_rules.specs.declared.View.{View}
 use Rattle.program_rules.specs.declared.View.the-variants.{Answers, History, Chains}
 use Rattle.program_rules.specs.declared.Worked.{Worked}
 use Rattle.program_rules.specs.declared.Finished.{Finished}
 use Rattle.program_rules.specs.OverLines.{Told, Lined, noRequest, lineBy, answerLines, historyLines}
-use Rattle.desk_arrays.specs.Seen.{onArrays}
+use Rattle.program_rules.specs.Desks.{newDesks, onDesks}
 use Rattle.program_rules.specs.Programs.{firstNumber}
 
--- before any byte: the desk is started at 1
-unfoldable pub startedClerk : Clerk
-startedClerk = record { desk = emptyDesk firstNumber; splitter = fresh }
+-- before any byte: each desk is started at 1, and the method says which one is asked
+unfoldable pub startedClerk : Method → Clerk
+startedClerk m = record { desks = newDesks m firstNumber; splitter = fresh }
 
 -- the records of a line in a view; of a line the program `chain` writes none
 unfoldable pub viewed : View → Told → List ℕ
@@ -62,9 +62,9 @@ pub record Turn : Type 0 where
 -- the line in the splitter is answered, and its records are put into the buffer
 unfoldable pub answering : View → Clerk → List ℕ → ℕ → Turn
 answering view c out at =
-    let l : Lined arrays.Desk = lineBy onArrays (c .desk) (c .splitter .line) (foundAt (c .splitter) .bytes) in
+    let l : Lined Desks = lineBy onDesks (c .desks) (c .splitter .line) (foundAt (c .splitter) .bytes) in
     let bytes = viewed view (l .told) in
-    record { clerk = record { desk = l .desk; splitter = c .splitter }; at = at + length bytes; out = putFrom out at bytes }
+    record { clerk = record { desks = l .desk; splitter = c .splitter }; at = at + length bytes; out = putFrom out at bytes }
 
 -- after a cut: the line is answered if it is to be, and else nothing changes
 unfoldable pub turning : View → Clerk → List ℕ → ℕ → Turn
@@ -72,7 +72,7 @@ turning view c out at = pick (due (c .splitter)) (answering view c out at) (reco
 
 -- the clerk after a cut
 unfoldable pub cutting : Clerk → List ℕ → ℕ → Clerk
-cutting c chunk from = record { desk = c .desk; splitter = cutOf (c .splitter) chunk from .splitter }
+cutting c chunk from = record { desks = c .desks; splitter = cutOf (c .splitter) chunk from .splitter }
 
 -- where the work has come to, and what the buffer then holds
 pub record Working : Type 0 where

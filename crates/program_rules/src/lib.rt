@@ -1,12 +1,28 @@
-// What a clerk keeps between the chunks of an input, and the runs of the desk programs as definitions (01, What is delivered).
+// What a clerk keeps between the chunks of an input, and the runs of the desk programs as definitions (01, What is delivered; 02, No. 6).
 use desk_arrays::state::Desk;
+use stamp_arrays::state::Stamps;
 use text_rules::Splitter;
 ghost use mathlib.Core.Path.{_≡_};
 ghost use Rattle.program_rules.specs.Work.{startedClerk};
 
-// The desk, and the line that is being put together.
+// By which method requests are answered: each has its desk.
+pub enum Method {
+    // by locks
+    Locks,
+    // by timestamps
+    Stamps,
+}
+
+// Both desks, and the method that says which of them is asked; the other one is never touched.
+pub struct Desks {
+    pub method: Method,
+    pub locks: Desk,
+    pub stamps: Stamps,
+}
+
+// The desks, and the line that is being put together.
 pub struct Clerk {
-    pub desk: Desk,
+    pub desks: Desks,
     pub splitter: Splitter,
 }
 
@@ -35,12 +51,18 @@ pub struct Finished {
 }
 
 impl Clerk {
-    // A clerk who has seen no byte; the desk is started at 1.
-    pub fn started() -> Clerk
-        ensures { λ r. ⌜ r ≡ startedClerk ⌝ }
+    // A clerk who has seen no byte; each desk is started at 1.
+    pub fn started(method: Method) -> Clerk
+        ensures { λ r. ⌜ r ≡ startedClerk method ⌝ }
     {
-        let desk = Desk::first();
+        let locks = Desk::first();
+        let stamps = Stamps::first();
+        let desks = Desks {
+            method,
+            locks,
+            stamps,
+        };
         let splitter = Splitter::started();
-        Clerk { desk, splitter }
+        Clerk { desks, splitter }
     }
 }

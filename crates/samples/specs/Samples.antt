@@ -1,16 +1,18 @@
--- The paper's starred samples S1 to S9, the update lock's own case, the chains of a night, and more of ours: program, input text, output text (01, Samples to hold it against; 02, No. 1 and No. 3).
+-- The paper's starred samples S1 to S9, the update lock's own case, the chains of a night, the timestamp desk, and more of ours: program, input text, output text (01, Samples to hold it against; 02, Nos. 1, 3 and 6).
 use Prim.Native.Nat.{ℕ}
 use Prim.Native.String.{String}
 use mathlib.Core.List.{List, [], _∷_}
 use Rattle.judge_rules.specs.VerdictLine.{verdictOf}
-use Rattle.program_rules.specs.Programs.{answersOf, historyOf, chainsOf}
+use Rattle.program_rules.specs.Programs.{answersOf, historyOf, chainsOf, stampAnswersOf, stampHistoryOf}
 
--- the four programs (01, What is delivered; 02, No. 3)
+-- the six programs (01, What is delivered; 02, Nos. 3 and 6)
 pub data Program : Type 0 where
   answers : Program
   history : Program
   verdict : Program
   chain : Program
+  stamp-answers : Program
+  stamp-history : Program
 
 -- what a program writes, given a text
 unfoldable pub writes : Program → List ℕ → List ℕ
@@ -18,6 +20,8 @@ writes answers = answersOf
 writes history = historyOf
 writes verdict = verdictOf
 writes chain = chainsOf
+writes stamp-answers = stampAnswersOf
+writes stamp-history = stampHistoryOf
 
 -- a sample
 pub record Sample : Type 0 where
@@ -53,11 +57,27 @@ scorers = "b\nb\nu\t2\t5\nu\t1\t5\nw\t2\t5\nc\t2\nw\t1\t5\nc\t1\n"
 abbrev pub scorers-history : String
 scorers-history = "r\t2\t5\nw\t2\t5\nc\t2\nr\t1\t5\nw\t1\t5\nc\t1\n"
 
+-- a run of ours on the timestamp desk: 1 reads the picture and 2 writes the next past it; 2 reads and writes its own again, ties; 1 comes too late and is closed; 2 may not retry, and 3, begun anew, goes (02, No. 6)
+abbrev pub pictures : String
+pictures = "b\nb\nr\t1\t9\nw\t2\t9\nr\t2\t9\nw\t2\t9\nu\t1\t9\nr\t1\t9\nt\t2\nb\nw\t3\t9\nc\t2\nc\t3\n"
+
+-- its history, whose committed jobs are 2 and 3
+abbrev pub pictures-history : String
+pictures-history = "r\t1\t9\nw\t2\t9\nr\t2\t9\nw\t2\t9\nk\t1\nw\t3\t9\nc\t2\nc\t3\n"
+
+-- 2 reads what 1 has written and commits, and 1 gives up: on the timestamp desk both go, and its history is dirty (02, No. 6)
+abbrev pub taken-back : String
+taken-back = "b\nb\nw\t1\t0\nr\t2\t0\nc\t2\na\t1\n"
+
+-- its history
+abbrev pub taken-back-history : String
+taken-back-history = "w\t1\t0\nr\t2\t0\nc\t2\na\t1\n"
+
 -- bad lines, three or four for each field at fault; the last of them lacks its newline (02, No. 5)
 abbrev pub spoilt : String
 spoilt = "\nb \nk\t1\nc\nc\t1 \nr\t7x\t5\nr\t1\t5x\nr\t1\t5\r\nr\t1\nr\t1\t100\nb\t\nc\t1\t5\nb"
 
--- the starred samples, S1 to S9, then the update lock's case and the chains, and after them ours; jobs are begun first, cell 5 unless said
+-- the starred samples, S1 to S9, then the update lock's case, the chains and the timestamp desk, and after them ours; jobs are begun first, cell 5 unless said
 abbrev pub samples : List Sample
 samples =
     -- S1, whole
@@ -121,6 +141,17 @@ samples =
     ∷ record { program = answers; input = "b\nb\nu\t1\t5\nu\t2\t5\n"; output = "1\tgo\t1\n2\tgo\t2\n3\tgo\t1\n4\tback\t2\n" }
     -- the night that is shipped, up to its line 6: 3 has read cell 9, 2 waits to write it, and 1, behind 2, to read it; 3 is the youngest in the way of both (02, No. 3)
     ∷ record { program = chain; input = "b\nb\nb\nr\t3\t9\nw\t2\t9\nr\t1\t9\n"; output = "1\t3\n2\t3\n" }
+    -- the timestamp desk: i 1, i 2, i 1 sends 1 back; a tie goes; who comes too late is closed; ascending numbers; and a dirty history of this desk (02, No. 6)
+    ∷ record { program = stamp-answers; input = "b\nb\ni\t1\t5\ni\t2\t5\ni\t1\t5\n"; output = "1\tgo\t1\n2\tgo\t2\n3\tgo\t1\n4\tgo\t2\n5\tback\t1\n" }
+    ∷ record {
+      program = stamp-answers;
+      input = pictures;
+      output = "1\tgo\t1\n2\tgo\t2\n3\tgo\t1\n4\tgo\t2\n5\tgo\t2\n6\tgo\t2\n7\tback\t1\n8\tno\t3\n9\tno\t19\n10\tgo\t3\n11\tgo\t3\n12\tgo\t2\n13\tgo\t3\n";
+    }
+    ∷ record { program = stamp-history; input = pictures; output = pictures-history }
+    ∷ record { program = verdict; input = pictures-history; output = "orderly\t2\t3\n" }
+    ∷ record { program = stamp-history; input = taken-back; output = taken-back-history }
+    ∷ record { program = verdict; input = taken-back-history; output = "dirty\t2\t1\n" }
     -- ours: three wakes of one step, on two cells and two of one queue
     ∷ record {
       program = answers;

@@ -1,4 +1,4 @@
--- No two refusals share number and field, and each number is from 1 to 18; 17 is none's.
+-- No two refusals share number and field, and each number is from 1 to 19; 17 is none's.
 -- Assumes nothing.
 use Prim.Native.Nat.{ℕ, _≤_}
 use mathlib.Core.Path.{_≡_, refl, sym, ap₂, _∙_}
@@ -10,7 +10,7 @@ use lib.Dec.{leb, lit≤}
 use borrow.Author.Tests.{leb-true, leb-false}
 use Rattle.laws.specs.Choice.{by-test}
 use Rattle.terms.specs.declared.refusals.Refusal.{Refusal}
-use Rattle.terms.specs.declared.refusals.Refusal.the-variants.{UnknownKind, CellAbove, NotOpen, Waiting, SentBack, AllOpen, NoNumberLeft, Running, BadLine, StartedAtZero, TooManyLines, JobOutside, Ended, ShortOrder, NoRoom, TooLong, ShortList}
+use Rattle.terms.specs.declared.refusals.Refusal.the-variants.{UnknownKind, CellAbove, NotOpen, Waiting, SentBack, AllOpen, NoNumberLeft, Running, BadLine, StartedAtZero, TooManyLines, JobOutside, Ended, ShortOrder, NoRoom, TooLong, ShortList, NoRetry}
 use Rattle.terms.specs.declared.refusals.Field.{Field}
 use Rattle.terms.specs.declared.refusals.Field.the-variants.{First, Second, Third, Fourth}
 use Rattle.terms.specs.Refusals.{numberOf, fieldNumber, fieldOf}
@@ -23,7 +23,7 @@ fields = First ∷ First ∷ Second ∷ Third ∷ Fourth ∷ []
 abbrev pub table : Field → List Refusal
 table field =
     UnknownKind ∷ UnknownKind ∷ CellAbove ∷ NotOpen ∷ Waiting ∷ SentBack ∷ AllOpen ∷ NoNumberLeft ∷ Running ∷ BadLine field
-    ∷ StartedAtZero ∷ TooManyLines ∷ JobOutside ∷ Ended ∷ ShortOrder ∷ NoRoom ∷ TooLong ∷ UnknownKind ∷ ShortList ∷ []
+    ∷ StartedAtZero ∷ TooManyLines ∷ JobOutside ∷ Ended ∷ ShortOrder ∷ NoRoom ∷ TooLong ∷ UnknownKind ∷ ShortList ∷ NoRetry ∷ []
 
 -- the refusal at a number and a field's number
 abbrev pub refusalAt : ℕ → ℕ → Refusal
@@ -51,13 +51,14 @@ at-number ShortOrder = refl
 at-number NoRoom = refl
 at-number TooLong = refl
 at-number ShortList = refl
+at-number NoRetry = refl
 
 -- EQUAL NUMBER AND FIELD, EQUAL REFUSALS: the two together tell refusals apart (02, No. 5)
 pub same-number : (r s : Refusal) → numberOf r ≡ numberOf s → fieldOf r ≡ fieldOf s → r ≡ s
 same-number r s e f = sym (at-number r) ∙ ap₂ refusalAt e f ∙ at-number s
 
--- each is from 1 to 18
-pub within-table : (r : Refusal) → (1 ≤ numberOf r) × (numberOf r ≤ 18)
+-- each is from 1 to 19
+pub within-table : (r : Refusal) → (1 ≤ numberOf r) × (numberOf r ≤ 19)
 within-table UnknownKind = (lit≤ tt, lit≤ tt)
 within-table CellAbove = (lit≤ tt, lit≤ tt)
 within-table NotOpen = (lit≤ tt, lit≤ tt)
@@ -75,6 +76,7 @@ within-table ShortOrder = (lit≤ tt, lit≤ tt)
 within-table NoRoom = (lit≤ tt, lit≤ tt)
 within-table TooLong = (lit≤ tt, lit≤ tt)
 within-table ShortList = (lit≤ tt, lit≤ tt)
+within-table NoRetry = (lit≤ tt, lit≤ tt)
 
 -- a field's number is from 1 to 4
 pub field-within : (f : Field) → (1 ≤ fieldNumber f) × (fieldNumber f ≤ 4)
@@ -102,6 +104,7 @@ beside-at-most-4 ShortOrder = lit≤ tt
 beside-at-most-4 NoRoom = lit≤ tt
 beside-at-most-4 TooLong = lit≤ tt
 beside-at-most-4 ShortList = lit≤ tt
+beside-at-most-4 NoRetry = lit≤ tt
 
 -- ONLY A REFUSAL 9 HAS A FIELD BESIDE ITS NUMBER (02, No. 5)
 pub only-nine : (r : Refusal) → (numberOf r ≡ 9) ↔ (1 ≤ fieldOf r)
@@ -122,6 +125,7 @@ only-nine ShortOrder = (λ e. absurd (omega arith), λ h. absurd (omega arith))
 only-nine NoRoom = (λ e. absurd (omega arith), λ h. absurd (omega arith))
 only-nine TooLong = (λ e. absurd (omega arith), λ h. absurd (omega arith))
 only-nine ShortList = (λ e. absurd (omega arith), λ h. absurd (omega arith))
+only-nine NoRetry = (λ e. absurd (omega arith), λ h. absurd (omega arith))
 
 -- so any other refusal has none
 pub no-field-beside : (r : Refusal) → (numberOf r ≡ 9 → ⊥) → fieldOf r ≡ 0

@@ -3,7 +3,7 @@ use Prim.Native.Nat.{ℕ}
 use Rattle.terms.specs.declared.refusals.Field.{Field}
 use Rattle.terms.specs.declared.refusals.Field.the-variants.{First, Second, Third, Fourth}
 use Rattle.terms.specs.declared.refusals.Refusal.{Refusal}
-use Rattle.terms.specs.declared.refusals.Refusal.the-variants.{UnknownKind, CellAbove, NotOpen, Waiting, SentBack, AllOpen, NoNumberLeft, Running, BadLine, StartedAtZero, TooManyLines, JobOutside, Ended, ShortOrder, NoRoom, TooLong, ShortList}
+use Rattle.terms.specs.declared.refusals.Refusal.the-variants.{UnknownKind, CellAbove, NotOpen, Waiting, SentBack, AllOpen, NoNumberLeft, Running, BadLine, StartedAtZero, TooManyLines, JobOutside, Ended, ShortOrder, NoRoom, TooLong, ShortList, NoRetry}
 
 -- the paper's number of each refusal, with the paper's words beside it
 abbrev pub numberOf : Refusal → ℕ
@@ -41,6 +41,8 @@ numberOf NoRoom = 15
 numberOf TooLong = 16
 -- fewer than 32 places lent for the list of a chain (02, No. 3)
 numberOf ShortList = 18
+-- retry of an open job on the timestamp desk (02, No. 6)
+numberOf NoRetry = 19
 
 -- the field at fault: 1 letter, 2 job, 3 cell, 4 anything after the last field that the letter has (02, No. 5)
 abbrev pub fieldNumber : Field → ℕ
@@ -68,3 +70,4 @@ fieldOf ShortOrder = 0
 fieldOf NoRoom = 0
 fieldOf TooLong = 0
 fieldOf ShortList = 0
+fieldOf NoRetry = 0

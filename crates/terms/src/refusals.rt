@@ -50,6 +50,8 @@ pub enum Refusal {
     TooLong,
     // 18: fewer than 32 places lent for a chain
     ShortList,
+    // 19: retry of an open job on the timestamp desk
+    NoRetry,
 }
 
 // The number of a refusal.
@@ -74,6 +76,7 @@ pub fn number_of(r: Refusal) -> u8
         Refusal::NoRoom => 15,
         Refusal::TooLong => 16,
         Refusal::ShortList => 18,
+        Refusal::NoRetry => 19,
     }
 }
 
@@ -111,5 +114,6 @@ pub fn field_of(r: Refusal) -> u8
         Refusal::NoRoom => 0,
         Refusal::TooLong => 0,
         Refusal::ShortList => 0,
+        Refusal::NoRetry => 0,
     }
 }

@@ -1,9 +1,11 @@
-// Twenty-four hands with a job each, and a mix of steps drawn from a fixed sequence, run on the desk: what a step by numbers costs, with no text between.
-// Writes how many steps went, waited, went back and were refused, and how many jobs woke.
-use desk::step::step_on;
+// Twenty-four hands with a job each, and a mix of steps drawn from a fixed sequence, run on a desk: what a step by numbers costs, with no text between.
+// With nothing on standard input that is the lock desk; where the first byte is a `t`, the timestamp desk. Each step takes three draws, whatever the desk has answered: the hand, the kind and the cell.
+// Writes how many steps went, waited, went back and were refused, and how many jobs woke; on the timestamp desk nobody waits or wakes.
 use desk_arrays::state::Desk;
-use desk_rules::Answer;
+use desks::Answer;
+use libc::STDIN_FILENO;
 use libc::STDOUT_FILENO;
+use stamp_arrays::state::Stamps;
 use std::num::wrapping_add_u64;
 use terms::letters::BEGIN;
 use terms::letters::COMMIT;
@@ -12,6 +14,7 @@ use terms::letters::INCREMENT;
 use terms::letters::READ;
 use terms::letters::RETRY;
 use terms::letters::WRITE;
+use terms::limits::CELLS;
 use terms::limits::PLACES;
 use terms::words::NEWLINE;
 use terms::words::TAB;
@@ -26,16 +29,12 @@ struct Tally {
     wakes: u64,
 }
 
-// A hand's job, 0 for none, and whether it was sent back.
-struct Hand {
-    job: u32,
-    back: bool,
-}
-
 // How many steps are drawn, and by how many hands.
 const STEPS: u32 = 1000000;
 
-const HANDS: u32 = 24;
+const HANDS: usize = 24;
+// The byte of the input by which the timestamp desk is meant: `t`.
+const STAMPS: u8 = 116;
 
 // The next number of the sequence.
 fn next(x: u32) -> u32 {
@@ -46,16 +45,18 @@ fn next(x: u32) -> u32 {
 fn hand_by(x: u32) -> usize
     ensures { λ r. ⌜ r < 24 ⌝ }
 {
-    (x / 65536 % HANDS) as usize
+    (x / 65536) as usize % HANDS
 }
 
-// A hand without a job begins one, and a hand whose job was sent back retries.
-fn kind_by(h: Hand, x: u32) -> u8 {
-    if h.job == 0 {
+// The cell of a draw.
+fn cell_by(x: u32) -> u32 {
+    x / 65536 % CELLS
+}
+
+// What a hand with a job asks, or with none, 0: that one begins.
+fn kind_by(job: u32, x: u32) -> u8 {
+    if job == 0 {
         return BEGIN;
-    }
-    if h.back {
-        return RETRY;
     }
     drawn_kind(x / 65536 % 32)
 }
@@ -80,30 +81,58 @@ fn drawn_kind(n: u32) -> u8 {
     RETRY
 }
 
-// The hand after its step.
-fn hand_after(h: Hand, kind: u8, answer: Answer) -> Hand {
+// The job that a hand had, or none once it has ended; a begin gives it the new one. A job that was sent back stays, to retry.
+fn job_after(job: u32, kind: u8, answer: Answer) -> u32 {
     match answer {
-        Answer::Go(job) => {
+        Answer::Go(named) => {
             if kind == COMMIT {
-                return Hand {
-                    job: 0,
-                    back: false,
-                };
+                return 0;
             }
             if kind == GIVE_UP {
-                return Hand {
-                    job: 0,
-                    back: false,
-                };
+                return 0;
             }
-            Hand { job, back: false }
+            named
         }
-        Answer::Back(job) => Hand { job, back: true },
-        Answer::Wait(job) => Hand { job, back: false },
-        Answer::No(_) => Hand {
-            job: h.job,
-            back: false,
-        },
+        Answer::Wait(_) => job,
+        Answer::Back(_) => job,
+        Answer::No(_) => job,
+    }
+}
+
+// Whether an answer sends the job back.
+fn is_back(answer: Answer) -> bool {
+    match answer {
+        Answer::Back(_) => true,
+        Answer::Go(_) => false,
+        Answer::Wait(_) => false,
+        Answer::No(_) => false,
+    }
+}
+
+// What a hand asks of the lock desk: one whose job was sent back retries.
+fn asked_kind(job: u32, back: bool, x: u32) -> u8 {
+    if back {
+        return RETRY;
+    }
+    kind_by(job, x)
+}
+
+// The job that a hand has after a step of the timestamp desk: none once it was sent back, which closes it there.
+fn job_left(job: u32, kind: u8, answer: Answer) -> u32 {
+    if is_back(answer) {
+        return 0;
+    }
+    job_after(job, kind, answer)
+}
+
+// Nothing counted yet.
+fn no_steps() -> Tally {
+    Tally {
+        go: 0,
+        wait: 0,
+        back: 0,
+        no: 0,
+        wakes: 0,
     }
 }
 
@@ -133,6 +162,7 @@ fn put_number(n: u64, after: u8) -> bool {
     io::write_all(STDOUT_FILENO, &[after])
 }
 
+// The tally's five numbers.
 fn put_tally(t: Tally) {
     put_number(t.go, TAB);
     put_number(t.wait, TAB);
@@ -143,7 +173,7 @@ fn put_tally(t: Tally) {
     }
 }
 
-// All the steps.
+// All the steps, on the lock desk.
 fn draw_all(d: Desk) -> Tally {
     let mut numbered = d.next;
     let mut number = d.number;
@@ -153,27 +183,18 @@ fn draw_all(d: Desk) -> Tally {
     let mut held = d.held;
     let mut woken = [0; PLACES];
     let mut x: u32 = 1;
-    let mut jobs = [0u32; 24];
-    let mut backs = [false; 24];
-    let mut tally = Tally {
-        go: 0,
-        wait: 0,
-        back: 0,
-        no: 0,
-        wakes: 0,
-    };
+    let mut jobs = [0u32; HANDS];
+    let mut backs = [false; HANDS];
+    let mut tally = no_steps();
     let mut left = STEPS;
     while left > 0 {
         let i = hand_by(x);
         x = next(x);
-        let h = Hand {
-            job: jobs[i],
-            back: backs[i],
-        };
-        let kind = kind_by(h, x);
+        let job = jobs[i];
+        let kind = asked_kind(job, backs[i], x);
         x = next(x);
-        let cell = x / 65536 % 64;
-        let t = step_on(
+        let cell = cell_by(x);
+        let t = desk::step::step_on(
             &mut numbered,
             &mut number,
             &mut status,
@@ -182,20 +203,70 @@ fn draw_all(d: Desk) -> Tally {
             &mut held,
             &mut woken,
             kind,
-            h.job,
+            job,
             cell,
         );
         x = next(x);
         let answer = t.answer;
-        let after = hand_after(h, kind, answer);
-        jobs[i] = after.job;
-        backs[i] = after.back;
+        jobs[i] = job_after(job, kind, answer);
+        backs[i] = is_back(answer);
         tally = counted(tally, answer, t.count as u64);
         left -= 1;
     }
     tally
 }
 
+// All the steps, on the timestamp desk.
+fn draw_stamps(d: Stamps) -> Tally {
+    let mut numbered = d.next;
+    let mut number = d.number;
+    let mut reader = d.reader;
+    let mut writer = d.writer;
+    let mut x: u32 = 1;
+    let mut jobs = [0u32; HANDS];
+    let mut tally = no_steps();
+    let mut left = STEPS;
+    while left > 0 {
+        let i = hand_by(x);
+        x = next(x);
+        let job = jobs[i];
+        let kind = kind_by(job, x);
+        x = next(x);
+        let cell = cell_by(x);
+        let answer = stamp_desk::step::step_on(
+            &mut numbered,
+            &mut number,
+            &mut reader,
+            &mut writer,
+            kind,
+            job,
+            cell,
+        );
+        x = next(x);
+        jobs[i] = job_left(job, kind, answer);
+        tally = counted(tally, answer, 0);
+        left -= 1;
+    }
+    tally
+}
+
+// Whether the timestamp desk is meant: the first byte of the input says so.
+fn is_stamps() -> bool {
+    let mut one = [0u8; 1];
+    let got = libc::read(STDIN_FILENO, &mut one);
+    if got < 0 {
+        os::fail(b"time_desk: cannot read");
+    }
+    if got < 1 {
+        return false;
+    }
+    one[0] == STAMPS
+}
+
 fn main() {
+    if is_stamps() {
+        put_tally(draw_stamps(Stamps::first()));
+        return;
+    }
     put_tally(draw_all(Desk::first()));
 }

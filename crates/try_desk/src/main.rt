@@ -1,17 +1,17 @@
-// Runs the desk on steps by numbers: the first line of the input is the first number, every other one a step, `kind job cell`, or who asks for a chain, `256 job places`.
+// Runs either desk on steps by numbers. The first line of the input is the first number, and with a blank and a second number behind it, as `1 1`, the timestamp desk is meant,
+// whatever the second number is; every other line is a step, `kind job cell`, or for the lock desk alone who asks for a chain, `256 job places`.
 // Writes a line for each step: the answer's word and number, then `wake`, job, cell and the kind's byte for each wake, with tabs between;
 // and for who asks `chain` and how many jobs, or `no` and the refusal, and then every place of the list.
 use conflict::action::Action;
 use conflict::action::Kind;
-use desk::step::step;
 use desk_arrays::state::Desk;
 use desk_arrays::state::Said;
-use desk_arrays::state::Start;
 use desk_chain::chain::chain;
-use desk_rules::Answer;
 use desk_rules::Chained;
+use desks::Answer;
 use libc::STDIN_FILENO;
 use libc::STDOUT_FILENO;
+use stamp_arrays::state::Stamps;
 use terms::letters::INCREMENT;
 use terms::letters::READ;
 use terms::letters::WRITE;
@@ -31,14 +31,30 @@ struct Field {
     end: u32,
 }
 
+// A line `kind job cell` of the input, and whether there is one.
+struct Line {
+    kind: u32,
+    job: u32,
+    cell: u32,
+    there: bool,
+}
+
 // The desk after a step, and whether there was one and its line was taken.
 struct Turn {
     desk: Desk,
     done: bool,
 }
 
+// The same of the timestamp desk.
+struct StampTurn {
+    stamps: Stamps,
+    done: bool,
+}
+
 // What stands for the end of the input, where a byte is at most 255.
 const END: u32 = 256;
+// What stands between the numbers of a line.
+const BLANK: u32 = 32;
 // What stands for who asks for a chain, where a kind is at most 255.
 const ASKS: u32 = 256;
 // The most places that are lent for a list.
@@ -92,6 +108,27 @@ fn next_number() -> Field {
     Field { value, end: END }
 }
 
+// The next line, if the input has one more.
+fn next_line() -> Line {
+    let kind = next_number();
+    if kind.end != BLANK {
+        return Line {
+            kind: 0,
+            job: 0,
+            cell: 0,
+            there: false,
+        };
+    }
+    let job = next_number();
+    let cell = next_number();
+    Line {
+        kind: kind.value,
+        job: job.value,
+        cell: cell.value,
+        there: true,
+    }
+}
+
 fn put_byte(byte: u8) {
     io::write_all(STDOUT_FILENO, &[byte]);
 }
@@ -117,25 +154,13 @@ fn put_number(n: u32) {
     io::print_decimal(STDOUT_FILENO, n as u64);
 }
 
-fn put_wake(a: Action) {
-    put_byte(TAB);
-    put_word(Word::Wake);
-    put_number(a.job);
-    put_number(a.cell);
-    let kind = a.kind;
-    match kind {
-        Kind::Read => put_number(READ as u32),
-        Kind::Write => put_number(WRITE as u32),
-        Kind::Increment => put_number(INCREMENT as u32),
-    }
-}
-
 // `no`, and the refusal's number.
 fn put_refused(why: Refusal) {
     put_word(Word::No);
     put_number(wide(number_of(why)));
 }
 
+// An answer's word, and its number.
 fn put_answer(answer: Answer) {
     match answer {
         Answer::Go(job) => {
@@ -151,6 +176,19 @@ fn put_answer(answer: Answer) {
             put_number(job);
         }
         Answer::No(why) => put_refused(why),
+    }
+}
+
+fn put_wake(a: Action) {
+    put_byte(TAB);
+    put_word(Word::Wake);
+    put_number(a.job);
+    put_number(a.cell);
+    let kind = a.kind;
+    match kind {
+        Kind::Read => put_number(READ as u32),
+        Kind::Write => put_number(WRITE as u32),
+        Kind::Increment => put_number(INCREMENT as u32),
     }
 }
 
@@ -224,35 +262,33 @@ fn ask(d: Desk, job: u32, places: u32) -> bool {
     put_end()
 }
 
-// One step, if the input has one more.
+// One step of the lock desk, if the input has one more.
 fn take_turn(d: Desk) -> Turn {
-    let kind = next_number();
-    if kind.end != 32 {
+    let s = next_line();
+    if !s.there {
         return Turn {
             desk: d,
             done: false,
         };
     }
-    let job = next_number();
-    let cell = next_number();
-    if kind.value == ASKS {
-        let done = ask(d, job.value, cell.value);
+    if s.kind == ASKS {
+        let done = ask(d, s.job, s.cell);
         return Turn { desk: d, done };
     }
-    if kind.value > 255 {
+    if s.kind > 255 {
         return Turn {
             desk: d,
             done: false,
         };
     }
-    let o = step(d, kind.value as u8, job.value, cell.value);
+    let o = desk::step::step(d, s.kind as u8, s.job, s.cell);
     let said = o.said;
     let done = put_said(said);
     let after = o.desk;
     Turn { desk: after, done }
 }
 
-// All the steps. Nothing says that the input ends, so the turns are counted down.
+// All the steps of the lock desk. Nothing says that the input ends, so the turns are counted down.
 fn answer_all(d: Desk) {
     let mut now = d;
     let mut turns = u64::MAX;
@@ -266,21 +302,75 @@ fn answer_all(d: Desk) {
     }
 }
 
-// A start that is refused, as an answer.
-fn put_refusal(why: Refusal) {
-    put_answer(Answer::No(why));
-    put_end();
-}
-
-// The desk started at a first number, and all its steps.
-fn open(first: u32) {
-    match Desk::start(first) {
-        Start::Ready(desk) => answer_all(desk),
-        Start::Refused(why) => put_refusal(why),
+// One step of the timestamp desk, if the input has one more. A kind above 255 is no step.
+fn take_stamp_turn(d: Stamps) -> StampTurn {
+    let s = next_line();
+    if !s.there {
+        return StampTurn {
+            stamps: d,
+            done: false,
+        };
+    }
+    if s.kind > 255 {
+        return StampTurn {
+            stamps: d,
+            done: false,
+        };
+    }
+    let o = stamp_desk::step::step(d, s.kind as u8, s.job, s.cell);
+    let answer = o.answer;
+    put_answer(answer);
+    let done = put_end();
+    let after = o.stamps;
+    StampTurn {
+        stamps: after,
+        done,
     }
 }
 
+// All the steps of the timestamp desk, the turns counted down likewise.
+fn answer_stamps(d: Stamps) {
+    let mut now = d;
+    let mut turns = u64::MAX;
+    while turns > 0 {
+        let t = take_stamp_turn(now);
+        if !t.done {
+            return;
+        }
+        now = t.stamps;
+        turns -= 1;
+    }
+}
+
+// A start that is refused.
+fn put_refusal(why: Refusal) {
+    put_refused(why);
+    put_end();
+}
+
+// The lock desk started at a first number, and all its steps.
+fn open(first: u32) {
+    match Desk::start(first) {
+        desk_arrays::state::Start::Ready(desk) => answer_all(desk),
+        desk_arrays::state::Start::Refused(why) => put_refusal(why),
+    }
+}
+
+// The timestamp desk likewise.
+fn open_stamps(first: u32) {
+    match Stamps::start(first) {
+        stamp_arrays::state::Start::Ready(desk) => answer_stamps(desk),
+        stamp_arrays::state::Start::Refused(why) => put_refusal(why),
+    }
+}
+
+// A blank behind the first number means the timestamp desk: what the second number is does not matter.
 fn main() {
     let first = next_number();
+    if first.end == BLANK {
+        next_number();
+        open_stamps(first.value);
+        return;
+    }
     open(first.value);
 }

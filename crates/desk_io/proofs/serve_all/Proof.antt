@@ -5,12 +5,12 @@ use native.Mathlib.Omega.{arith}
 use borrow.Author.Needs.{needs}
 use lib.ListN.{length}
 use Rattle.desk_io.specs.Serving.{Saw}
-use Rattle.desk_io.proofs.Places.{saw-none, saw-chunk, saw-part}
+use Rattle.desk_io.proofs.Places.{saw-none, saw-since, saw-chunk, saw-part}
 use Rattle.desk_io.proofs.serve_all.Statement.{statement}
 use Rattle.desk_io.proofs.serve_all.Tie as tie
 
 abbrev Inv-loop : tie.InvT-loop
-Inv-loop view input₀ out₀ clerk₀ turns₀ input out clerk turns = (Saw clerk) × (length input ≡ length input₀) × (length out ≡ length out₀)
+Inv-loop view input₀ out₀ clerk₀ turns₀ input out clerk turns = (Saw clerk₀ clerk) × (length input ≡ length input₀) × (length out ≡ length out₀)
 
 abbrev μ-loop : tie.MeasureT-loop
 μ-loop view input₀ out₀ clerk₀ turns₀ input out clerk turns = turns
@@ -19,7 +19,7 @@ started-requires : tie.Need-started-requires Inv-loop μ-loop
 started-requires c κs = search needs
 
 loop-holds : tie.Need-loop-holds Inv-loop μ-loop
-loop-holds c = (saw-none (c .started .ensures), search needs, search needs)
+loop-holds c = (saw-none, search needs, search needs)
 
 read-requires : tie.Need-read-requires Inv-loop μ-loop
 read-requires c κs = search needs
@@ -31,7 +31,7 @@ same-length-2 : tie.Need-same-length-2 Inv-loop μ-loop
 same-length-2 c = search needs
 
 returns : tie.Need-returns Inv-loop μ-loop
-returns c = (c .before .before .before .before .before .before .loop .inv .0, tt)
+returns c = (saw-since (c .before .before .before .before .before .before .before .started .ensures) (c .before .before .before .before .before .before .loop .inv .0), tt)
 
 count-requires : tie.Need-count-requires Inv-loop μ-loop
 count-requires c κs = search needs
@@ -55,7 +55,7 @@ same-length-4 : tie.Need-same-length-4 Inv-loop μ-loop
 same-length-4 c = omega (arith, c .before .before .before .before .before .serve-chunk .kept .1 .1 .1 .0, c .before .before .before .before .before .before .before .before .before .before .before .before .before .before .before .before .before .before .loop .inv .2)
 
 returns-2 : tie.Need-returns-2 Inv-loop μ-loop
-returns-2 c = (saw-part (c .before .before .before .before .before .before .before .before .before .before .before .before .before .before .before .before .before .before .loop .inv .0) (c .before .before .before .before .before .serve-chunk .ensures), tt)
+returns-2 c = (saw-since (c .before .before .before .before .before .before .before .before .before .before .before .before .before .before .before .before .before .before .before .started .ensures) (saw-part (c .before .before .before .before .before .before .before .before .before .before .before .before .before .before .before .before .before .before .loop .inv .0) (c .before .before .before .before .before .serve-chunk .ensures)), tt)
 
 is-over-requires : tie.Need-is-over-requires Inv-loop μ-loop
 is-over-requires c κs = search needs
@@ -67,13 +67,13 @@ same-length-6 : tie.Need-same-length-6 Inv-loop μ-loop
 same-length-6 c = omega (arith, c .before .before .before .before .before .before .before .serve-chunk .kept .1 .1 .1 .0, c .before .before .before .before .before .before .before .before .before .before .before .before .before .before .before .before .before .before .before .before .loop .inv .2)
 
 returns-3 : tie.Need-returns-3 Inv-loop μ-loop
-returns-3 c = (saw-chunk (c .before .before .before .before .before .before .before .before .before .before .before .before .before .before .before .before .before .before .before .before .loop .inv .0) (c .before .before .before .before .before .before .before .serve-chunk .ensures) (c .before .before .if3 .left), sym (c .before .is-over .ensures) ∙ c .if4 .taken)
+returns-3 c = (saw-since (c .before .before .before .before .before .before .before .before .before .before .before .before .before .before .before .before .before .before .before .before .before .started .ensures) (saw-chunk (c .before .before .before .before .before .before .before .before .before .before .before .before .before .before .before .before .before .before .before .before .loop .inv .0) (c .before .before .before .before .before .before .before .serve-chunk .ensures) (c .before .before .if3 .left)), sym (c .before .is-over .ensures) ∙ c .if4 .taken)
 
 sub-turns : tie.Need-sub-turns Inv-loop μ-loop
-sub-turns c = search needs
+sub-turns c = omega (arith, c .before .before .before .before .before .before .before .before .before .before .before .before .before .before .before .before .before .before .before .loop-test .taken)
 
 loop-less : tie.Need-loop-less Inv-loop μ-loop
-loop-less c = search needs
+loop-less c = omega (arith, c .before .before .before .before .before .before .before .before .before .before .before .before .before .before .before .before .before .before .before .loop-test .taken)
 
 loop-again : tie.Need-loop-again Inv-loop μ-loop
 loop-again c = (saw-chunk (c .before .before .before .before .before .before .before .before .before .before .before .before .before .before .before .before .before .before .before .before .loop .inv .0) (c .before .before .before .before .before .before .before .serve-chunk .ensures) (c .before .before .if3 .left), omega (arith, c .before .before .before .before .before .before .before .before .before .before .before .before .before .before .before .before .before .read .kept .1 .0, c .before .before .before .before .before .before .before .before .before .before .before .before .before .before .before .before .before .before .before .before .loop .inv .1), omega (arith, c .before .before .before .before .before .before .before .serve-chunk .kept .1 .1 .1 .0, c .before .before .before .before .before .before .before .before .before .before .before .before .before .before .before .before .before .before .before .before .loop .inv .2))
@@ -85,7 +85,7 @@ same-length-8 : tie.Need-same-length-8 Inv-loop μ-loop
 same-length-8 c = search needs
 
 returns-4 : tie.Need-returns-4 Inv-loop μ-loop
-returns-4 c = (c .before .loop .inv .0, tt)
+returns-4 c = (saw-since (c .before .before .started .ensures) (c .before .loop .inv .0), tt)
 
 same-length-9 : tie.Need-same-length-9 Inv-loop μ-loop
 same-length-9 c = search needs
@@ -94,7 +94,7 @@ same-length-10 : tie.Need-same-length-10 Inv-loop μ-loop
 same-length-10 c = search needs
 
 returns-5 : tie.Need-returns-5 Inv-loop μ-loop
-returns-5 c = (c .before .before .before .before .before .before .before .before .before .loop .inv .0, tt)
+returns-5 c = (saw-since (c .before .before .before .before .before .before .before .before .before .before .started .ensures) (c .before .before .before .before .before .before .before .before .before .loop .inv .0), tt)
 
 pub serve-all-spec : {M : Type 1} → statement M
 serve-all-spec =

@@ -10,6 +10,9 @@ Inv-loop numbered₀ number₀ status₀ cells₀ ask₀ held₀ woken₀ x₀ j
 abbrev μ-loop : tie.MeasureT-loop
 μ-loop numbered₀ number₀ status₀ cells₀ ask₀ held₀ woken₀ x₀ jobs₀ backs₀ tally₀ left₀ numbered number status cells ask held woken x jobs backs tally left = left
 
+no-steps-requires : tie.Need-no-steps-requires Inv-loop μ-loop
+no-steps-requires c κs = search needs
+
 loop-holds : tie.Need-loop-holds Inv-loop μ-loop
 loop-holds c = search needs
 
@@ -19,20 +22,23 @@ hand-by-requires c κs = search needs
 next-requires : tie.Need-next-requires Inv-loop μ-loop
 next-requires c κs = search needs
 
-mul-cell : tie.Need-mul-cell Inv-loop μ-loop
-mul-cell c = search needs
+mul-job : tie.Need-mul-job Inv-loop μ-loop
+mul-job c = search needs
 
-array-read-cell : tie.Need-array-read-cell Inv-loop μ-loop
-array-read-cell c = search needs
+array-read-job : tie.Need-array-read-job Inv-loop μ-loop
+array-read-job c = search needs
 
-array-read-t21 : tie.Need-array-read-t21 Inv-loop μ-loop
-array-read-t21 c = search needs
+array-read-asked-kind : tie.Need-array-read-asked-kind Inv-loop μ-loop
+array-read-asked-kind c = search needs
 
-kind-by-requires : tie.Need-kind-by-requires Inv-loop μ-loop
-kind-by-requires c κs = search needs
+asked-kind-requires : tie.Need-asked-kind-requires Inv-loop μ-loop
+asked-kind-requires c κs = search needs
 
 next-requires-2 : tie.Need-next-requires-2 Inv-loop μ-loop
 next-requires-2 c κs = search needs
+
+cell-by-requires : tie.Need-cell-by-requires Inv-loop μ-loop
+cell-by-requires c κs = search needs
 
 step-on-requires : tie.Need-step-on-requires Inv-loop μ-loop
 step-on-requires c κs = search needs
@@ -40,14 +46,17 @@ step-on-requires c κs = search needs
 next-requires-3 : tie.Need-next-requires-3 Inv-loop μ-loop
 next-requires-3 c κs = search needs
 
-hand-after-requires : tie.Need-hand-after-requires Inv-loop μ-loop
-hand-after-requires c κs = search needs
+job-after-requires : tie.Need-job-after-requires Inv-loop μ-loop
+job-after-requires c κs = search needs
 
 mul-jobs : tie.Need-mul-jobs Inv-loop μ-loop
 mul-jobs c = search needs
 
 array-write-jobs : tie.Need-array-write-jobs Inv-loop μ-loop
 array-write-jobs c = search needs
+
+is-back-requires : tie.Need-is-back-requires Inv-loop μ-loop
+is-back-requires c κs = search needs
 
 array-write-backs : tie.Need-array-write-backs Inv-loop μ-loop
 array-write-backs c = search needs
@@ -69,6 +78,6 @@ returns c = search needs
 
 pub draw-all-spec : {M : Type 1} → statement M
 draw-all-spec =
-    let first = tie.spec Inv-loop μ-loop loop-holds hand-by-requires next-requires mul-cell array-read-cell array-read-t21 kind-by-requires next-requires-2 in
-    let second = first step-on-requires next-requires-3 hand-after-requires mul-jobs array-write-jobs array-write-backs counted-requires sub-left in
-    tie.close (second loop-less loop-again returns)
+    let first = tie.spec Inv-loop μ-loop no-steps-requires loop-holds hand-by-requires next-requires mul-job array-read-job array-read-asked-kind asked-kind-requires in
+    let second = first next-requires-2 cell-by-requires step-on-requires next-requires-3 job-after-requires mul-jobs array-write-jobs is-back-requires array-write-backs counted-requires in
+    tie.close (second sub-left loop-less loop-again returns)

@@ -43,7 +43,8 @@ use Rattle.terms.proofs.refusals.Refusal.Laws as R′
 use Rattle.desk_arrays.specs.declared.state.Desk.{Desk}
 use Rattle.desk_arrays.specs.declared.state.Start.{Start}
 use Rattle.desk_arrays.specs.declared.state.Start.the-variants.{Ready, Refused}
-use Rattle.desk_arrays.proofs.Starts.{placed, desk-at, why-at, by-start, spelt, is-desk, is-why}
+use Rattle.laws.proofs.Walking.{placed}
+use Rattle.desk_arrays.proofs.Starts.{desk-at, why-at, by-start, spelt, is-desk, is-why}
 use Rattle.desk_arrays.proofs.state.Desk as D
 use Rattle.desk_arrays.proofs.state.Desk.Laws as D′
 use Rattle.desk_arrays.proofs.state.Start as T

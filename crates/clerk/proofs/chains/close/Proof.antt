@@ -43,8 +43,8 @@ enum-told-2 c = search needs
 enum-told-3 : tie.Need-enum-told-3
 enum-told-3 c = search needs
 
-put-chains-requires : tie.Need-put-chains-requires
-put-chains-requires c κs =
+put-waiting-requires : tie.Need-put-waiting-requires
+put-waiting-requires c κs =
     let k = c .before .before .before in
     let s = k .before .before .before .before .args in
     let e : s .view ≡ Chains = search needs in
@@ -66,9 +66,9 @@ same-length c = search needs
 returns-4 : tie.Need-returns-4
 returns-4 c =
     let k = c .before .before .before .before .before .before in
-    closes-put _ _ _ _ (k .before .before .closing-room .ensures) (k .before .has-room .ensures) (held k) (wrote-as (c .before .before .put-chains .ensures) (search last-chains))
+    closes-put _ _ _ _ (k .before .before .closing-room .ensures) (k .before .has-room .ensures) (held k) (wrote-as (c .before .before .put-waiting .ensures) (search last-chains))
 
 pub close-spec : {M : Type 1} → statement M
 close-spec =
-    let first = tie.spec closing-room-requires has-room-requires returns enum-told enum-told-2 enum-told-3 put-chains-requires returns-2 returns-3 in
+    let first = tie.spec closing-room-requires has-room-requires returns enum-told enum-told-2 enum-told-3 put-waiting-requires returns-2 returns-3 in
     tie.close (first same-length returns-4)

@@ -1,6 +1,7 @@
 -- `clerk::records::field_beside` meets its contract: the field of a bad line, and else none.
 -- Assumes nothing.
-use Rattle.desk_rules.specs.AnswerWords.{fieldBeside}
+use Rattle.desks.specs.AnswerWords.{fieldBeside}
+use mathlib.Core.Path.{sym, ap, _∙_}
 use borrow.Author.Needs.{needs}
 use Rattle.clerk.proofs.records.field_beside.Statement.{statement}
 use Rattle.clerk.proofs.records.field_beside.Tie as tie
@@ -37,7 +38,7 @@ returns-3 c = search needs
 
 returns-4 : tie.Need-returns-4
 unfolding fieldBeside
-returns-4 c = search needs
+returns-4 c = c .field-of .ensures ∙ ap fieldBeside (sym (c .before .before .a .given .1))
 
 pub field-beside-spec : {M : Type 1} → statement M
 field-beside-spec =

@@ -1,7 +1,8 @@
 -- `clerk::records::number_beside` meets its contract: the job, or the refusal's number.
 -- Assumes nothing.
+use mathlib.Core.Path.{sym, ap, _∙_}
 use borrow.Author.Needs.{needs}
-use Rattle.desk_rules.specs.AnswerWords.{numberBeside}
+use Rattle.desks.specs.AnswerWords.{numberBeside}
 use Rattle.clerk.proofs.records.number_beside.Statement.{statement}
 use Rattle.clerk.proofs.records.number_beside.Tie as tie
 
@@ -46,7 +47,7 @@ returns-3 c = search needs
 
 returns-4 : tie.Need-returns-4
 unfolding numberBeside
-returns-4 c = search needs
+returns-4 c = (c .number-of .ensures ∙ ap numberBeside (sym (c .before .before .a4 .given .1)), search needs)
 
 pub number-beside-spec : {M : Type 1} → statement M
 number-beside-spec =

@@ -1,7 +1,7 @@
 -- `clerk::records::word_of` meets its contract: each answer has its word.
 -- Assumes nothing.
 use borrow.Author.Needs.{needs}
-use Rattle.desk_rules.specs.AnswerWords.{wordOf}
+use Rattle.desks.specs.AnswerWords.{wordOf}
 use Rattle.clerk.proofs.records.word_of.Statement.{statement}
 use Rattle.clerk.proofs.records.word_of.Tie as tie
 

@@ -59,6 +59,9 @@ enum-told-15 c = search needs
 enum-told-16 : tie.Need-enum-told-16
 enum-told-16 c = search needs
 
+enum-told-17 : tie.Need-enum-told-17
+enum-told-17 c = search needs
+
 returns : tie.Need-returns
 returns c = rw (c .enum-told .given .1)
 
@@ -110,6 +113,9 @@ returns-16 c = rw (c .enum-told15 .given .1)
 returns-17 : tie.Need-returns-17
 returns-17 c = rw (c .enum-told16 .given .1)
 
+returns-18 : tie.Need-returns-18
+returns-18 c = rw (c .enum-told17 .given .1)
+
 pub field-of-spec : {M : Type 1} → statement M
 field-of-spec =
     tie.close
@@ -132,6 +138,7 @@ field-of-spec =
     enum-told-14
     enum-told-15
     enum-told-16
+    enum-told-17
     returns
     returns-2
     returns-3
@@ -148,4 +155,5 @@ field-of-spec =
     returns-14
     returns-15
     returns-16
-    returns-17)
+    returns-17
+    returns-18)

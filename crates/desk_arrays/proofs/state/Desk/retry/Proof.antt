@@ -7,7 +7,7 @@ use lib.ListN.{length, drop}
 use borrow.Author.Needs.{needs}
 use Rattle.laws.specs.Lists.{pos}
 use Rattle.desk_arrays.specs.Steps.{retried, retriedJob}
-use Rattle.desk_arrays.proofs.Found.{found-here, found-later, found-nowhere}
+use Rattle.desks.proofs.Found.{found-here, found-later, found-nowhere}
 use Rattle.desk_arrays.proofs.Retrying.{nobody-retries, back-retries, other-stays, unopened-stays}
 use Rattle.desk_arrays.proofs.state.Desk.retry.Statement.{statement}
 use Rattle.desk_arrays.proofs.state.Desk.retry.Tie as tie

@@ -1,0 +1,15 @@
+pub mod Places
+pub mod Answers
+pub mod AnswerNumbers
+pub mod StartedThrough
+pub mod Numbers
+pub mod OpenJobs
+pub mod Starting
+pub mod Following
+pub mod Seats
+pub mod Found
+pub mod TableMeant
+pub mod Fields
+pub mod Refusing
+pub mod Records
+pub mod Unique

@@ -1,0 +1,59 @@
+-- Requests by numbers, and what a desk answers them, as literal numbers: the form of the examples of every desk (01, Lines; 01, Refusals by number).
+use Prim.Native.Nat.{ℕ, zero, suc}
+use mathlib.Core.List.{List, [], _∷_}
+use Rattle.terms.specs.declared.words.Word.{Word}
+use Rattle.terms.specs.declared.words.Word.the-variants.{Go, Wait, Back, No}
+use Rattle.desks.specs.declared.Answer.{Answer}
+use Rattle.desks.specs.AnswerWords.{wordOf, numberBeside}
+use Rattle.desks.specs.Request.{Request}
+use Rattle.desks.specs.Stepping.{Stepping}
+
+-- an answer as its record has it: the word, and the number beside it (01, Lines)
+pub record Said : Type 0 where
+  pub word : Word
+  pub number : ℕ
+
+-- an answer so told
+unfoldable pub toldOf : Answer → Said
+toldOf a = record { word = wordOf a; number = numberBeside a }
+
+-- the answers of any desk to requests, in their order
+unfoldable pub answersOf : {S : Type 0} → Stepping S → S → List Request → List Said
+answersOf step d [] = []
+answersOf step d (r ∷ rs) = toldOf (step d r .said) ∷ answersOf step (step d r .desk) rs
+
+-- a desk started at a first number, requests to it, and its answers
+pub record Example : Type 0 where
+  pub start : ℕ
+  pub requests : List Request
+  pub answers : List Said
+
+-- a request by its three numbers; the kinds are 98 begin, 99 commit, 97 give up, 116 retry, 114 read, 119 write, 105 increment, 117 u
+abbrev pub request : ℕ → ℕ → ℕ → Request
+request kind job cell = record { kind = kind; job = job; cell = cell }
+
+-- so many begins
+abbrev pub begins : ℕ → List Request
+begins zero = []
+begins (suc n) = request 98 0 0 ∷ begins n
+
+-- the answer go with a job
+abbrev pub go : ℕ → Said
+go j = record { word = Go; number = j }
+
+-- wait with a job
+abbrev pub wait : ℕ → Said
+wait j = record { word = Wait; number = j }
+
+-- back with a job
+abbrev pub back : ℕ → Said
+back j = record { word = Back; number = j }
+
+-- no with a refusal's number
+abbrev pub no : ℕ → Said
+no n = record { word = No; number = n }
+
+-- so many jobs go, under the numbers from one on
+abbrev pub goFrom : ℕ → ℕ → List Said
+goFrom j zero = []
+goFrom j (suc n) = go j ∷ goFrom (suc j) n

@@ -1,0 +1,18 @@
+-- `stamp_arrays::state::Stamps::first` meets its contract: started at 1, the empty desk is handed out.
+-- Assumes nothing.
+use mathlib.Core.Path.{ap}
+use borrow.Author.Needs.{needs}
+use Rattle.stamp_arrays.specs.declared.state.Start.the-variants.{Ready}
+use Rattle.stamp_arrays.specs.Steps.{startOf}
+use Rattle.stamp_arrays.proofs.state.Stamps.first.Statement.{statement}
+use Rattle.stamp_arrays.proofs.state.Stamps.first.Tie as tie
+
+empty-requires : tie.Need-empty-requires
+empty-requires c κs = search needs
+
+returns : tie.Need-returns
+unfolding startOf
+returns c = ap Ready (c .empty .ensures)
+
+pub first-spec : {M : Type 1} → statement M
+first-spec = tie.close (tie.spec empty-requires returns)

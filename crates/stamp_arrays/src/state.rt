@@ -1,0 +1,65 @@
+// The timestamp desk's arrays, what a step leaves and says, and how a desk is started (02, No. 6; 01, Jobs and their numbers).
+use desks::Answer;
+use terms::limits::CELLS;
+use terms::limits::PLACES;
+use terms::refusals::Refusal;
+ghost use mathlib.Core.Path.{_≡_};
+ghost use Rattle.stamp_arrays.specs.declared.state.Start.the-variants.{Ready};
+ghost use Rattle.stamp_arrays.specs.Steps.{emptyStamps, startOf};
+
+// So many numbers of each kind: one for each cell.
+pub const ROWS: usize = CELLS as usize;
+
+// The timestamp desk: the next number; for each of the places the job's number, 0 where the place is free;
+// and for each cell the largest number that read it and the largest that wrote it.
+pub struct Stamps {
+    pub next: u64,
+    pub number: [u32; PLACES],
+    pub reader: [u32; ROWS],
+    pub writer: [u32; ROWS],
+}
+
+// What a step leaves and says. There are no wakes: nobody waits here.
+pub struct Stamped {
+    pub stamps: Stamps,
+    pub answer: Answer,
+}
+
+// A timestamp desk that was started, or why there is none.
+pub enum Start {
+    // started
+    Ready(Stamps),
+    // not started: 10
+    Refused(Refusal),
+}
+
+impl Stamps {
+    // A desk whose places are all free and whose cells' numbers are 0; its next number is the one given.
+    fn empty(first: u32) -> Stamps
+        ensures { λ r. ⌜ r ≡ emptyStamps first ⌝ }
+    {
+        Stamps {
+            next: first as u64,
+            number: [0; PLACES],
+            reader: [0; ROWS],
+            writer: [0; ROWS],
+        }
+    }
+
+    // The desk started at a first number; 0 is refused, and there is no desk (01, refusal 10).
+    pub fn start(first: u32) -> Start
+        ensures { λ r. ⌜ r ≡ startOf first ⌝ }
+    {
+        if first == 0 {
+            return Start::Refused(Refusal::StartedAtZero);
+        }
+        Start::Ready(Stamps::empty(first))
+    }
+
+    // The desk started at 1, the smallest number that there is: it is always handed out.
+    pub fn first() -> Stamps
+        ensures { λ r. ⌜ Ready r ≡ startOf 1 ⌝ }
+    {
+        Stamps::empty(1)
+    }
+}

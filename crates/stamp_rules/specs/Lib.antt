@@ -1,0 +1,16 @@
+pub mod Desk
+pub mod Rules
+pub mod Step
+pub mod Table
+pub mod Course
+pub mod Faithful
+pub mod Asked
+pub mod Moves
+pub mod Decides
+pub mod Effects
+pub mod Quiet
+pub mod Stamped
+pub mod NumberHistory
+pub mod Refuses
+pub mod Promises
+pub mod Examples
