@@ -9,8 +9,8 @@ use Rattle.desks.specs.Started.{StartedOn}
 use Rattle.desks.specs.Course.{course}
 use Rattle.desks.specs.Follows.{Follows}
 use Rattle.desk_rules.specs.Promises.{Promises}
-use Rattle.desks.proofs.Following.{follows-on}
-use Rattle.desk_rules.proofs.OneCourse.{keeps-promises, show-the-same}
+use Rattle.desks.proofs.Following.{follows-on, show-the-same}
+use Rattle.desk_rules.proofs.OneCourse.{keeps-promises}
 use Rattle.desk_arrays.specs.declared.state.Desk.{Desk}
 use Rattle.desk_arrays.specs.Steps.{emptyDesk}
 use Rattle.desk_arrays.specs.Seen.{view, onArrays, running}

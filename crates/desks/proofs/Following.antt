@@ -10,7 +10,7 @@ use Rattle.desks.specs.Stepping.{Stepping, through}
 use Rattle.desks.specs.Records.{recordsOf, recordsBy}
 use Rattle.desks.specs.Started.{StartedOn, fresh, after}
 use Rattle.desks.specs.Requests.{gives, givenBy, writes}
-use Rattle.desks.specs.Course.{shown, course}
+use Rattle.desks.specs.Course.{Course, shown, course}
 use Rattle.desks.specs.Told.{toldOf, answersOf}
 use Rattle.desks.specs.Follows.{Follows}
 use Rattle.desks.proofs.StartedThrough.{run-started}
@@ -66,9 +66,18 @@ module _ {S T : Type 0} {see : S → T} {does : Stepping S} {new : ℕ → S} {t
   pub started-course : (n : ℕ) → 0 < n → n ≤ lastNumber → course see does (new n) ≡ course (λ e. e) theirs (first n)
   started-course n l u = one-course (new n) [] (fresh n l u) ∙ ap (course (λ e. e) theirs) (f .starts n l u)
 
+  -- so what is kept by every started desk of the other's it keeps too
+  pub keeps-too : {d : S} {h : History} (P : History → Course T → Type 0) → ((e : T) → StartedOn theirs first e h → P h (course (λ e. e) theirs e)) → StartedOn does new d h → P h (course see does d)
+  keeps-too {d} {h} P kept s = subst (P h) (sym (one-course d h s)) (kept (see d) (seen-started s))
+
   -- the same answers to any requests
   pub same-answers : (n : ℕ) → 0 < n → n ≤ lastNumber → (rs : List Request) → answersOf does (new n) rs ≡ answersOf theirs (first n) rs
   same-answers n l u rs = run-answers (new n) [] (fresh n l u) rs ∙ ap (λ e. answersOf theirs e rs) (f .starts n l u)
+
+-- two desks that follow one, however they are kept, show the same
+pub show-the-same : {S S′ T : Type 0} {see : S → T} {does : Stepping S} {new : ℕ → S} {see′ : S′ → T} {does′ : Stepping S′} {new′ : ℕ → S′} {theirs : Stepping T} {first : ℕ → T} →
+    Follows see does new theirs first → Follows see′ does′ new′ theirs first → (n : ℕ) → 0 < n → n ≤ lastNumber → course see does (new n) ≡ course see′ does′ (new′ n)
+show-the-same f g n l u = started-course f n l u ∙ sym (started-course g n l u)
 
 -- a desk that follows one that follows a third follows the third
 pub follows-on : {S T U : Type 0} {see : S → T} {does : Stepping S} {new : ℕ → S} {theirs : Stepping T} {first : ℕ → T} {look : T → U} {thirds : Stepping U} {one : ℕ → U} →
