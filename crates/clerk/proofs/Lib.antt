@@ -3,7 +3,6 @@ pub mod Cases
 pub mod Noting
 pub mod Waking
 pub mod Telling
-pub mod Holding
 pub mod Answering
 pub mod Going
 pub mod Unique

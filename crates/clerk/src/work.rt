@@ -17,22 +17,16 @@ use stamp_desk::step as stamps;
 use terms::letters::Letter;
 use terms::limits::PLACES;
 use terms::limits::REQUEST_LINES;
-use terms::refusals::Field;
-use text::reader::read_request;
-use text::reader::torn_request;
+use text::held::read_held;
+use text::held::torn_held;
 use text::writer::has_room;
 use text_rules::Reading;
-use text_rules::splitter::KEPT;
 use text_rules::splitter::Splitter;
 ghost use mathlib.Core.Path.{_≡_};
 ghost use mathlib.Core.Bool.{true};
 ghost use Prim.Native.Nat.{_+_, _≤_};
 ghost use lib.ListN.{length};
-ghost use Rattle.terms.specs.Letters.{ofRequests};
 ghost use Rattle.terms.specs.Limits.{requestLines};
-ghost use Rattle.text_rules.specs.Fields.{lacking};
-ghost use Rattle.text_rules.specs.Lines.{readLine};
-ghost use Rattle.text_rules.specs.Split.{foundAt};
 ghost use Rattle.text_rules.specs.Wrote.{Wrote};
 ghost use Rattle.desk_arrays.specs.Steps.{deskOf};
 ghost use Rattle.desk_arrays.specs.Seen.{onArrays};
@@ -47,30 +41,6 @@ ghost use Rattle.program_rules.specs.Work.{viewed, unended, lineRoom, due, turn
 const LONGEST_RECORD: usize = 24;
 // No line has more bytes of records: its own record, and one for each wake.
 pub const LINE_ROOM: usize = LONGEST_RECORD + LONGEST_RECORD * PLACES;
-
-// What the line in the splitter says.
-fn reading_of(s: Splitter) -> Reading
-    ensures { λ r. ⌜ r ≡ readLine ofRequests (foundAt s .bytes) ⌝ }
-{
-    let kept = s.kept;
-    let len = s.len;
-    if len < KEPT {
-        return read_request(&kept[0..len]);
-    }
-    read_request(&kept)
-}
-
-// The field at fault of the line in the splitter, which lacks its newline.
-fn torn_field(s: Splitter) -> Field
-    ensures { λ r. ⌜ r ≡ lacking (readLine ofRequests (foundAt s .bytes)) ⌝ }
-{
-    let kept = s.kept;
-    let len = s.len;
-    if len < KEPT {
-        return torn_request(&kept[0..len]);
-    }
-    torn_request(&kept)
-}
 
 // Whether the line in the splitter is to be answered.
 fn is_due(s: Splitter) -> bool
@@ -184,7 +154,7 @@ fn answer_line(
     requires { ⌜ (due s ≡ true) × (at + lineRoom ≤ length (now out)) ⌝ }
     ensures { λ r. ⌜ (turning view (record { desks = desksOf method (deskOf (now (next .entry)) (now (number .entry)) (now (status .entry)) (now (cells .entry)) (now (ask .entry)) (now (held .entry))) (stampsOf (now (stamped .entry)) (now (seats .entry)) (now (reader .entry)) (now (writer .entry))); splitter = s }) (now (out .entry)) at ≡ record { clerk = record { desks = desksOf method (deskOf (now (next .exit)) (now (number .exit)) (now (status .exit)) (now (cells .exit)) (now (ask .exit)) (now (held .exit))) (stampsOf (now (stamped .exit)) (now (seats .exit)) (now (reader .exit)) (now (writer .exit))); splitter = s }; at = r; out = now (out .exit) }) × (length (now (out .exit)) ≡ length (now (out .entry))) ⌝ }
 {
-    match reading_of(s) {
+    match read_held(s) {
         Reading::Good { letter, job, cell } => match method {
             Method::Locks => answer_by_locks(
                 view,
@@ -307,7 +277,7 @@ fn put_unended(view: View, out: &mut [u8], at: usize, s: Splitter) -> usize
     requires { ⌜ (s .line ≤ requestLines) × (at + lineRoom ≤ length (now out)) ⌝ }
     ensures { λ r. ⌜ Wrote at r (viewed view (unended s)) (now (out .entry)) (now (out .exit)) ⌝ }
 {
-    put_bad(view, out, at, s.line, torn_field(s))
+    put_bad(view, out, at, s.line, torn_held(s))
 }
 
 // The end of the input: a line that lacks its newline is answered by refusal 9, with the field at fault. Where there is no room for that, the buffer is to be written out first.

@@ -4,3 +4,5 @@ pub mod TornLines
 pub mod ReaderUnique
 pub mod WordLaws
 pub mod WriterUnique
+pub mod Holding
+pub mod Placed

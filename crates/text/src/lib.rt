@@ -1,7 +1,10 @@
 // The lines that come in and the records that go out: line reader and record writer (01, Lines).
+pub mod held;
 pub mod reader;
 pub mod writer;
 
+pub use held::read_held;
+pub use held::torn_held;
 pub use reader::read_history;
 pub use reader::read_request;
 pub use reader::torn_request;

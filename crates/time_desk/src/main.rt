@@ -1,7 +1,9 @@
 // Twenty-four hands with a job each, and a mix of steps drawn from a fixed sequence, run on a desk: what a step by numbers costs, with no text between.
-// With nothing on standard input that is the lock desk; where the first byte is a `t`, the timestamp desk. Each step takes three draws, whatever the desk has answered: the hand, the kind and the cell.
+// With nothing on standard input that is the lock desk; where the first byte is a `t`, the timestamp desk; where it is an `l` or an `s`, the lock desk or the timestamp desk kept in one place and lent to each step whole (02, No. 7).
+// Each step takes three draws, whatever the desk has answered: the hand, the kind and the cell.
 // Writes how many steps went, waited, went back and were refused, and how many jobs woke; on the timestamp desk nobody waits or wakes.
 use desk_arrays::state::Desk;
+use desk_arrays::state::Said;
 use desks::Answer;
 use libc::STDIN_FILENO;
 use libc::STDOUT_FILENO;
@@ -18,7 +20,8 @@ use terms::limits::CELLS;
 use terms::limits::PLACES;
 use terms::words::NEWLINE;
 use terms::words::TAB;
-ghost use Prim.Native.Nat.{_<_};
+ghost use Prim.Native.Nat.{_-_, _≤_, _<_};
+ghost use mathlib.Core.Path.{_≡_};
 
 // How many steps were answered how.
 struct Tally {
@@ -29,12 +32,34 @@ struct Tally {
     wakes: u64,
 }
 
+// The hands: the job of each, and whether it was sent back; where the sequence stands, whose step was drawn last, and how the steps so far were answered.
+struct Hands {
+    jobs: [u32; HANDS],
+    backs: [bool; HANDS],
+    drawn: u32,
+    hand: usize,
+    tally: Tally,
+}
+
+// The next step of a desk that is lent: how many are left, itself among them, what is asked, and the hands.
+struct Drawn {
+    left: u64,
+    kind: u8,
+    job: u32,
+    cell: u32,
+    hands: Hands,
+}
+
 // How many steps are drawn, and by how many hands.
 const STEPS: u32 = 1000000;
 
 const HANDS: usize = 24;
-// The byte of the input by which the timestamp desk is meant: `t`.
+// The byte of the input by which the timestamp desk is meant, `t`; by which a lock desk that is lent whole, `l`; and by which such a timestamp desk, `s`.
 const STAMPS: u8 = 116;
+
+const LENT_LOCKS: u8 = 108;
+
+const LENT_STAMPS: u8 = 115;
 
 // The next number of the sequence.
 fn next(x: u32) -> u32 {
@@ -250,21 +275,139 @@ fn draw_stamps(d: Stamps) -> Tally {
     tally
 }
 
-// Whether the timestamp desk is meant: the first byte of the input says so.
-fn is_stamps() -> bool {
+// The step that the hands draw next, with so many left.
+fn draw(h: Hands, left: u64) -> Drawn
+    ensures { λ r. ⌜ r .left ≡ left ⌝ }
+{
+    let jobs = h.jobs;
+    let backs = h.backs;
+    let tally = h.tally;
+    let hand = hand_by(h.drawn);
+    let second = next(h.drawn);
+    let third = next(second);
+    let hands = Hands {
+        jobs,
+        backs,
+        drawn: next(third),
+        hand,
+        tally,
+    };
+    Drawn {
+        left,
+        kind: asked_kind(jobs[hand], backs[hand], second),
+        job: jobs[hand],
+        cell: cell_by(third),
+        hands,
+    }
+}
+
+// The first step of all, when no hand has a job.
+fn first_draw() -> Drawn
+    ensures { λ r. ⌜ 0 < r .left ⌝ }
+{
+    let hands = Hands {
+        jobs: [0; HANDS],
+        backs: [false; HANDS],
+        drawn: 1,
+        hand: 0,
+        tally: no_steps(),
+    };
+    draw(hands, STEPS as u64)
+}
+
+// The hands once the step that they drew was answered, with the job that its hand has then, whether it is to retry, and how many woke.
+fn hands_after(h: Hands, job: u32, back: bool, answer: Answer, wakes: u64) -> Hands {
+    let mut jobs = h.jobs;
+    let mut backs = h.backs;
+    let tally = counted(h.tally, answer, wakes);
+    let hand = h.hand;
+    if hand < HANDS {
+        jobs[hand] = job;
+        backs[hand] = back;
+    }
+    Hands {
+        jobs,
+        backs,
+        drawn: h.drawn,
+        hand,
+        tally,
+    }
+}
+
+// The step after one that was answered; after the last the tally is written out.
+fn draw_after(left: u64, hands: Hands) -> Drawn
+    ensures { λ r. ⌜ r .left ≤ left - 1 ⌝ }
+{
+    if left > 1 {
+        return draw(hands, left - 1);
+    }
+    put_tally(hands.tally);
+    draw(hands, 0)
+}
+
+// The step after one that the lock desk answered.
+fn after_said(a: Drawn, said: Said) -> Drawn
+    ensures { λ r. ⌜ r .left ≤ a .left - 1 ⌝ }
+{
+    let answer = said.answer;
+    let job = job_after(a.job, a.kind, answer);
+    let hands = hands_after(a.hands, job, is_back(answer), answer, said.count as u64);
+    draw_after(a.left, hands)
+}
+
+// The step after one that the timestamp desk answered.
+fn after_answer(a: Drawn, answer: Answer) -> Drawn
+    ensures { λ r. ⌜ r .left ≤ a .left - 1 ⌝ }
+{
+    let job = job_left(a.job, a.kind, answer);
+    let hands = hands_after(a.hands, job, false, answer, 0);
+    draw_after(a.left, hands)
+}
+
+// All the steps, on one lock desk that is lent to each.
+fn lend_locks() {
+    let mut d = Desk::first();
+    let mut a = first_draw();
+    while a.left > 0 {
+        let said = lent::locks::step_lent(&mut d, a.kind, a.job, a.cell);
+        a = after_said(a, said);
+    }
+}
+
+// All the steps, on one timestamp desk that is lent to each.
+fn lend_stamps() {
+    let mut d = Stamps::first();
+    let mut a = first_draw();
+    while a.left > 0 {
+        let answer = lent::stamps::step_lent(&mut d, a.kind, a.job, a.cell);
+        a = after_answer(a, answer);
+    }
+}
+
+// The first byte of the input, by which a desk is meant; 0 where there is none.
+fn first_byte() -> u8 {
     let mut one = [0u8; 1];
     let got = libc::read(STDIN_FILENO, &mut one);
     if got < 0 {
         os::fail(b"time_desk: cannot read");
     }
     if got < 1 {
-        return false;
+        return 0;
     }
-    one[0] == STAMPS
+    one[0]
 }
 
 fn main() {
-    if is_stamps() {
+    let byte = first_byte();
+    if byte == LENT_LOCKS {
+        lend_locks();
+        return;
+    }
+    if byte == LENT_STAMPS {
+        lend_stamps();
+        return;
+    }
+    if byte == STAMPS {
         put_tally(draw_stamps(Stamps::first()));
         return;
     }

@@ -2,7 +2,7 @@
 -- Assumes nothing.
 use native.Mathlib.Omega.{arith}
 use borrow.Author.Needs.{needs}
-use Rattle.try_text.proofs.Placed.{placed}
+use Rattle.text.proofs.Placed.{placed}
 use Rattle.try_text.proofs.answer.Statement.{statement}
 use Rattle.try_text.proofs.answer.Tie as tie
 

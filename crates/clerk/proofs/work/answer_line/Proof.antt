@@ -7,8 +7,8 @@ use Rattle.clerk.proofs.Answering.{under-locks, under-stamps, answered-
 use Rattle.clerk.proofs.work.answer_line.Statement.{statement}
 use Rattle.clerk.proofs.work.answer_line.Tie as tie
 
-reading-of-requires : tie.Need-reading-of-requires
-reading-of-requires c κs = search needs
+read-held-requires : tie.Need-read-held-requires
+read-held-requires c κs = search needs
 
 enum-known-letter : tie.Need-enum-known-letter
 enum-known-letter c = search needs
@@ -39,7 +39,7 @@ returns c =
     let s = c .before .before .before .before .before .before .before .before .before .before .before .before .before .before .before .before .before .before in
     let a = s .args in
     let e = c .before .before .answer-by-locks .ensures in
-    (answered-good (a .view) (a .s) (a .out .now) (a .at) (s .pre .0) (c .before .before .before .before .before .before .before .before .before .before .before .before .before .before .before .before .reading-of .ensures) (c .before .before .before .before .before .before .before .before .before .before .before .before .before .before .letter .given .1) (under-locks (c .before .before .before .before .before .before .before .before .before .before .before .enum-told .given .1) e), wrote-length (e .records))
+    (answered-good (a .view) (a .s) (a .out .now) (a .at) (s .pre .0) (c .before .before .before .before .before .before .before .before .before .before .before .before .before .before .before .before .read-held .ensures) (c .before .before .before .before .before .before .before .before .before .before .before .before .before .before .letter .given .1) (under-locks (c .before .before .before .before .before .before .before .before .before .before .before .enum-told .given .1) e), wrote-length (e .records))
 
 same-length-2 : tie.Need-same-length-2
 same-length-2 c = wrote-length (c .before .before .answer-by-stamps .ensures .records)
@@ -49,7 +49,7 @@ returns-2 c =
     let s = c .before .before .before .before .before .before .before .before .before .before .before .before .before .before .before in
     let a = s .args in
     let e = c .before .before .answer-by-stamps .ensures in
-    (answered-good (a .view) (a .s) (a .out .now) (a .at) (s .pre .0) (c .before .before .before .before .before .before .before .before .before .before .before .before .before .reading-of .ensures) (c .before .before .before .before .before .before .before .before .before .before .before .letter .given .1) (under-stamps (c .before .before .before .before .before .before .before .before .enum-told2 .given .1) e), wrote-length (e .records))
+    (answered-good (a .view) (a .s) (a .out .now) (a .at) (s .pre .0) (c .before .before .before .before .before .before .before .before .before .before .before .before .before .read-held .ensures) (c .before .before .before .before .before .before .before .before .before .before .before .letter .given .1) (under-stamps (c .before .before .before .before .before .before .before .before .enum-told2 .given .1) e), wrote-length (e .records))
 
 same-length-3 : tie.Need-same-length-3
 same-length-3 c = wrote-length (c .before .before .put-bad .ensures)
@@ -59,9 +59,9 @@ returns-3 c =
     let s = c .before .before .before .before .before .before .before .before .before in
     let a = s .args in
     let e = c .before .before .put-bad .ensures in
-    (answered-bad (a .view) (a .s) (a .out .now) (a .at) (s .pre .0) (c .before .before .before .before .before .before .before .reading-of .ensures) (c .before .before .before .before .before .field .given .1) e, wrote-length e)
+    (answered-bad (a .view) (a .s) (a .out .now) (a .at) (s .pre .0) (c .before .before .before .before .before .before .before .read-held .ensures) (c .before .before .before .before .before .field .given .1) e, wrote-length e)
 
 pub answer-line-spec : {M : Type 1} → statement M
 answer-line-spec =
-    let first = tie.spec reading-of-requires enum-known-letter enum-told answer-by-locks-requires enum-told-2 answer-by-stamps-requires enum-known-field in
+    let first = tie.spec read-held-requires enum-known-letter enum-told answer-by-locks-requires enum-told-2 answer-by-stamps-requires enum-known-field in
     tie.close (first put-bad-requires same-length returns same-length-2 returns-2 same-length-3 returns-3)

@@ -6,8 +6,8 @@ use borrow.Author.Needs.{needs}
 use Rattle.clerk.proofs.work.put_unended.Statement.{statement}
 use Rattle.clerk.proofs.work.put_unended.Tie as tie
 
-torn-field-requires : tie.Need-torn-field-requires
-torn-field-requires c κs = search needs
+torn-held-requires : tie.Need-torn-held-requires
+torn-held-requires c κs = search needs
 
 put-bad-requires : tie.Need-put-bad-requires
 put-bad-requires c κs = search needs
@@ -21,4 +21,4 @@ returns c = wrote-as (c .before .before .put-bad .ensures) (search unended-told)
 pub put-unended-spec : {M : Type 1} → statement M
 put-unended-spec =
     tie.close
-    (tie.spec torn-field-requires put-bad-requires same-length returns)
+    (tie.spec torn-held-requires put-bad-requires same-length returns)

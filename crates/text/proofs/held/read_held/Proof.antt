@@ -1,4 +1,4 @@
--- `clerk::work::reading_of` meets its contract: the part that is lent is the line as far as it is kept.
+-- `text::held::read_held` meets its contract: the part that is lent is the line as far as it is kept.
 -- Assumes nothing.
 use mathlib.Core.Path.{_≡_}
 use native.Mathlib.Omega.{arith}
@@ -6,9 +6,9 @@ use lib.ListN.{length}
 use borrow.Author.Needs.{needs}
 use Rattle.terms.specs.Letters.{ofRequests}
 use Rattle.text_rules.specs.Lines.{readLine}
-use Rattle.clerk.proofs.Holding.{held-part, held-whole}
-use Rattle.clerk.proofs.work.reading_of.Statement.{statement}
-use Rattle.clerk.proofs.work.reading_of.Tie as tie
+use Rattle.text.proofs.Holding.{held-part, held-whole}
+use Rattle.text.proofs.held.read_held.Statement.{statement}
+use Rattle.text.proofs.held.read_held.Tie as tie
 
 sub-read-request : tie.Need-sub-read-request
 sub-read-request c = search needs
@@ -36,7 +36,7 @@ returns-2 c =
     let n : length (c .before .before .before .before .args .s .kept) ≡ 16 = search needs in
     held-whole (readLine ofRequests) (c .before .before .before .before .args .s) _ (omega arith) (c .read-request2 .ensures)
 
-pub reading-of-spec : {M : Type 1} → statement M
-reading-of-spec =
+pub read-held-spec : {M : Type 1} → statement M
+read-held-spec =
     let first = tie.spec sub-read-request part-read-request-start part-read-request-end read-request-requires returns slice-aggregate-read-request in
     tie.close (first read-request-requires-2 returns-2)

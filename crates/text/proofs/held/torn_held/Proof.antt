@@ -1,4 +1,4 @@
--- `clerk::work::torn_field` meets its contract: the part that is lent is the line as far as it is kept.
+-- `text::held::torn_held` meets its contract: the part that is lent is the line as far as it is kept.
 -- Assumes nothing.
 use mathlib.Core.Path.{_≡_}
 use native.Mathlib.Omega.{arith}
@@ -7,9 +7,9 @@ use borrow.Author.Needs.{needs}
 use Rattle.terms.specs.Letters.{ofRequests}
 use Rattle.text_rules.specs.Fields.{lacking}
 use Rattle.text_rules.specs.Lines.{readLine}
-use Rattle.clerk.proofs.Holding.{held-part, held-whole}
-use Rattle.clerk.proofs.work.torn_field.Statement.{statement}
-use Rattle.clerk.proofs.work.torn_field.Tie as tie
+use Rattle.text.proofs.Holding.{held-part, held-whole}
+use Rattle.text.proofs.held.torn_held.Statement.{statement}
+use Rattle.text.proofs.held.torn_held.Tie as tie
 
 sub-torn-request : tie.Need-sub-torn-request
 sub-torn-request c = search needs
@@ -37,7 +37,7 @@ returns-2 c =
     let n : length (c .before .before .before .before .args .s .kept) ≡ 16 = search needs in
     held-whole (λ bytes. lacking (readLine ofRequests bytes)) (c .before .before .before .before .args .s) _ (omega arith) (c .torn-request2 .ensures)
 
-pub torn-field-spec : {M : Type 1} → statement M
-torn-field-spec =
+pub torn-held-spec : {M : Type 1} → statement M
+torn-held-spec =
     let first = tie.spec sub-torn-request part-torn-request-start part-torn-request-end torn-request-requires returns slice-aggregate-torn-request in
     tie.close (first torn-request-requires-2 returns-2)

@@ -1,0 +1,10 @@
+pub mod Calling
+pub mod LentPromises
+pub mod Parts
+pub mod Entry
+pub mod Asking
+pub mod Night
+pub mod Turns
+pub mod AllNight
+pub mod Desks
+pub mod Unique
