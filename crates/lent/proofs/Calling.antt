@@ -33,11 +33,6 @@ module _ {S : Type 0} (does : Stepping S) where
   steps-wrote d [] = refl
   steps-wrote d (r ∷ rs) = ap (λ h. recordsBy does d r ++ h) (steps-wrote (does d r .desk) rs)
 
--- where a call may always come to something, any requests have their calls
-pub calls-for : {S O : Type 0} {tell : O → Stepped S} {call : S → Request → O → Type 0} (comes : S → Request → O) → ((d : S) (r : Request) → call d r (comes d r)) → (d : S) (rs : List Request) → (os : List O) × Lent tell call d rs os
-calls-for comes may d [] = ([], over d)
-calls-for {tell = tell} comes may d (r ∷ rs) = let (os, l) = calls-for comes may (tell (comes d r) .desk) rs in (comes d r ∷ os, next (may d r) l)
-
 module _ {S O : Type 0} {tell : O → Stepped S} {call : S → Request → O → Type 0} {does : Stepping S} (same : (d : S) (r : Request) (o : O) → call d r o → tell o ≡ does d r) where
   -- each call leaves and tells what the step of its request does
   each-step : {d : S} {rs : List Request} {os : List O} → Lent tell call d rs os → map tell os ≡ stepsOf does d rs
@@ -63,3 +58,8 @@ module _ {S O : Type 0} {tell : O → Stepped S} {call : S → Request → O →
     pub lent-keeps : {d : S} {h : History} {rs : List Request} {os : List O} (P : History → Course T → Type 0) → ((g : History) (e : T) → StartedOn theirs first e g → P g (course (λ e. e) theirs e))
         → StartedOn does new d h → Lent tell call d rs os → P (h ++ wroteBy rs (map tell os)) (course see does (leftBy d (map tell os)))
     lent-keeps {h = h} {rs = rs} {os = os} P kept s l = keeps-too f P (kept (h ++ wroteBy rs (map tell os))) (lent-started s l)
+
+-- where a call may always come to something, any requests have their calls
+pub calls-for : {S O : Type 0} {tell : O → Stepped S} {call : S → Request → O → Type 0} (comes : S → Request → O) → ((d : S) (r : Request) → call d r (comes d r)) → (d : S) (rs : List Request) → (os : List O) × Lent tell call d rs os
+calls-for comes may d [] = ([], over d)
+calls-for {tell = tell} comes may d (r ∷ rs) = let (os, l) = calls-for comes may (tell (comes d r) .desk) rs in (comes d r ∷ os, next (may d r) l)

@@ -35,7 +35,7 @@ abbrev pub says-night : {M : Type 1} (𝓤 : URA M) → Clauses 𝓤 ofNight
 says-night 𝓤 κs a = record { ghost = Unit {0}; requires = λ g. emp 𝓤; ensures = λ g r e. emp 𝓤 }
 
 module _ (D S X : Part) (O : Pair D S) (K : Asking X) where
-  -- the types of the reference and of the request in the loop's code
+  -- the type of the reference in the loop's code
   abbrev pub ref : Ty
   ref = tyRef erased mut (pointee (rowOf D .written))
 

@@ -33,6 +33,6 @@ OnStamps d r o = stamping (o .stamps) (o .answer) ≡ stamps.stepOf d (r .kind) 
 abbrev pub locksTold : Outcome → Stepped Desk
 locksTold o = record { desk = o .desk; said = o .said .answer; wakes = wakesTold (o .said) }
 
--- of the timestamp desk there are none
+-- likewise of the timestamp desk, where nobody wakes
 abbrev pub stampsTold : Stamped → Stepped Stamps
 stampsTold o = record { desk = o .stamps; said = o .answer; wakes = [] }

@@ -1,4 +1,4 @@
-// The request line that the splitter holds, whatever length it says: what it says, and its field at fault where it lacks its newline (01, Lines).
+// The request line that the splitter holds, whatever length the splitter gives: what the line says, and its field at fault where it lacks its newline (01, Lines).
 use crate::reader::read_request;
 use crate::reader::torn_request;
 use terms::Field;

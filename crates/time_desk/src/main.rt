@@ -134,7 +134,7 @@ fn is_back(answer: Answer) -> bool {
     }
 }
 
-// What a hand asks of the lock desk: one whose job was sent back retries.
+// What a hand asks: one whose job was sent back, and is still open, retries.
 fn asked_kind(job: u32, back: bool, x: u32) -> u8 {
     if back {
         return RETRY;

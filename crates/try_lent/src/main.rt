@@ -39,10 +39,10 @@ struct Byte {
     there: bool,
 }
 
-// The input up to the next newline, and whether it goes on there: where it does not, it has ended or cannot be read.
+// The input up to the next newline, and whether one came: where none did, the input has ended or cannot be read.
 struct Heard {
     splitter: Splitter,
-    more: bool,
+    whole: bool,
 }
 
 // The first byte of the input where the timestamp desk is meant.
@@ -72,7 +72,7 @@ fn hear_line(before: Splitter) -> Heard {
         if !next.there {
             return Heard {
                 splitter,
-                more: false,
+                whole: false,
             };
         }
         let one = [next.byte];
@@ -81,14 +81,14 @@ fn hear_line(before: Splitter) -> Heard {
         if splitter.ended {
             return Heard {
                 splitter,
-                more: true,
+                whole: true,
             };
         }
         turns -= 1;
     }
     Heard {
         splitter,
-        more: false,
+        whole: false,
     }
 }
 
@@ -185,7 +185,7 @@ fn next_request(before: Splitter, lines: u64) -> Asked
     while left > 0 {
         let heard = hear_line(splitter);
         splitter = heard.splitter;
-        if !heard.more {
+        if !heard.whole {
             return at_end(splitter);
         }
         match read_held(splitter) {
