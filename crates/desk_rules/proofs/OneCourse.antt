@@ -1,4 +1,4 @@
--- THE TIE: a desk that is kept in another way and does as the paper's desk does shows what the paper's desk shows, and keeps every promise.
+-- THE TIE: a desk that is kept in another way and does as the paper's desk does keeps every promise, since it shows what the paper's desk shows (`Following.antt` of `desks`).
 -- Assumes nothing.
 use Prim.Native.Nat.{ℕ, _<_, _≤_}
 use mathlib.Core.Path.{sym, subst}

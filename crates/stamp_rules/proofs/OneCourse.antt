@@ -1,4 +1,4 @@
--- THE TIE: a desk that is kept in another way and does as the request's desk does shows what the request's desk shows, and keeps every promise (02, No. 6).
+-- THE TIE: a desk that is kept in another way and does as the request's desk does keeps every promise (02, No. 6), since it shows what the request's desk shows (`Following.antt` of `desks`).
 -- Assumes nothing.
 use Prim.Native.Nat.{ℕ, _<_, _≤_}
 use mathlib.Core.Path.{sym, subst}
