@@ -6,6 +6,7 @@ use mathlib.Core.Bool.{true}
 use mathlib.Core.List.{List, [], map, map-append, append-nil}
 use lib.ListN.{length, take, drop, replicate, length-map}
 use lib.Seq.{take-at}
+use Rattle.laws.specs.Lists.{filled}
 use Rattle.terms.specs.declared.letters.Letter.{Letter}
 use Rattle.terms.specs.declared.refusals.Field.{Field}
 use Rattle.terms.specs.Letters.{byteOf, ofRequests}
@@ -24,7 +25,7 @@ use Rattle.desk_arrays.specs.declared.state.Told.{Told}
 use Rattle.desk_arrays.specs.Steps.{noAction, wakeAt, listed, saying, carried, moveOf, performed, stepOf}
 use Rattle.desk_arrays.specs.Stands.{wakesTold}
 use Rattle.desk_arrays.specs.Seen.{onArrays}
-use Rattle.desk.specs.InPlace.{laid, wokenBy, StepsTo}
+use Rattle.desk.specs.InPlace.{wokenBy, StepsTo}
 use Rattle.desks.specs.declared.Answer.{Answer}
 use Rattle.desks.specs.Request.{Request}
 use Rattle.stamp_arrays.specs.declared.state.Stamps.{Stamps}
@@ -58,7 +59,7 @@ module _ {d e : Desk} {l w : List ℕ} {kind job c : ℕ} {t : Told} (s : StepsT
 
   -- the first places of the list are those woken
   woken-first : take (t .count) (map said w) ≡ map said (wokenBy d kind job c)
-  unfolding laid
+  unfolding filled
   woken-first =
       ap (λ x. take (t .count) (map said x)) (s .places) ∙ ap (take (t .count)) (map-append said (wokenBy d kind job c) (drop (length (wokenBy d kind job c)) l))
       ∙ take-at (map said (wokenBy d kind job c)) _ (t .count) (length-map (wokenBy d kind job c) said ∙ sym many)

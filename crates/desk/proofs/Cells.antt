@@ -1,4 +1,4 @@
--- Rule 4 as the code comes along it: a grant, one cell more, and a cell that nobody waits for passed over; with the places woken laid over a list.
+-- Rule 4 as the code comes along it: a grant, one cell more, and a cell that nobody waits for passed over; with the places woken in the first places of a list.
 -- Assumes nothing.
 use Prim.Native.Nat.{ℕ, zero, suc, _+_, _≤_, _<_}
 use mathlib.Core.Path.{_≡_, refl, sym, ap, subst, _∙_}
@@ -9,6 +9,7 @@ use native.Mathlib.Omega.{arith}
 use lib.Dec.{eqb}
 use lib.ListN.{length, getD, set, take, length-append}
 use borrow.Author.Tests.{not-true}
+use Rattle.laws.specs.Lists.{filled}
 use Rattle.laws.specs.Choice.{by-test, not-both}
 use Rattle.terms.specs.Limits.{places, cells}
 use Rattle.conflict.specs.declared.modes.Mode.{Mode}
@@ -23,8 +24,8 @@ use Rattle.desk_plan.specs.declared.grants.Grant.{Grant}
 use Rattle.desk_plan.specs.declared.grants.Grant.the-variants.{Nobody, To}
 use Rattle.desk_plan.specs.Grants.{noneWaits, wanted, nextGrant}
 use Rattle.desk_plan.proofs.Wanted.{unwanted}
-use Rattle.desk.specs.InPlace.{laid, Reached}
-use Rattle.desk.proofs.Laid.{laid-take, laid-length, laid-more, laid-again}
+use Rattle.desk.specs.InPlace.{Reached}
+use Rattle.laws.proofs.Filled.{filled-first, filled-length, filled-more, filled-again}
 use Rattle.desk.proofs.Grants.{Picked, front, fronts, mayGrant, grant-grants, stands-empty, none-granted, who-granted, granted-place, settle-more, settle-stop}
 use Rattle.desk.proofs.Room.{room, NoNewWaiter, cell-grows, all-room, all-waiting, wake-fits}
 
@@ -38,11 +39,11 @@ module _ {s : Settling} {l held status woken : List ℕ} {count : ℕ} (r : Reac
   reached-holds = λ i. record { held = r .modes i; status = r .doing i; woken = told i }
     where
       told : take count woken ≡ s .woken
-      told = ap (λ n. take n woken) (r .many) ∙ ap (take (length (s .woken))) (r .places) ∙ laid-take (s .woken) l
+      told = ap (λ n. take n woken) (r .many) ∙ ap (take (length (s .woken))) (r .places) ∙ filled-first (s .woken) l
 
   -- the list keeps its length
   pub reached-length : length (s .woken) ≤ length l → length woken ≡ length l
-  reached-length h = ap length (r .places) ∙ laid-length (s .woken) l h
+  reached-length h = ap length (r .places) ∙ filled-length (s .woken) l h
 
 -- the same, by another name for the state
 pub reached-as : {s t : Settling} {l held status woken : List ℕ} {count : ℕ} → Reached s l held status woken count → s ≡ t → Reached t l held status woken count
@@ -88,7 +89,7 @@ module _ (number cell ask : List ℕ) (c : ℕ) (s₀ : Settling) (inside : c < 
           by-grant = unfold granted in record {
             modes = rw (e, w .mode, w .place, r .modes);
             doing = rw (w .place, r .doing);
-            places = rw (r .places, r .many, w .place) (laid-more (x .woken) l (front number cell ask c x) (rw (← r .many) b));
+            places = rw (r .places, r .many, w .place) (filled-more (x .woken) l (front number cell ask c x) (rw (← r .many) b));
             many = rw (r .many) (omega (arith, length-append (x .woken) (front number cell ask c x ∷ [])));
           }
 
@@ -115,7 +116,7 @@ module _ (number cell ask : List ℕ) (s : Settling) (c : ℕ) {l held status wo
       (record {
         modes = t .modes;
         doing = t .doing;
-        places = t .places ∙ ap (laid (u .woken)) (r .places) ∙ laid-again (settleAll number cell ask c s .woken) l (u .woken) grown;
+        places = t .places ∙ ap (filled (u .woken)) (r .places) ∙ filled-again (settleAll number cell ask c s .woken) l (u .woken) grown;
         many = t .many;
       }))
     where

@@ -1,4 +1,3 @@
-pub mod Laid
 pub mod Grants
 pub mod Room
 pub mod Cells

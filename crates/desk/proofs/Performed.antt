@@ -5,6 +5,7 @@ use mathlib.Core.Path.{_≡_, refl, sym, ap, subst, _∙_}
 use mathlib.Core.List.{List}
 use lib.Dec.{eqb}
 use lib.ListN.{length, set}
+use Rattle.laws.specs.Lists.{filled}
 use Rattle.laws.specs.Choice.{by-test}
 use Rattle.terms.specs.declared.letters.Ask.{Ask}
 use Rattle.terms.specs.declared.letters.Letter.{Letter}
@@ -30,7 +31,7 @@ use Rattle.desk_arrays.specs.Moves.{statusOf, moveFor}
 use Rattle.desk_arrays.specs.Steps.{deskOf, withStatus, withHeld, begun, withMode, waitingFor, retried, retriedJob, codeAfter, numbersAfter, settled, ended, carried, answerTo, saying, performed, moveOf, stepOf}
 use Rattle.desk_plan.specs.Fits.{Fits}
 use Rattle.desk_plan.proofs.Fitting.{plan-fits}
-use Rattle.desk.specs.InPlace.{laid, Reached, wokenBy, StepsTo}
+use Rattle.desk.specs.InPlace.{Reached, wokenBy, StepsTo}
 
 -- a retry changes nothing but what the places are doing
 retried-status : (d : Desk) (job : ℕ) → withStatus d (retriedJob d job .status) ≡ retriedJob d job
@@ -65,40 +66,40 @@ module _ (d : Desk) (l : List ℕ) (kind job c : ℕ) {letter : Lettered} (of-ki
 
   module _ {a : Answer} (answers : a ≡ answerTo m job) where
     -- the plan carried out is the step
-    steps : {e : Desk} {w : List ℕ} {n : ℕ} → e ≡ carried d job c m .desk → w ≡ laid (carried d job c m .woken) l → n ≡ length (carried d job c m .woken) →
+    steps : {e : Desk} {w : List ℕ} {n : ℕ} → e ≡ carried d job c m .desk → w ≡ filled (carried d job c m .woken) l → n ≡ length (carried d job c m .woken) →
         StepsTo d l kind job c e w (record { answer = a; count = n })
     unfolding stepOf performed saying moveOf wokenBy
     steps e f g = record {
       desk = e ∙ ap (λ x. carried d job c x .desk) planned;
       answer = answers ∙ ap (λ x. answerTo x job) planned;
       count = g ∙ ap (λ x. length (carried d job c x .woken)) planned;
-      places = f ∙ ap (λ x. laid (carried d job c x .woken) l) planned;
+      places = f ∙ ap (λ x. filled (carried d job c x .woken) l) planned;
     }
 
     -- a refusal leaves the desk as it was
     pub refused : {why : Refusal} → m ≡ Refuse why → StepsTo d l kind job c d l (record { answer = a; count = 0 })
-    unfolding carried laid
+    unfolding carried filled
     refused e = steps (rw e) (rw e) (rw e)
 
     -- a new number at its place
     pub begun-at : {p n : ℕ} → m ≡ Begin p n → StepsTo d l kind job c (deskOf (n + 1) (set (d .number) p n) (set (d .status) p runningCode) (d .cell) (d .ask) (d .held)) l (record { answer = a; count = 0 })
-    unfolding carried begun laid
+    unfolding carried begun filled
     begun-at e = steps (rw e) (rw e) (rw e)
 
     -- a covering mode is held: nothing changes
     pub kept : m ≡ Keep → StepsTo d l kind job c d l (record { answer = a; count = 0 })
-    unfolding carried laid
+    unfolding carried filled
     kept e = steps (rw e) (rw e) (rw e)
 
     -- the place has the mode
     pub taken : {p code : ℕ} {mode : Mode} → m ≡ Take p mode → code ≡ codeOf mode → StepsTo d l kind job c (withHeld d (set (d .held) (spot c p) code)) l (record { answer = a; count = 0 })
-    unfolding carried withMode laid
+    unfolding carried withMode filled
     taken e h = steps (rw (e, h)) (rw e) (rw e)
 
     -- the place waits
     pub stayed : {p code : ℕ} {asks : Ask} → m ≡ Stay p asks → code ≡ askCode asks →
         StepsTo d l kind job c (deskOf (d .next) (d .number) (set (d .status) p waitingCode) (set (d .cell) p c) (set (d .ask) p code) (d .held)) l (record { answer = a; count = 0 })
-    unfolding carried waitingFor laid
+    unfolding carried waitingFor filled
     stayed e h = steps (rw (e, h)) (rw e) (rw e)
 
     -- rule 4: what it reaches makes up the desk and the wakes
@@ -110,7 +111,7 @@ module _ (d : Desk) (l : List ℕ) (kind job c : ℕ) {letter : Lettered} (of-ki
 
     -- the job runs again
     pub tried : {status : List ℕ} → m ≡ Retry → status ≡ retriedJob d job .status → StepsTo d l kind job c (withStatus d status) l (record { answer = a; count = 0 })
-    unfolding carried laid
+    unfolding carried filled
     tried e h = steps (rw e (ap (withStatus d) h ∙ retried-status d job)) (rw e) (rw e)
 
 -- a byte that is no letter's is refused

@@ -1,12 +1,13 @@
 -- From what the scan tells and what is decided to the judgement: a short buffer, a faultless text, a faulty line.
 -- Assumes nothing.
-use Prim.Native.Nat.{ℕ, _+_, _≤_, _<_}
+use Prim.Native.Nat.{ℕ, _+_, _-_, _≤_, _<_}
 use mathlib.Core.Path.{_≡_, refl, sym, ap, _∙_, subst}
 use mathlib.Core.List.{List, []}
 use mathlib.Core.Option.{Option, none, some}
 use native.Mathlib.Omega.{arith}
 use borrow.Author.Tests.{lt-ltb, le-ltb}
-use lib.ListN.{length}
+use lib.ListN.{length, drop, length-drop}
+use lib.Seq.{length-take-le}
 use Rattle.terms.specs.declared.refusals.Refusal.{Refusal}
 use Rattle.terms.specs.declared.refusals.Refusal.the-variants.{ShortOrder}
 use Rattle.terms.specs.Limits.{judgedJobs}
@@ -123,3 +124,13 @@ pub part-starts : (place : ℕ × ℕ) (text before after : List ℕ) (r : Judge
 part-starts place text before after r j =
     let e : r .from ≡ lineFrom text (judgementOf text before .said) = j .starts ∙ ap (lineFrom text) (j .said-is) in
     ap (λ (o : ℕ). (place .0, o)) (omega arith)
+
+-- what is told of the line's place is where the line handed back starts, and how many bytes it has
+pub line-told : (text before after : List ℕ) (r : Judged) → JudgedAs text before after r →
+    (r .from ≡ lineFrom text (judgementOf text before .said)) × (r .to - r .from ≡ length (judgementOf text before .line))
+line-told text before after r j =
+    let ordered = j .ordered in
+    let within = j .within in
+    let rest = length-drop (r .from) text in
+    let long : length (part text (r .from) (r .to)) ≡ r .to - r .from = length-take-le (r .to - r .from) (drop (r .from) text) (omega arith) in
+    (j .starts ∙ ap (lineFrom text) (j .said-is), sym long ∙ ap length (j .place))

@@ -1,4 +1,4 @@
-// The judge's two entries: one tells the verdict, and one hands back the faulty line too, with the verdict in four numbers (01, The judge's rules; 02, No. 5).
+// The judge's entries: one tells the verdict, and two the faulty line too, with the verdict in four numbers: as a part of the text, and as its place there (01, The judge's rules; 02, No. 5).
 use crate::scan::Scanned;
 use crate::scan::scan;
 use judge_core::kept::judge_kept;
@@ -10,7 +10,8 @@ use terms::refusals::field_of;
 use terms::refusals::number_of;
 ghost use mathlib.Core.Path.{_≡_};
 ghost use denote.Ref.{ptr};
-ghost use Rattle.judge_rules.specs.Judgement.{judgementOf, inNumbers};
+ghost use lib.ListN.{length};
+ghost use Rattle.judge_rules.specs.Judgement.{judgementOf, lineFrom, inNumbers};
 ghost use Rattle.judge.specs.Judged.{Small, JudgedAs, linePlace};
 
 // What is said, and where in the text the line handed back stands; at the text's start and empty where no line is.
@@ -18,6 +19,12 @@ struct Judged {
     said: Verdict,
     from: usize,
     to: usize,
+}
+
+// Where in the text the faulty line stands: the place of its first byte, and how many bytes it has without its newline; 0 and 0 where none is faulty.
+pub struct LineAt {
+    pub from: usize,
+    pub length: usize,
 }
 
 // The verdict on a text, with the place of the faulty line: 14 first, then the lines in order, then what they say.
@@ -94,4 +101,22 @@ pub fn judge<'a>(text: &'a [u8], order: &mut [u8], answer: &mut [u32; 4]) -> &'a
     let to = found.to;
     *answer = in_numbers(said);
     &text[from..to]
+}
+
+// The same for callers to whom no part of a text can be handed back: told is where in the text the faulty line stands.
+pub fn judge_at(text: &[u8], order: &mut [u8], answer: &mut [u32; 4]) -> LineAt
+    ensures from { λ r. ⌜ r .from ≡ lineFrom (now (text .entry)) (judgementOf (now (text .entry)) (now (order .entry)) .said) ⌝ }
+    ensures length { λ r. ⌜ r .length ≡ length (judgementOf (now (text .entry)) (now (order .entry)) .line) ⌝ }
+    ensures order { λ r. ⌜ now (order .exit) ≡ judgementOf (now (text .entry)) (now (order .entry)) .order ⌝ }
+    ensures answer { λ r. ⌜ now (answer .exit) ≡ inNumbers (judgementOf (now (text .entry)) (now (order .entry)) .said) ⌝ }
+{
+    let found = judgement(text, order);
+    let said = found.said;
+    let from = found.from;
+    let to = found.to;
+    *answer = in_numbers(said);
+    LineAt {
+        from,
+        length: to - from,
+    }
 }

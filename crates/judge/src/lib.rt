@@ -3,4 +3,5 @@ pub mod entry;
 mod scan;
 
 pub use entry::judge;
+pub use entry::judge_at;
 pub use entry::judge_text;

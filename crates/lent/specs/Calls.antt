@@ -8,10 +8,10 @@ use Rattle.desks.specs.Records.{recordsOf}
 use Rattle.desks.specs.Requests.{writes}
 use Rattle.desks.specs.Told.{Said, toldOf, answersOf}
 
--- the calls, one after another: `call d r o` says that a call that finds the desk d and is asked r may leave and say o, and the next one finds what that leaves
-pub data Lent {S O : Type 0} (tell : O → Stepped S) (call : S → Request → O → Type 0) : S → List Request → List O → Type 0 where
-  over : (d : S) → Lent tell call d [] []
-  next : {d : S} {r : Request} {o : O} {rs : List Request} {os : List O} → call d r o → Lent tell call (tell o .desk) rs os → Lent tell call d (r ∷ rs) (o ∷ os)
+-- the calls, one after another: `call d r o` says that a call that finds the desk d and is asked r may come to o, and the next one finds what that leaves
+pub data Lent {S O : Type 0} (leaves : O → S) (call : S → Request → O → Type 0) : S → List Request → List O → Type 0 where
+  over : (d : S) → Lent leaves call d [] []
+  next : {d : S} {r : Request} {o : O} {rs : List Request} {os : List O} → call d r o → Lent leaves call (leaves o) rs os → Lent leaves call d (r ∷ rs) (o ∷ os)
 
 -- the desk in the end, by what each call left
 unfoldable pub leftBy : {S : Type 0} → S → List (Stepped S) → S

@@ -1,5 +1,5 @@
 // Runs the judge by cases: a line `= N` opens a case, the lines up to the next such line are its history, and N places of a buffer are lent for the order.
-// Writes for each case the verdict's line, then the line handed back, where there is one, and `!` where the buffer or the judge's two entries are not as told.
+// Writes for each case the verdict's line, then the line handed back, where there is one, and `!` where the buffer or two of the judge's entries are not as told.
 use judge::entry::judge;
 use judge::entry::judge_text;
 use judge_line::verdict::write_verdict;
@@ -140,7 +140,7 @@ fn rest_stays<'a>(one: &'a [u8; ORDER_PLACES], other: &'a [u8; ORDER_PLACES], n:
     true
 }
 
-// The judge's two entries on a text, each with its own buffer.
+// Two of the judge's entries on a text, each with its own buffer.
 fn report(text: &[u8], places: usize)
     requires { ⌜ places ≤ 300 ⌝ }
 {

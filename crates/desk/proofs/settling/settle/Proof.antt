@@ -3,8 +3,8 @@
 use borrow.Author.Needs.{needs}
 use mathlib.Core.Path.{refl, sym}
 use mathlib.Core.List.{[]}
+use Rattle.laws.specs.Lists.{filled}
 use Rattle.laws.specs.Choice.{was-true}
-use Rattle.desk.specs.InPlace.{laid}
 use Rattle.desk.proofs.Cells.{reached-as, none-settled}
 use Rattle.desk.proofs.settling.settle.Statement.{statement}
 use Rattle.desk.proofs.settling.settle.Tie as tie
@@ -13,7 +13,7 @@ none-waits-requires : tie.Need-none-waits-requires
 none-waits-requires c κs = tt
 
 returns : tie.Need-returns
-unfolding laid
+unfolding filled
 returns c =
     let a = c .before .before .before .args in
     reached-as (record { modes = refl; doing = refl; places = refl; many = refl })

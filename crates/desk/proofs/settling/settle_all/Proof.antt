@@ -5,9 +5,10 @@ use mathlib.Core.Path.{_≡_, refl, ap}
 use mathlib.Core.Logic.{⊎-elim}
 use mathlib.Core.List.{List, []}
 use native.Mathlib.Omega.{arith}
+use Rattle.laws.specs.Lists.{filled}
 use Rattle.desk_arrays.specs.Settling.{Settling, settleAll}
 use Rattle.desk_arrays.proofs.WaitingCount.{waiters-most}
-use Rattle.desk.specs.InPlace.{laid, Reached}
+use Rattle.desk.specs.InPlace.{Reached}
 use Rattle.terms.specs.Limits.{places}
 use Rattle.desk.proofs.Room.{room}
 use Rattle.desk.proofs.Cells.{reached-as, reached-by, cells-room, cells-length, cells-settled, cells-passed}
@@ -29,7 +30,7 @@ wanted-cells-requires : tie.Need-wanted-cells-requires Inv-loop μ-loop
 wanted-cells-requires c κs = tt
 
 loop-holds : tie.Need-loop-holds Inv-loop μ-loop
-unfolding settleAll laid
+unfolding settleAll filled
 loop-holds c = (omega arith, record { modes = refl; doing = refl; places = refl; many = refl })
 
 array-read-if1 : tie.Need-array-read-if1 Inv-loop μ-loop

@@ -6,8 +6,9 @@ use mathlib.Core.Path.{_≡_, refl, ap, sym}
 use native.Mathlib.Omega.{arith}
 use lib.ListN.{length, take, take-append-drop}
 use lib.Seq.{length-take-le}
+use Rattle.laws.specs.Lists.{filled}
 use Rattle.desk_arrays.specs.Settling.{settleCell}
-use Rattle.desk.specs.InPlace.{laid, Reached}
+use Rattle.desk.specs.InPlace.{Reached}
 use Rattle.desk.proofs.Cells.{holds, reached-as, cell-stops, turn-place, turn-room, turn-granted}
 use Rattle.desk.proofs.settling.settle_cell.Statement.{statement}
 use Rattle.desk.proofs.settling.settle_cell.Tie as tie
@@ -20,7 +21,7 @@ abbrev μ-loop : tie.MeasureT-loop
 μ-loop held₀ status₀ woken₀ number cell ask count c k₀ n₀ held status woken k n = 32 - n
 
 loop-holds : tie.Need-loop-holds Inv-loop μ-loop
-unfolding settleCell laid
+unfolding settleCell filled
 loop-holds c =
     let a = c .args in
     let e : length (take (a .count) (a .woken .now)) ≡ a .count = length-take-le (a .count) (a .woken .now) (omega arith) in

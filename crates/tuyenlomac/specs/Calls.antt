@@ -1,0 +1,58 @@
+-- A call on a desk that is lent to the library, and what it is for it to tell, in numbers, what a step by value gives (02, No. 7). Calls one after another are those of `Rattle.lent.specs.Calls`.
+use mathlib.Core.Path.{_≡_}
+use mathlib.Core.List.{List, [], _∷_}
+use Rattle.desks.specs.Request.{Request}
+use Rattle.desk_arrays.specs.declared.state.Desk.{Desk}
+use Rattle.desk_arrays.specs.declared.state.Outcome.{Outcome}
+use Rattle.desk_arrays.specs.Steps as locks
+use Rattle.desk_arrays.specs.Stands.{wakesTold}
+use Rattle.stamp_arrays.specs.declared.state.Stamps.{Stamps}
+use Rattle.stamp_arrays.specs.declared.state.Stamped.{Stamped}
+use Rattle.stamp_arrays.specs.Steps as stamps
+use Rattle.tuyenlomac.specs.declared.answers.Answered.{Answered}
+use Rattle.tuyenlomac.specs.Numbers.{inThree}
+use Rattle.tuyenlomac.specs.Desks.{Lists, wakesIn}
+
+-- what a call on a lock desk comes to: the desk that it leaves, the lists lent for the wakes and as it leaves them, and the answer
+pub record LocksCall : Type 0 where
+  pub desk : Desk
+  pub lent : Lists
+  pub told : Lists
+  pub answer : Answered
+
+-- these four together
+abbrev pub locksCall : Desk → Lists → Lists → Answered → LocksCall
+locksCall after lent told r = record { desk = after; lent = lent; told = told; answer = r }
+
+-- it tells, in numbers, what a step by value gives: the same desk, the answer, and the wakes in the lists
+pub record TellsLocks (o : Outcome) (k : LocksCall) : Type 0 where
+  pub desk : k .desk ≡ o .desk
+  pub answer : k .answer ≡ inThree (o .said .answer) (o .said .count)
+  pub wakes : k .told ≡ wakesIn (wakesTold (o .said)) (k .lent)
+
+-- a call that finds the desk d and is asked r tells what the step by value gives then
+abbrev pub OnLocks : Desk → Request → LocksCall → Type 0
+OnLocks d r = TellsLocks (locks.stepOf d (r .kind) (r .job) (r .cell))
+
+-- what a call on a timestamp desk comes to; nobody wakes there
+pub record StampsCall : Type 0 where
+  pub desk : Stamps
+  pub answer : Answered
+
+-- both together
+abbrev pub stampsCall : Stamps → Answered → StampsCall
+stampsCall after r = record { desk = after; answer = r }
+
+-- it tells, in numbers, what a step by value gives
+pub record TellsStamps (o : Stamped) (k : StampsCall) : Type 0 where
+  pub desk : k .desk ≡ o .stamps
+  pub answer : k .answer ≡ inThree (o .answer) 0
+
+-- a call that finds the desk d and is asked r, likewise
+abbrev pub OnStamps : Stamps → Request → StampsCall → Type 0
+OnStamps d r = TellsStamps (stamps.stepOf d (r .kind) (r .job) (r .cell))
+
+-- each call of a list tells what the step in its turn gives
+pub data Each {O K : Type 0} (tells : O → K → Type 0) : List O → List K → Type 0 where
+  none-left : Each tells [] []
+  one-more : {o : O} {k : K} {os : List O} {ks : List K} → tells o k → Each tells os ks → Each tells (o ∷ os) (k ∷ ks)

@@ -1,0 +1,4 @@
+pub mod Numbers
+pub mod Desks
+pub mod Texts
+pub mod Calls

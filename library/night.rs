@@ -1,0 +1,53 @@
+//! A night at the lock desk, in Rust: reads request lines on standard input, and prints what the program
+//! `answers` prints of them.
+//!
+//!     rustc -O --edition 2021 -L target/staticlib -o target/night library/night.rs
+//!     target/night < examples/night.requests
+mod tuyenlomac;
+
+use std::io::{self, BufRead, BufReader, BufWriter, Write};
+use tuyenlomac::{read_request, write_answer, Field, Locks, Refusal, Wakes, Word, RECORD};
+
+/// So many lines are answered, and what follows is not looked at.
+const LINES: u64 = 1_000_000;
+
+/// Writes one answer record out. It fits, since no line has a number above LINES.
+fn put(out: &mut impl Write, line: u64, word: Word, number: u32, field: Option<Field>) -> io::Result<()> {
+    let mut record = [0; RECORD];
+    let end = write_answer(&mut record, 0, line, word, u64::from(number), field).expect("the record fits");
+    out.write_all(&record[..end])
+}
+
+/// Answers one line. It ends in its newline; a last line may lack it, and the reader finds that at fault.
+fn answer(desk: &mut Locks, line: u64, text: &[u8], out: &mut impl Write) -> io::Result<()> {
+    let asked = match read_request(text) {
+        Ok(asked) => asked,
+        // a bad line, and the desk does not see it
+        Err(field) => return put(out, line, Word::No, Refusal::BadLine.number(), Some(field)),
+    };
+    let mut wakes = Wakes::new();
+    let said = desk.step(asked.kind, asked.job, asked.cell, &mut wakes);
+    put(out, line, said.word(), said.number(), None)?;
+    for wake in &wakes {
+        put(out, line, Word::Wake, wake.job, None)?; // who waited, and goes on now
+    }
+    Ok(())
+}
+
+fn main() -> io::Result<()> {
+    let mut desk = Locks::start(1).expect("only 0 is refused"); // one for the whole night
+    let mut input = BufReader::new(io::stdin().lock());
+    let mut out = BufWriter::new(io::stdout().lock());
+    let mut text = Vec::new(); // as long as a line needs
+    for line in 1..=LINES {
+        text.clear();
+        if input.read_until(b'\n', &mut text)? == 0 {
+            break;
+        }
+        answer(&mut desk, line, &text, &mut out)?;
+        if !input.buffer().contains(&b'\n') {
+            out.flush()?; // who asks through a pipe has the answer before more is asked
+        }
+    }
+    out.flush()
+}
