@@ -1,7 +1,8 @@
 /* tuyenlomac.h: the lock desk, the timestamp desk, the judge, and their lines, for programs in C (from C11 on) and C++ (from C++11 on).
 
    A job is a transaction: it begins, reads, writes and increments cells, and commits or gives up (aborts). The lock desk lets it go on, lets it
-   wait, or sends it back: what it did is undone and its locks are free, and it may try again under its own number. There are 64 cells, 0 to 63.
+   wait, or sends it back: then its locks are free, and it may try again under its own number. There are 64 cells, 0 to 63. The desks decide who
+   goes on; what the cells hold is the caller's, who takes back what a job has done when it gives up or is sent back.
 
    Link libtuyenlomac.a, which is for x86-64 Linux (docs/LIBRARY.md: how it is built, what is proved of it, and where the proof ends).
    Nothing here allocates, does input or output, takes a lock, keeps anything between calls, or fails otherwise than by what it answers; every
@@ -271,6 +272,8 @@ static inline uint32_t tuyenlomac_stamps_start(struct tuyenlomac_stamps *desk, u
 static inline struct tuyenlomac_answer tuyenlomac_stamps_step(struct tuyenlomac_stamps *desk, uint8_t kind, uint32_t job, uint32_t cell) {
     return tuyenlomac_stamps_step_on(&desk->next, desk->number, desk->reader, desk->writer, kind, job, cell);
 }
+
+#undef TUYENLOMAC_ASSERT
 
 #ifdef __cplusplus
 }
