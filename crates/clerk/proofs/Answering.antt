@@ -1,16 +1,13 @@
 -- One line answered on a desk's fields where they stand is a turn of the work: what the step of the method's desk leaves, and the records of what it says.
 -- Assumes nothing.
-use Prim.Native.Nat.{ℕ, _-_}
+use Prim.Native.Nat.{ℕ, zero, suc}
 use mathlib.Core.Path.{_≡_, refl, sym, ap, _∙_}
 use mathlib.Core.Bool.{true}
-use mathlib.Core.List.{List, [], map, map-append, append-nil}
-use lib.ListN.{length, take, drop, replicate, length-map}
-use lib.Seq.{take-at}
-use Rattle.laws.specs.Lists.{filled}
+use mathlib.Core.List.{List, [], _∷_, map, append-nil}
+use lib.ListN.{take}
 use Rattle.terms.specs.declared.letters.Letter.{Letter}
 use Rattle.terms.specs.declared.refusals.Field.{Field}
 use Rattle.terms.specs.Letters.{byteOf, ofRequests}
-use Rattle.terms.specs.Limits.{places}
 use Rattle.conflict.specs.declared.action.Action.{Action}
 use Rattle.text_rules.specs.declared.Reading.{Reading}
 use Rattle.text_rules.specs.declared.Reading.the-variants.{Good, Bad}
@@ -22,10 +19,11 @@ use Rattle.text_rules.specs.Wrote.{Wrote}
 use Rattle.text_rules.proofs.WroteLaws.{wrote-as}
 use Rattle.desk_arrays.specs.declared.state.Desk.{Desk}
 use Rattle.desk_arrays.specs.declared.state.Told.{Told}
-use Rattle.desk_arrays.specs.Steps.{noAction, wakeAt, listed, saying, carried, moveOf, performed, stepOf}
+use Rattle.desk_arrays.specs.Steps.{wakeAt, stepOf}
 use Rattle.desk_arrays.specs.Stands.{wakesTold}
 use Rattle.desk_arrays.specs.Seen.{onArrays}
-use Rattle.desk.specs.InPlace.{wokenBy, StepsTo}
+use Rattle.desk.specs.InPlace.{StepsTo}
+use Rattle.desk.proofs.Woken.{wakes-first}
 use Rattle.desks.specs.declared.Answer.{Answer}
 use Rattle.desks.specs.Request.{Request}
 use Rattle.stamp_arrays.specs.declared.state.Stamps.{Stamps}
@@ -43,39 +41,15 @@ use Rattle.program_rules.proofs.Turns.{turn-bad, turn-good}
 use Rattle.clerk.specs.Parts.{Added, firstRecord, wakeRecords, lineRecords, Answered}
 use Rattle.clerk.proofs.Telling.{records-told}
 
--- the wakes that a step says are those of the places that it wakes
-said-first : (d : Desk) (kind job c : ℕ) →
-    take (stepOf d kind job c .said .count) (stepOf d kind job c .said .wakes) ≡ map (wakeAt (stepOf d kind job c .desk .number) (stepOf d kind job c .desk .cell) (stepOf d kind job c .desk .ask)) (wokenBy d kind job c)
-unfolding stepOf performed saying wokenBy listed
-said-first d kind job c =
-    let l = carried d job c (moveOf d kind job c) in
-    let f = wakeAt (l .desk .number) (l .desk .cell) (l .desk .ask) in
-    take-at (map f (l .woken)) (replicate (places - length (map f (l .woken))) noAction) (length (l .woken)) (length-map (l .woken) f)
+-- the first of what places say are what the first of the places say
+first-said : (f : ℕ → Action) (n : ℕ) (l : List ℕ) → take n (map f l) ≡ map f (take n l)
+first-said f zero l = refl
+first-said f (suc n) [] = refl
+first-said f (suc n) (p ∷ l) = ap (λ ws. f p ∷ ws) (first-said f n l)
 
-module _ {d e : Desk} {l w : List ℕ} {kind job c : ℕ} {t : Told} (s : StepsTo d l kind job c e w t) where
-  -- what the wakes say, read off the fields as the step leaves them
-  abbrev said : ℕ → Action
-  said = wakeAt (e .number) (e .cell) (e .ask)
-
-  -- the first places of the list are those woken
-  woken-first : take (t .count) (map said w) ≡ map said (wokenBy d kind job c)
-  unfolding filled
-  woken-first =
-      ap (λ x. take (t .count) (map said x)) (s .places) ∙ ap (take (t .count)) (map-append said (wokenBy d kind job c) (drop (length (wokenBy d kind job c)) l))
-      ∙ take-at (map said (wokenBy d kind job c)) _ (t .count) (length-map (wokenBy d kind job c) said ∙ sym many)
-    where
-      many : t .count ≡ length (wokenBy d kind job c)
-      many = s .count ∙ (unfold stepOf performed saying wokenBy in refl)
-
-  -- the wakes that the step says
-  pub wakes-said : take (t .count) (map said w) ≡ take (stepOf d kind job c .said .count) (stepOf d kind job c .said .wakes)
-  wakes-said = woken-first ∙ ap (λ x. map (wakeAt (x .number) (x .cell) (x .ask)) (wokenBy d kind job c)) (s .desk) ∙ sym told
-    where
-      after : Desk
-      after = stepOf d kind job c .desk
-
-      told : take (stepOf d kind job c .said .count) (stepOf d kind job c .said .wakes) ≡ map (wakeAt (after .number) (after .cell) (after .ask)) (wokenBy d kind job c)
-      told = said-first d kind job c
+-- the wakes that a step says, read off the fields as it leaves them
+pub wakes-said : {d e : Desk} {l w : List ℕ} {kind job c : ℕ} {t : Told} → StepsTo d l kind job c e w t → take (t .count) (map (wakeAt (e .number) (e .cell) (e .ask)) w) ≡ wakesTold (stepOf d kind job c .said)
+wakes-said {w = w} {t = t} s = first-said _ (t .count) w ∙ wakes-first s
 
 module _ {view : View} {line : ℕ} (letter : Letter) {job cell at to : ℕ} {before after : List ℕ} where
   -- a good line answered on the lock desk: the first record, and one for each wake

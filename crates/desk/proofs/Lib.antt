@@ -2,5 +2,6 @@ pub mod Grants
 pub mod Room
 pub mod Cells
 pub mod Performed
+pub mod Woken
 pub mod Telling
 pub mod StepUnique

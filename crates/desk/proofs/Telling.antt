@@ -17,7 +17,7 @@ use Rattle.desk_arrays.specs.declared.state.Told.{Told}
 use Rattle.desk_arrays.specs.Codes.{askOf}
 use Rattle.desk_arrays.specs.Steps.{noAction, wakeAt, listed, saying, performed, stepOf}
 use Rattle.desk.specs.InPlace.{wokenBy, StepsTo}
-use Rattle.laws.proofs.Filled.{filled-first}
+use Rattle.desk.proofs.Woken.{first-woken}
 
 -- a place that there is not says nothing
 pub nowhere-says : (number cell ask : List ℕ) (p : ℕ) {k : Kind} → length number ≡ places → length cell ≡ places → length ask ≡ places → places ≤ p → k ≡ recorded (askOf 0) →
@@ -59,11 +59,5 @@ step-whole {d} {e} {l} {w} {kind} {job} {c} {t} {ws} s h = λ i. record { desk =
     W : List ℕ
     W = wokenBy d kind job c
 
-    many : t .count ≡ length W
-    many = s .count ∙ (unfold stepOf performed saying wokenBy in refl)
-
-    first : take (t .count) w ≡ W
-    first = ap (λ n. take n w) many ∙ ap (take (length W)) (s .places) ∙ filled-first W l
-
     told : ws ≡ stepOf d kind job c .said .wakes
-    told = h ∙ ap (λ x. listed (map (wakeAt (e .number) (e .cell) (e .ask)) x)) first ∙ ap (λ x. listed (map (wakeAt (x .number) (x .cell) (x .ask)) W)) (s .desk) ∙ (unfold stepOf performed saying wokenBy in refl)
+    told = h ∙ ap (λ x. listed (map (wakeAt (e .number) (e .cell) (e .ask)) x)) (first-woken s) ∙ ap (λ x. listed (map (wakeAt (x .number) (x .cell) (x .ask)) W)) (s .desk) ∙ (unfold stepOf performed saying wokenBy in refl)

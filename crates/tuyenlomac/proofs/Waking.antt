@@ -6,18 +6,19 @@ use mathlib.Core.List.{List, [], _∷_, _++_, map, map-append}
 use native.Mathlib.Omega.{arith}
 use native.Mathlib.Numerals.{add-one}
 use lib.ListN.{length, getD, set, take, drop, length-append, length-map}
-use lib.Seq.{take-suc, take-all, take-append-seam, length-take-le}
+use lib.Seq.{take-suc, take-all, length-take-le}
 use Rattle.laws.specs.Lists.{filled}
-use Rattle.laws.proofs.Filled.{filled-first, filled-more}
+use Rattle.laws.proofs.Filled.{filled-more}
 use Rattle.terms.specs.Limits.{places}
 use Rattle.conflict.specs.declared.action.Action.{Action}
 use Rattle.desks.specs.Request.{Request}
 use Rattle.desks.specs.Told.{request}
 use Rattle.desk_arrays.specs.declared.state.Desk.{Desk}
 use Rattle.desk_arrays.specs.declared.state.Told.{Told}
-use Rattle.desk_arrays.specs.Steps.{wakeAt, listed, saying, performed, stepOf}
+use Rattle.desk_arrays.specs.Steps.{wakeAt, stepOf}
 use Rattle.desk_arrays.specs.Stands.{wakesTold}
 use Rattle.desk.specs.InPlace.{wokenBy, StepsTo}
+use Rattle.desk.proofs.Woken.{count-of, wakes-of, wakes-first}
 use Rattle.tuyenlomac.specs.declared.answers.Answered.{Answered}
 use Rattle.tuyenlomac.specs.Numbers.{inThree}
 use Rattle.tuyenlomac.specs.Desks.{Lists, listsOf, kindByte, wakesIn}
@@ -55,34 +56,10 @@ module _ (g : ℕ → Action) (l : List ℕ) where
     pub wakes-all : (count : ℕ) → length l ≤ i → i ≤ count → now ≡ wakesIn (map g (take count l)) before
     wakes-all count h m = so-far ∙ ap (λ ps. wakesIn (map g ps) before) (take-all i l h ∙ sym (take-all count l (omega arith)))
 
--- the wakes that a step tells are those of the places that it woke
-wakes-of : (d : Desk) (kind job c : ℕ) → wakesTold (stepOf d kind job c .said) ≡ map (wakeAt (stepOf d kind job c .desk .number) (stepOf d kind job c .desk .cell) (stepOf d kind job c .desk .ask)) (wokenBy d kind job c)
-unfolding wakesTold stepOf performed saying listed wokenBy
-wakes-of d kind job c =
-    let ws = map (wakeAt (stepOf d kind job c .desk .number) (stepOf d kind job c .desk .cell) (stepOf d kind job c .desk .ask)) (wokenBy d kind job c) in
-    ap (λ n. take n (listed ws)) (sym (length-map (wokenBy d kind job c) _)) ∙ take-append-seam ws _
-
--- and so many they are
-count-of : (d : Desk) (kind job c : ℕ) → stepOf d kind job c .said .count ≡ length (wokenBy d kind job c)
-unfolding stepOf performed saying wokenBy
-count-of d kind job c = refl
-
 module _ {d e : Desk} {l w : List ℕ} {kind job c : ℕ} {t : Told} (s : StepsTo d l kind job c e w t) where
-  -- and so many stand first in the list of the step in place
-  first-woken : take (t .count) w ≡ wokenBy d kind job c
-  first-woken =
-      let many : t .count ≡ length (wokenBy d kind job c) = s .count ∙ count-of d kind job c in
-      ap (λ n. take n w) many ∙ ap (take (length (wokenBy d kind job c))) (s .places) ∙ filled-first (wokenBy d kind job c) l
-
-  -- the lists where the wakes are told from the places woken
-  lists-of : (before : Lists) {after : Lists} → after ≡ wakesIn (map (wakeAt (e .number) (e .cell) (e .ask)) (take (t .count) w)) before → after ≡ wakesIn (wakesTold (stepOf d kind job c .said)) before
-  lists-of before h =
-      h ∙ ap (λ ps. wakesIn (map (wakeAt (e .number) (e .cell) (e .ask)) ps) before) first-woken
-      ∙ ap (λ (x : Desk). wakesIn (map (wakeAt (x .number) (x .cell) (x .ask)) (wokenBy d kind job c)) before) (s .desk) ∙ ap (λ ws. wakesIn ws before) (sym (wakes-of d kind job c))
-
   -- the step of a lent desk, from the step in place: with wakes, and without
   pub step-told : (before : Lists) {after : Lists} {r : Answered} → after ≡ wakesIn (map (wakeAt (e .number) (e .cell) (e .ask)) (take (t .count) w)) before → r ≡ inThree (t .answer) (t .count) → OnLocks d (request kind job c) (locksCall e before after r)
-  step-told before h a = record { desk = s .desk; answer = a ∙ ap (λ x. inThree x (t .count)) (s .answer) ∙ ap (inThree (stepOf d kind job c .said .answer)) (s .count); wakes = lists-of before h }
+  step-told before h a = record { desk = s .desk; answer = a ∙ ap (λ x. inThree x (t .count)) (s .answer) ∙ ap (inThree (stepOf d kind job c .said .answer)) (s .count); wakes = h ∙ ap (λ ws. wakesIn ws before) (wakes-first s) }
 
   pub step-quiet : (before : Lists) {r : Answered} → t .count ≡ 0 → r ≡ inThree (t .answer) (t .count) → OnLocks d (request kind job c) (locksCall e before before r)
   step-quiet before z a = step-told before (wakes-none (wakeAt (e .number) (e .cell) (e .ask)) w before ∙ ap (λ n. wakesIn (map (wakeAt (e .number) (e .cell) (e .ask)) (take n w)) before) (sym z)) a

@@ -106,7 +106,7 @@ pub extern "C" fn tuyenlomac_read_history(line: &[u8]) -> Line
     line_in(read_history(line))
 }
 
-// An answer record from a place on: 15 where it does not fit, 1 where no word has that number, and then every byte stays.
+// An answer record from a place on: 1 where no word has that number, then 15 where it does not fit, and with either every byte stays.
 #[no_mangle]
 pub extern "C" fn tuyenlomac_write_answer(
     buffer: &mut [u8],
@@ -125,7 +125,7 @@ pub extern "C" fn tuyenlomac_write_answer(
     }
 }
 
-// The line of a letter from a place on, a history record or a request: 15 where it does not fit, 1 where no letter has that byte, and then every byte stays.
+// The line of a letter from a place on, a history record or a request: 1 where no letter has that byte, then 15 where it does not fit, and with either every byte stays.
 #[no_mangle]
 pub extern "C" fn tuyenlomac_write_line(
     buffer: &mut [u8],
