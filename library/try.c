@@ -69,7 +69,74 @@ static void look_at_wakes(const uint32_t *jobs, const uint32_t *cells, const uin
          "a place of the wakes behind those that are told has changed");
 }
 
-/* One step; after a refusal the desk and the lists have to be what they were. */
+/* The place of a job on a desk; all PLACES are passed where it has none. */
+static size_t place_of(const uint32_t *number, uint32_t job) {
+    size_t place = 0;
+    while (place < TUYENLOMAC_PLACES && number[place] != job)
+        place++;
+    return place;
+}
+
+/* Whether a job runs and, where it asked for a cell, holds a lock on it under which it may do that, by the header's numbers of locks. */
+static int granted(const struct tuyenlomac_locks *d, uint32_t job, uint32_t cell, uint8_t kind) {
+    size_t place = place_of(d->number, job);
+    if (place == TUYENLOMAC_PLACES || d->status[place] != 1)
+        return 0;
+    uint8_t lock = d->held[32 * (cell % TUYENLOMAC_CELLS) + place]; /* of other kinds the cell may be any */
+    switch (kind) {
+    case TUYENLOMAC_READ: return lock == 1 || lock == 2 || lock == 4;
+    case TUYENLOMAC_WRITE: return lock == 2;
+    case TUYENLOMAC_INCREMENT: return lock == 2 || lock == 3;
+    case TUYENLOMAC_UPDATE: return lock == 2 || lock == 4;
+    default: return 1;
+    }
+}
+
+/* Whether a job holds nothing on any cell. */
+static int holds_nothing(const struct tuyenlomac_locks *d, size_t place) {
+    for (size_t cell = 0; cell < TUYENLOMAC_CELLS; cell++)
+        if (d->held[32 * cell + place] != 0)
+            return 0;
+    return 1;
+}
+
+/* After a step that was not refused the fields of a lock desk say what the header says of them. */
+static void look_at_locks(const struct tuyenlomac_locks *d, uint8_t kind, uint32_t cell, struct tuyenlomac_answer said,
+                          const struct tuyenlomac_wakes *wakes) {
+    static const uint8_t asks[] = {TUYENLOMAC_READ, TUYENLOMAC_WRITE, TUYENLOMAC_INCREMENT, TUYENLOMAC_UPDATE};
+    size_t place = place_of(d->number, said.number);
+    if (said.word == TUYENLOMAC_GO && (kind == TUYENLOMAC_COMMIT || kind == TUYENLOMAC_GIVE_UP))
+        hold(place == TUYENLOMAC_PLACES, "a job that has ended has a place");
+    else
+        hold(place < TUYENLOMAC_PLACES, "an open job has no place");
+    if (said.word == TUYENLOMAC_GO && place < TUYENLOMAC_PLACES)
+        hold(granted(d, said.number, cell, kind), "a job that goes does not run, or not under its lock");
+    if (said.word == TUYENLOMAC_GO && kind == TUYENLOMAC_BEGIN)
+        hold(d->next == (uint64_t)said.number + 1, "the next begin does not get the next number");
+    if (said.word == TUYENLOMAC_WAIT)
+        hold(d->status[place] == 2 && d->cell[place] == cell && d->ask[place] < 4 && asks[d->ask[place]] == kind, "a job does not wait for what it asked");
+    if (said.word == TUYENLOMAC_BACK)
+        hold(d->status[place] == 3 && holds_nothing(d, place), "a job that was sent back is not, or holds something");
+    for (size_t i = 0; i < said.wakes; i++)
+        hold(granted(d, wakes->job[i], wakes->cell[i], wakes->kind[i]), "a job that was woken does not run, or not under its lock");
+}
+
+/* The same of a timestamp desk: the numbers of the cell are those before, or the job's where it has read or written. */
+static void look_at_stamps(const struct tuyenlomac_stamps *before, const struct tuyenlomac_stamps *d, uint8_t kind, uint32_t cell,
+                           struct tuyenlomac_answer said) {
+    int goes = said.word == TUYENLOMAC_GO, ends = !goes || kind == TUYENLOMAC_COMMIT || kind == TUYENLOMAC_GIVE_UP;
+    int writes = kind == TUYENLOMAC_WRITE || kind == TUYENLOMAC_INCREMENT;
+    int reads = kind == TUYENLOMAC_READ || kind == TUYENLOMAC_INCREMENT || kind == TUYENLOMAC_UPDATE;
+    hold((place_of(d->number, said.number) == TUYENLOMAC_PLACES) == ends, "a job that is open has no place, or one that is closed has one");
+    hold(d->next == (kind == TUYENLOMAC_BEGIN ? (uint64_t)said.number + 1 : before->next), "the next begin does not get the next number");
+    if (!reads && !writes)
+        return;
+    uint32_t reader = before->reader[cell], writer = before->writer[cell];
+    hold(d->reader[cell] == (goes && reads && said.number > reader ? said.number : reader), "a cell has another reader's number");
+    hold(d->writer[cell] == (goes && writes ? said.number : writer), "a cell has another writer's number");
+}
+
+/* One step; after a refusal the desk and the lists have to be what they were, and else the fields what they should be. */
 static struct tuyenlomac_answer step(struct desk *d, uint8_t kind, uint32_t job, uint32_t cell) {
     static struct desk before;
     memset(&d->wakes, FILL, sizeof d->wakes);
@@ -79,7 +146,12 @@ static struct tuyenlomac_answer step(struct desk *d, uint8_t kind, uint32_t job,
     hold(said.word <= TUYENLOMAC_NO, "an answer has a word that there is not");
     hold(!d->by_stamps || (said.word != TUYENLOMAC_WAIT && said.wakes == 0), "somebody waits or wakes at the timestamp desk");
     look_at_wakes(d->wakes.job, d->wakes.cell, d->wakes.kind, said.wakes);
-    hold(said.word != TUYENLOMAC_NO || memcmp(&before, d, sizeof before) == 0, "a step that is refused has changed the desk");
+    if (said.word == TUYENLOMAC_NO)
+        hold(memcmp(&before, d, sizeof before) == 0, "a step that is refused has changed the desk");
+    else if (d->by_stamps)
+        look_at_stamps(&before.stamps, &d->stamps, kind, cell, said);
+    else
+        look_at_locks(&d->locks, kind, cell, said, &d->wakes);
     return said;
 }
 
