@@ -6,7 +6,8 @@
        try mix [STEPS], try stamp_mix [STEPS]           prints what time_desk prints, of the lock desk and of the timestamp desk
        try rubbish                                      steps, chains and records over random bytes, and counts of them
 
-   What is lent holds FILL, or numbers that are known again, before each call, and is looked at after it: what the header says stays has to stay.
+   What is lent holds FILL, or numbers that are known again, before each call, and is looked at after it: what the header says stays has to stay,
+   and the fields of a desk have to hold what it says of them.
    Where it does not, a message and status 1. It compiles as C11 and as C++11. */
 #include <stdio.h>
 #include <stdlib.h>
@@ -92,7 +93,7 @@ static int granted(const struct tuyenlomac_locks *d, uint32_t job, uint32_t cell
     }
 }
 
-/* Whether a job holds nothing on any cell. */
+/* Whether the job at a place holds nothing on any cell. */
 static int holds_nothing(const struct tuyenlomac_locks *d, size_t place) {
     for (size_t cell = 0; cell < TUYENLOMAC_CELLS; cell++)
         if (d->held[32 * cell + place] != 0)

@@ -25,6 +25,10 @@ module _ (d : Desk) (kind job c : ℕ) where
       let ws = map (wakeAt (stepOf d kind job c .desk .number) (stepOf d kind job c .desk .cell) (stepOf d kind job c .desk .ask)) (wokenBy d kind job c) in
       ap (λ n. take n (listed ws)) (sym (length-map (wokenBy d kind job c) _)) ∙ take-append-seam ws _
 
+  -- so as many are told as are counted, whatever desk it is
+  pub count-told : stepOf d kind job c .said .count ≡ length (wakesTold (stepOf d kind job c .said))
+  count-told = count-of ∙ sym (ap length wakes-of ∙ length-map (wokenBy d kind job c) _)
+
 module _ {d e : Desk} {l w : List ℕ} {kind job c : ℕ} {t : Told} (s : StepsTo d l kind job c e w t) where
   -- of the list of the step in place, the first places, as many as are told, are those woken
   pub first-woken : take (t .count) w ≡ wokenBy d kind job c

@@ -1,15 +1,18 @@
--- EVERY PROMISE, THROUGH THE LIBRARY: a desk that start has made is a started one, and after any list of calls on it each has told, in numbers, what the step by value gives in its turn; so every promise of the desk's rules holds (02, No. 7).
+-- EVERY PROMISE, THROUGH THE LIBRARY: after any list of calls on a started desk each has told, in numbers, what the step by value gives in its turn, so every promise of the desk's rules holds; what start leaves is a started desk, and from there on each call says what the paper's desk says (02, No. 7).
 -- Assumes nothing.
 use Prim.Native.Nat.{ℕ, _<_, _≤_}
-use mathlib.Core.Path.{_≡_, refl, sym, ap, ap₂, subst, _∙_}
+use mathlib.Core.Path.{_≡_, refl, sym, ap, subst, _∙_}
 use mathlib.Core.List.{List, [], _∷_, _++_, map}
 use native.Mathlib.Omega.{arith}
 use Rattle.terms.specs.Limits.{lastNumber}
+use Rattle.conflict.specs.declared.action.Action.{Action}
 use Rattle.conflict.specs.History.{History}
+use Rattle.desks.specs.declared.Answer.{Answer}
 use Rattle.desks.specs.Request.{Request}
-use Rattle.desks.specs.Started.{fresh}
-use Rattle.desks.specs.Stepping.{Stepped}
-use Rattle.desks.specs.Told.{toldOf, answersOf}
+use Rattle.desks.specs.Started.{StartedOn, fresh, after}
+use Rattle.desks.specs.Stepping.{Stepped, Stepping}
+use Rattle.desks.specs.Records.{recordsBy}
+use Rattle.desks.specs.Follows.{Follows}
 use Rattle.desk_rules.specs.Promises as by-locks
 use Rattle.desk_rules.specs.Desk as paper
 use Rattle.desk_rules.specs.Step as paper-step
@@ -18,6 +21,8 @@ use Rattle.desk_arrays.specs.declared.state.Outcome.{Outcome}
 use Rattle.desk_arrays.specs.Steps as locks
 use Rattle.desk_arrays.specs.Stands.{wakesTold}
 use Rattle.desk_arrays.specs.Seen as arrays
+use Rattle.desk_arrays.proofs.Faithful as arrays-follow
+use Rattle.desk.proofs.Woken.{count-told}
 use Rattle.stamp_rules.specs.Promises as by-stamps
 use Rattle.stamp_rules.specs.Desk as request
 use Rattle.stamp_rules.specs.Step as request-step
@@ -25,27 +30,16 @@ use Rattle.stamp_arrays.specs.declared.state.Stamps.{Stamps}
 use Rattle.stamp_arrays.specs.declared.state.Stamped.{Stamped}
 use Rattle.stamp_arrays.specs.Steps as by-number
 use Rattle.stamp_arrays.specs.Seen as stamps
+use Rattle.stamp_arrays.proofs.Faithful as stamps-follow
 use Rattle.lent.specs.Entries.{locksTold, stampsTold}
 use Rattle.lent.specs.Entries as entries
-use Rattle.lent.specs.Calls.{Lent, over, next, leftBy, answersBy, wroteBy, AsSteps}
+use Rattle.lent.specs.Calls.{Lent, over, next, leftBy, wroteBy, stepsOf, AsSteps}
 use Rattle.lent.proofs.Calling.{calls-for}
-use Rattle.lent.proofs.LentPromises.{lent-locks, lent-stamps, lent-answers, lent-stamp-answers}
-use Rattle.tuyenlomac.specs.declared.answers.Answered.{Answered}
-use Rattle.tuyenlomac.specs.Numbers.{inThree, inTwo}
+use Rattle.lent.proofs.LentPromises.{lent-locks, lent-stamps}
+use Rattle.tuyenlomac.specs.Numbers.{inThree}
 use Rattle.tuyenlomac.specs.Desks.{Lists, wakesIn, startNumber, startLeaves, stampsNumber, stampsLeaves}
-use Rattle.tuyenlomac.specs.Calls.{LocksCall, locksCall, OnLocks, TellsLocks, StampsCall, stampsCall, OnStamps, TellsStamps, Each, none-left, one-more}
+use Rattle.tuyenlomac.specs.Calls.{LocksCall, locksCall, OnLocks, TellsLocks, StampsCall, stampsCall, OnStamps, TellsStamps, SaysLocks, SaysStamps, Each, none-left, one-more}
 use Rattle.tuyenlomac.proofs.Starting.{locks-started, stamps-started}
-
-module _ (n : ℕ) (some : 0 < n) (last : n ≤ lastNumber) where
-  not-zero : n ≡ 0 → ⊥
-  not-zero z = omega (arith, z)
-
-  -- a start at any other number than 0 is not refused, and what it leaves is a started desk that has written nothing
-  pub locks-start : (d : Desk) → (startNumber (locks.startOf n) ≡ 0) × arrays.Started (startLeaves d (locks.startOf n)) []
-  locks-start d = let s = locks-started d n not-zero in (sym (s .0), subst (λ e. arrays.Started e []) (s .1) (fresh n some last))
-
-  pub stamps-start : (d : Stamps) → (stampsNumber (by-number.startOf n) ≡ 0) × stamps.Started (stampsLeaves d (by-number.startOf n)) []
-  stamps-start d = let s = stamps-started d n not-zero in (sym (s .0), subst (λ e. stamps.Started e []) (s .1) (fresh n some last))
 
 -- the call that tells what a step by value gives
 abbrev tellingLocks : Lists → Outcome → LocksCall
@@ -78,6 +72,7 @@ locks-one d r k s = (locks.stepOf d (r .kind) (r .job) (r .cell), refl, s)
 stamps-one : (d : Stamps) (r : Request) (k : StampsCall) → OnStamps d r k → (o : Stamped) × entries.OnStamps d r o × TellsStamps o k
 stamps-one d r k s = (by-number.stepOf d (r .kind) (r .job) (r .cell), refl, s)
 
+-- so calls through the library are calls of the lent desk, told in numbers
 locks-lent : {d : Desk} {rs : List Request} {ks : List LocksCall} → Lent (λ k. k .desk) OnLocks d rs ks → (os : List Outcome) × Lent (λ o. o .desk) entries.OnLocks d rs os × Each TellsLocks os ks
 locks-lent = called-lent locks-one (λ o k t. t .desk)
 
@@ -100,26 +95,48 @@ library-stamps s c =
     let p = lent-stamps s l in
     (os, t, p .0, p .1)
 
--- calls of which each tells an answer in numbers tell the numbers of all the answers
-module _ {S O K : Type 0} {tells : O → K → Type 0} (told : O → Stepped S) (answer : K → Answered) (same : (o : O) (k : K) → tells o k → (n : ℕ) × (answer k ≡ inThree (told o .said) n)) where
-  each-said : {os : List O} {ks : List K} → Each tells os ks → map (λ k. (answer k .word, answer k .number)) ks ≡ map inTwo (answersBy (map told os))
-  unfolding inThree inTwo answersBy toldOf
-  each-said none-left = refl
-  each-said (one-more {o = o} {k = k} t ts) =
-      let (n, e) = same o k t in
-      ap₂ (λ x xs. x ∷ xs) (ap (λ (a : Answered). (a .word, a .number)) e) (each-said ts)
+-- calls on a started desk that follows another say what the steps of the other say, one after another
+module _ {S T K : Type 0} {see : S → T} {does : Stepping S} {new : ℕ → S} {theirs : Stepping T} {first : ℕ → T} (f : Follows see does new theirs first) {left : K → S} {call : S → Request → K → Type 0}
+    (says : Answer → List Action → K → Type 0) (one : (d : S) (r : Request) (k : K) → call d r k → (left k ≡ does d r .desk) × says (does d r .said) (does d r .wakes) k) where
+  called-says : {d : S} {h : History} {rs : List Request} {ks : List K} → StartedOn does new d h → Lent left call d rs ks → Each (λ (o : Stepped T). says (o .said) (o .wakes)) (stepsOf theirs (see d) rs) ks
+  unfolding stepsOf
+  called-says s (over d) = none-left
+  called-says {h = h} s (next {d = d} {r = r} {o = k} {rs = rs} {os = ks} c more) =
+      let (e, t) = one d r k c in
+      let p = f .same d h s r in
+      let further = called-says (subst (λ x. StartedOn does new x (h ++ recordsBy does d r)) (sym e) (after s r)) more in
+      one-more (subst (λ o. says (o .said) (o .wakes) k) p t)
+      (subst (λ x. Each (λ (o : Stepped T). says (o .said) (o .wakes)) (stepsOf theirs x rs) ks) (ap see e ∙ ap (λ o. o .desk) p) further)
+
+-- a call on a lock desk says what the step of the arrays says, and one on a timestamp desk likewise
+locks-says : (d : Desk) (r : Request) (k : LocksCall) → OnLocks d r k → (k .desk ≡ arrays.onArrays d r .desk) × SaysLocks (arrays.onArrays d r .said) (arrays.onArrays d r .wakes) k
+locks-says d r k t =
+    (t .desk, record { answer = t .answer ∙ ap (inThree (locks.stepOf d (r .kind) (r .job) (r .cell) .said .answer)) (count-told d (r .kind) (r .job) (r .cell)); wakes = t .wakes })
+
+stamps-says : (d : Stamps) (r : Request) (k : StampsCall) → OnStamps d r k → (k .desk ≡ stamps.onStamps d r .desk) × SaysStamps (stamps.onStamps d r .said) (stamps.onStamps d r .wakes) k
+stamps-says d r k t = (t .desk, t .answer)
 
 module _ (n : ℕ) (some : 0 < n) (last : n ≤ lastNumber) where
-  -- from a start on the calls on the lock desk are told, in numbers, the answers that the paper's desk gives
-  pub library-answers : (d : Desk) {rs : List Request} {ks : List LocksCall} → Lent (λ k. k .desk) OnLocks (startLeaves d (locks.startOf n)) rs ks →
-      map (λ k. (k .answer .word, k .answer .number)) ks ≡ map inTwo (answersOf paper-step.step (paper.freshDesk n) rs)
-  library-answers d {rs} {ks} c =
-      let (os, l, t) = locks-lent (subst (λ e. Lent (λ k. k .desk) OnLocks e rs ks) (sym (locks-started d n (not-zero n some last) .1)) c) in
-      each-said locksTold (λ k. k .answer) (λ o k t. (o .said .count, t .answer)) t ∙ ap (map inTwo) (lent-answers n some last l)
+  not-zero : n ≡ 0 → ⊥
+  not-zero z = omega (arith, z)
 
-  -- and those on the timestamp desk the answers that the request's desk gives
-  pub library-stamp-answers : (d : Stamps) {rs : List Request} {ks : List StampsCall} → Lent (λ k. k .desk) OnStamps (stampsLeaves d (by-number.startOf n)) rs ks →
-      map (λ k. (k .answer .word, k .answer .number)) ks ≡ map inTwo (answersOf request-step.step (request.freshDesk n) rs)
-  library-stamp-answers d {rs} {ks} c =
-      let (os, l, t) = stamps-lent (subst (λ e. Lent (λ k. k .desk) OnStamps e rs ks) (sym (stamps-started d n (not-zero n some last) .1)) c) in
-      each-said stampsTold (λ k. k .answer) (λ o k t. (0, t .answer)) t ∙ ap (map inTwo) (lent-stamp-answers n some last l)
+  -- a start at any other number than 0 is not refused, and what it leaves is a started desk that has written nothing
+  pub locks-start : (d : Desk) → (startNumber (locks.startOf n) ≡ 0) × arrays.Started (startLeaves d (locks.startOf n)) []
+  locks-start d = let s = locks-started d n not-zero in (sym (s .0), subst (λ e. arrays.Started e []) (s .1) (fresh n some last))
+
+  pub stamps-start : (d : Stamps) → (stampsNumber (by-number.startOf n) ≡ 0) × stamps.Started (stampsLeaves d (by-number.startOf n)) []
+  stamps-start d = let s = stamps-started d n not-zero in (sym (s .0), subst (λ e. stamps.Started e []) (s .1) (fresh n some last))
+
+  -- from a start on each call on the lock desk says, in numbers, what the paper's desk says in its turn: the answer, and whom it wakes
+  pub library-says : (d : Desk) {rs : List Request} {ks : List LocksCall} → Lent (λ k. k .desk) OnLocks (startLeaves d (locks.startOf n)) rs ks →
+      Each (λ o. SaysLocks (o .said) (o .wakes)) (stepsOf paper-step.step (paper.freshDesk n) rs) ks
+  library-says d {rs} {ks} c =
+      subst (λ e. Each (λ o. SaysLocks (o .said) (o .wakes)) (stepsOf paper-step.step e rs) ks) (arrays-follow.faithful .starts n some last)
+      (called-says arrays-follow.faithful SaysLocks locks-says (fresh n some last) (subst (λ e. Lent (λ k. k .desk) OnLocks e rs ks) (sym (locks-started d n not-zero .1)) c))
+
+  -- and each call on the timestamp desk what the request's desk says
+  pub library-stamp-says : (d : Stamps) {rs : List Request} {ks : List StampsCall} → Lent (λ k. k .desk) OnStamps (stampsLeaves d (by-number.startOf n)) rs ks →
+      Each (λ o. SaysStamps (o .said) (o .wakes)) (stepsOf request-step.step (request.freshDesk n) rs) ks
+  library-stamp-says d {rs} {ks} c =
+      subst (λ e. Each (λ o. SaysStamps (o .said) (o .wakes)) (stepsOf request-step.step e rs) ks) (stamps-follow.faithful .starts n some last)
+      (called-says stamps-follow.faithful SaysStamps stamps-says (fresh n some last) (subst (λ e. Lent (λ k. k .desk) OnStamps e rs ks) (sym (stamps-started d n not-zero .1)) c))

@@ -17,8 +17,8 @@ use Rattle.desk_arrays.specs.declared.state.Desk.{Desk}
 use Rattle.desk_arrays.specs.declared.state.Told.{Told}
 use Rattle.desk_arrays.specs.Steps.{wakeAt, stepOf}
 use Rattle.desk_arrays.specs.Stands.{wakesTold}
-use Rattle.desk.specs.InPlace.{wokenBy, StepsTo}
-use Rattle.desk.proofs.Woken.{count-of, wakes-of, wakes-first}
+use Rattle.desk.specs.InPlace.{StepsTo}
+use Rattle.desk.proofs.Woken.{count-told, wakes-first}
 use Rattle.tuyenlomac.specs.declared.answers.Answered.{Answered}
 use Rattle.tuyenlomac.specs.Numbers.{inThree}
 use Rattle.tuyenlomac.specs.Desks.{Lists, listsOf, kindByte, wakesIn}
@@ -73,6 +73,5 @@ few-wakes d r k s long =
     let told-jobs = ap (λ (l : Lists). length (l .jobs)) (s .wakes) in
     let filling = length-append js (drop (length js) (k .lent .jobs)) in
     let many = length-map ws (λ (a : Action). a .job) in
-    let woken = ap length (wakes-of d (r .kind) (r .job) (r .cell)) ∙ length-map (wokenBy d (r .kind) (r .job) (r .cell)) _ in
-    let counted = ap (λ (a : Answered). a .wakes) (s .answer) ∙ count-of d (r .kind) (r .job) (r .cell) in
-    omega (arith, long, told-jobs, filling, many, woken, counted)
+    let counted = ap (λ (a : Answered). a .wakes) (s .answer) ∙ count-told d (r .kind) (r .job) (r .cell) in
+    omega (arith, long, told-jobs, filling, many, counted)

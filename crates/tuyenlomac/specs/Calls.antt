@@ -1,6 +1,9 @@
--- A call on a desk that is lent to the library, and what it is for it to tell, in numbers, what a step by value gives (02, No. 7). Calls one after another are those of `Rattle.lent.specs.Calls`.
+-- A call on a desk that is lent to the library, and what it is for it to tell, in numbers, what a step by value gives, or what the paper's desk says (02, No. 7). Calls one after another are those of `Rattle.lent.specs.Calls`.
 use mathlib.Core.Path.{_≡_}
 use mathlib.Core.List.{List, [], _∷_}
+use lib.ListN.{length}
+use Rattle.conflict.specs.declared.action.Action.{Action}
+use Rattle.desks.specs.declared.Answer.{Answer}
 use Rattle.desks.specs.Request.{Request}
 use Rattle.desk_arrays.specs.declared.state.Desk.{Desk}
 use Rattle.desk_arrays.specs.declared.state.Outcome.{Outcome}
@@ -51,6 +54,15 @@ pub record TellsStamps (o : Stamped) (k : StampsCall) : Type 0 where
 -- a call that finds the desk d and is asked r, likewise
 abbrev pub OnStamps : Stamps → Request → StampsCall → Type 0
 OnStamps d r = TellsStamps (stamps.stepOf d (r .kind) (r .job) (r .cell))
+
+-- a call on a lock desk says, in numbers, an answer with wakes: the answer, how many it wakes, and the wakes in the lists
+pub record SaysLocks (a : Answer) (ws : List Action) (k : LocksCall) : Type 0 where
+  pub answer : k .answer ≡ inThree a (length ws)
+  pub wakes : k .told ≡ wakesIn ws (k .lent)
+
+-- and one on a timestamp desk, which has no lists
+abbrev pub SaysStamps : Answer → List Action → StampsCall → Type 0
+SaysStamps a ws k = k .answer ≡ inThree a (length ws)
 
 -- each call of a list tells what the step in its turn gives
 pub data Each {O K : Type 0} (tells : O → K → Type 0) : List O → List K → Type 0 where

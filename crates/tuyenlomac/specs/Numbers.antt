@@ -6,7 +6,6 @@ use Rattle.terms.specs.declared.words.Word.{Word}
 use Rattle.terms.specs.declared.words.Word.the-variants.{Go, Wait, Back, No, Wake, Orderly, Knot, Dirty}
 use Rattle.desks.specs.declared.Answer.{Answer}
 use Rattle.desks.specs.AnswerWords.{wordOf, numberBeside}
-use Rattle.desks.specs.Told.{Said}
 use Rattle.tuyenlomac.specs.declared.answers.Answered.{Answered}
 use Rattle.tuyenlomac.specs.declared.lines.Worded.{Worded}
 use Rattle.tuyenlomac.specs.declared.lines.Worded.the-variants.{Known, Unknown}
@@ -33,7 +32,3 @@ wordAt n = orElse Go n (orElse Wait n (orElse Back n (orElse No n (orElse Wake n
 -- an answer with so many wakes: the word's number, the number beside it, and that of the wakes
 unfoldable pub inThree : Answer → ℕ → Answered
 inThree a wakes = record { word = wordNumber (wordOf a); number = numberBeside a; wakes = wakes }
-
--- an answer as its record has it, in two numbers: the word's, and the one beside it
-unfoldable pub inTwo : Said → ℕ × ℕ
-inTwo s = (wordNumber (s .word), s .number)
