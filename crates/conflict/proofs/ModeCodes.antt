@@ -1,6 +1,7 @@
--- The codes of modes: a mode's code is read as that mode, and 0 as nothing held.
+-- The codes of modes: a mode's code is read as that mode, 0 as nothing held, and each code as the number that callers are told of it.
 -- Assumes nothing.
 use mathlib.Core.Path.{_≡_, refl}
+use mathlib.Core.List.{[], _∷_, map}
 use Rattle.conflict.specs.declared.modes.Mode.{Mode}
 use Rattle.conflict.specs.declared.modes.Mode.the-variants.{Free, S, X, I, U}
 use Rattle.conflict.specs.Modes.{codeOf, modeOf}
@@ -18,3 +19,8 @@ mode-code U = refl
 pub mode-zero : modeOf 0 ≡ Free
 unfolding modeOf codeOf
 mode-zero = refl
+
+-- the numbers as they are published, by themselves: 0 nothing, 1 shared, 2 exclusive, 3 increment, 4 update, and 5 stands for nothing
+pub mode-codes-are : map modeOf (0 ∷ 1 ∷ 2 ∷ 3 ∷ 4 ∷ 5 ∷ []) ≡ Free ∷ S ∷ X ∷ I ∷ U ∷ Free ∷ []
+unfolding modeOf codeOf
+mode-codes-are = refl

@@ -8,6 +8,7 @@ pub mod FreePlaces
 pub mod EveryPlace
 pub mod HolderTests
 pub mod StatusCodes
+pub mod PublishedCodes
 pub mod Spots
 pub mod Best
 pub mod Front

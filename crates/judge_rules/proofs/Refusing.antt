@@ -11,6 +11,7 @@ use Rattle.laws.proofs.Lists.{first-holds}
 use Rattle.terms.specs.declared.refusals.Refusal.{Refusal}
 use Rattle.terms.specs.declared.refusals.Refusal.the-variants.{ShortOrder}
 use Rattle.text_rules.specs.declared.Reading.{Reading}
+use Rattle.text_rules.specs.Split.{joined}
 use Rattle.judge_rules.specs.declared.verdict.Verdict.the-variants.{No}
 use Rattle.judge_rules.specs.HistoryText.{readingsOf}
 use Rattle.judge_rules.specs.Judgement.{Judgement, judgementOf, lineFrom}
@@ -70,6 +71,19 @@ module _ (text buffer : List ℕ) where
   -- in all other answers, and for refusal 14, the part handed back is empty
   pub else-empty : ((n : ℕ) (why : Refusal) → 1 ≤ n → judgementOf text buffer .said ≡ No n why → ⊥) → judgementOf text buffer .line ≡ []
   else-empty other = no-line (judgementOf text buffer) (answers text buffer) other
+
+  -- and stands at the text's first byte
+  at-start : (j : Judgement) → Answers text buffer j → ((n : ℕ) (why : Refusal) → 1 ≤ n → j .said ≡ No n why → ⊥) → lineFrom text (j .said) ≡ 0
+  unfolding lineFrom joined
+  at-start j (short h) other = refl
+  at-start j (faulty {n = n} {why = why} room f s) other = absurd (other n why (f .from) refl)
+  at-start j (in-dirt room all d) other = refl
+  at-start j (in-order room all o) other = refl
+  at-start j (in-knot room all k) other = refl
+
+  -- where no line is at fault the empty part handed back stands at the text's first byte, and not at its end
+  pub else-at-start : ((n : ℕ) (why : Refusal) → 1 ≤ n → judgementOf text buffer .said ≡ No n why → ⊥) → lineFrom text (judgementOf text buffer .said) ≡ 0
+  else-at-start other = at-start (judgementOf text buffer) (answers text buffer) other
 
   -- an answer hands back the bytes from the line's place on
   handed-there : (j : Judgement) → Answers text buffer j → take (length (j .line)) (drop (lineFrom text (j .said)) text) ≡ j .line

@@ -1,13 +1,23 @@
--- The four numbers of a verdict tell verdicts apart (01, The judge's rules; 01, Refusals by number; 02, No. 5).
+-- The four numbers of a verdict: what they are, as literals, and that they tell verdicts apart (01, The judge's rules; 01, Refusals by number; 02, No. 5).
 -- Assumes nothing.
 use Prim.Native.Nat.{ℕ}
-use mathlib.Core.Path.{_≡_, ap, ap₂}
+use mathlib.Core.Path.{_≡_, refl, ap, ap₂}
+use mathlib.Core.List.{[], _∷_, map}
 use native.Mathlib.Omega.{arith}
+use Rattle.terms.specs.declared.refusals.Field.the-variants.{Second}
+use Rattle.terms.specs.declared.refusals.Refusal.the-variants.{BadLine, Ended}
 use Rattle.terms.specs.Refusals.{numberOf, fieldOf}
 use Rattle.terms.proofs.Numbers.{same-number}
 use Rattle.judge_rules.specs.declared.verdict.Verdict.{Verdict}
 use Rattle.judge_rules.specs.declared.verdict.Verdict.the-variants.{Orderly, Knot, Dirty, No}
 use Rattle.judge_rules.specs.Judgement.{inNumbers}
+
+-- the words' numbers, and what stands beside them: 0 orderly, 1 knot, 2 a refusal (of line 5 with 9 at the second field, of line 6 with 13), 3 dirty (6 read what 1 had written)
+pub verdicts-are :
+    map inNumbers (Orderly 4 ∷ Knot 2 ∷ No 5 (BadLine Second) ∷ No 6 Ended ∷ Dirty 6 1 ∷ [])
+    ≡ (0 ∷ 4 ∷ 0 ∷ 0 ∷ []) ∷ (1 ∷ 2 ∷ 0 ∷ 0 ∷ []) ∷ (2 ∷ 9 ∷ 5 ∷ 2 ∷ []) ∷ (2 ∷ 13 ∷ 6 ∷ 0 ∷ []) ∷ (3 ∷ 6 ∷ 1 ∷ 0 ∷ []) ∷ []
+unfolding inNumbers
+verdicts-are = refl
 
 -- equal numbers, equal verdicts
 pub same-verdict : (v w : Verdict) → inNumbers v ≡ inNumbers w → v ≡ w

@@ -40,6 +40,8 @@ either =
     ∷ record { line = 114 ∷ 9 ∷ 49 ∷ 9 ∷ 49 ∷ 48 ∷ 48 ∷ 10 ∷ []; says = Bad Third }
     -- a field too many: c, 1, 5
     ∷ record { line = 99 ∷ 9 ∷ 49 ∷ 9 ∷ 53 ∷ 10 ∷ []; says = Bad Fourth }
+    -- letter, job and cell are right, and only the newline is missing: r, 1, 5
+    ∷ record { line = 114 ∷ 9 ∷ 49 ∷ 9 ∷ 53 ∷ []; says = Bad Fourth }
     ∷ []
 
 abbrev pub requests : List Example

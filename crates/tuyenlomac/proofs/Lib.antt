@@ -4,3 +4,4 @@ pub mod Waking
 pub mod LibraryPromises
 pub mod Unique
 pub mod Apart
+pub mod Literals
