@@ -2,7 +2,8 @@
 
    A job is a transaction: it begins, reads, writes and increments cells, and commits or gives up (aborts). The lock desk lets it go on, lets it
    wait, or sends it back: then its locks are free, and it may try again under its own number. There are 64 cells, 0 to 63. The desks decide who
-   goes on; what the cells hold is the caller's, who takes back what a job has done when it gives up or is sent back.
+   goes on; what the cells hold is the caller's, and so is the taking back (undo) of what a job has done that gives up or is sent back. When that
+   has to be done stands below, under "What a caller does with the data": a program with threads that does it later loses updates.
 
    Link libtuyenlomac.a, which is for x86-64 Linux (docs/LIBRARY.md: how it is built, what is proved of it, and where the proof ends).
    Nothing here allocates, does input or output, takes a lock, keeps anything between calls, or fails otherwise than by what it answers; every
@@ -14,14 +15,28 @@
      and nothing is read or written through it;
    - of two objects that are lent in one call, and one of which may be written, no byte belongs to both;
    - one caller at a time: while a call runs nobody else reads or writes what is lent to be written, nor writes what is lent to be read.
-     A program with threads holds a mutex of its own around each desk.
+     A program with threads holds a mutex of its own around each step, and around what has to follow the step at once (below).
    Numbers may be any. A call with any kind, job, cell, first number, text, line, place or length is answered as it says here.
 
    A desk is a struct of the caller's. tuyenlomac_locks_start or tuyenlomac_stamps_start makes it, and from then on only the step changes it:
    what docs/PROMISES.md promises is promised of such a desk. A copy of it is a second desk, which knows nothing of the first: two copies grant
    the same cell twice. A desk that start has not made, or whose fields somebody has written, is safe to step, in that every call on it still
    ends and writes only what is lent to it; but nothing is promised of what it answers. A struct of zeros is such a one, and its steps go on as
-   if it had been started: so look at what start answers. */
+   if it had been started: so look at what start answers.
+
+   What a caller does with the data, at the lock desk. A job that is sent back has lost its locks, and others may have been granted its cells,
+   before its caller hears BACK. So
+   - after BACK: first take back what the job did, then tell the jobs that were woken, then free the mutex;
+   - before a give-up (abort): first take back what the job did, then make the call;
+   - or change cells only between the job's last GO (or wake) and its commit: then a job that is sent back has nothing to take back.
+   Between its GO and its end a job may use the cell without the mutex. After a commit or a give-up the wakes may be told once the mutex is free.
+   An increment is one atomic operation where the cell is kept, since several jobs may hold increment locks on one cell at once; it is taken
+   back by the opposite increment, and not by the value that stood there before.
+
+   At the timestamp desk nothing is held between GO and the act, so the act belongs inside the mutex: read or change the cell before the mutex
+   is freed, and never later, at commit, say. Nothing is held up to the end either. A job's writes are taken back inside the mutex too, but by
+   then others may have read them (the judge calls that dirty) or have written over them. So keep apart what each job wrote to a cell, and take
+   back by removing the job's own: the cell then holds what the largest number left there wrote. */
 #ifndef TUYENLOMAC_H
 #define TUYENLOMAC_H
 
@@ -246,7 +261,7 @@ static inline uint32_t tuyenlomac_locks_start(struct tuyenlomac_locks *desk, uin
 /* One request. A begin reads neither job nor cell; commit, give-up and retry read no cell. The answer is
      GO     it is done: a begin with the new number, else with the job's
      WAIT   the job waits; it asks nothing more, but may give up, until a wake of a later step names it
-     BACK   the job was sent back, holds nothing, and may retry or give up
+     BACK   the job was sent back, holds nothing, and may retry or give up: take back what it did before the wakes are told and the mutex is free
      NO     with the refusal, in this order: 1 for the kind; for a begin 7, then 6; else 3, 4, 5 or 8, and then 2. The desk is what it was.
    Only a commit, a give-up and a BACK wake anybody. */
 static inline struct tuyenlomac_answer tuyenlomac_locks_step(struct tuyenlomac_locks *desk, uint8_t kind, uint32_t job, uint32_t cell,
@@ -268,7 +283,7 @@ static inline uint32_t tuyenlomac_stamps_start(struct tuyenlomac_stamps *desk, u
 }
 
 /* One request to a timestamp desk: GO; BACK, and the job is closed; or NO with 1; for a begin 7, then 6; else 3, then 19 for a retry, then 2.
-   Nobody waits, so nobody wakes: wakes is 0. */
+   Nobody waits, so nobody wakes: wakes is 0. After GO the act comes before the mutex is freed, since nothing is held. */
 static inline struct tuyenlomac_answer tuyenlomac_stamps_step(struct tuyenlomac_stamps *desk, uint8_t kind, uint32_t job, uint32_t cell) {
     return tuyenlomac_stamps_step_on(&desk->next, desk->number, desk->reader, desk->writer, kind, job, cell);
 }

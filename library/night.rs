@@ -28,6 +28,9 @@ fn answer(desk: &mut Locks, line: u64, text: &[u8], out: &mut impl Write) -> io:
     let mut wakes = Wakes::new();
     let said = desk.step(asked.kind, asked.job, asked.cell, &mut wakes);
     put(out, line, said.word(), said.number(), None)?;
+    // The order matters to a program that keeps what the cells hold. After Back it takes back here what the
+    // job did, whose locks are free already; then it tells who goes on, as below; and if it has threads it
+    // frees its mutex after that. Before a give-up it has taken back already, before the step.
     for wake in &wakes {
         put(out, line, Word::Wake, wake.job, None)?; // who waited, and goes on now
     }

@@ -5,7 +5,22 @@
 //! docs/LIBRARY.md has the commands, and include/tuyenlomac.h says of every function what it answers.
 //! What the header asks of a caller the types ask here: `start` alone makes a desk, nobody can write or
 //! copy its fields, and a step borrows it as `&mut`, so that there is one caller at a time. A program
-//! with threads keeps a desk in a `Mutex`.
+//! with threads keeps a desk in a `Mutex`. The types do not see what the program does with the cells'
+//! own data, and for that there is a rule.
+//!
+//! At the lock desk a job that is sent back has lost its locks, and others may have been granted its
+//! cells, before its caller hears `Back`. So
+//! - after `Back`: first take back (undo) what the job did, then tell the jobs that were woken, then free
+//!   the mutex;
+//! - before a give-up (abort): first take back what the job did, then make the call;
+//! - or change cells only between the job's last `Go` (or wake) and its commit: then a job that is sent
+//!   back has nothing to take back.
+//!
+//! An increment is one atomic operation where the cell is kept, since increment locks are shared; it is
+//! taken back by the opposite increment, and not by the value that stood there before.
+//!
+//! At the timestamp desk nothing is held between `Go` and the act: the act belongs inside the mutex, and
+//! so does taking back. The header says more of it.
 //!
 //! Nothing here allocates, or keeps anything between calls. A panic can come only from an answer that
 //! the archive never gives; beside each stands what rules it out.
@@ -313,7 +328,7 @@ pub enum Answer {
     /// timestamp desk never says so.
     Wait(u32),
     /// The job was sent back and holds nothing. At the lock desk it may retry or give up; at the
-    /// timestamp desk it is closed.
+    /// timestamp desk it is closed. Take back what it did before the wakes are told and the mutex is free.
     Back(u32),
     /// Nothing was done, and the desk is what it was.
     No(Refusal),
@@ -364,7 +379,8 @@ pub struct Wake {
 }
 
 /// The wakes of one step, in their order. It is kept from step to step, and each step puts its own wakes
-/// there; it is no part of the desk, so that they can be read while somebody else steps it.
+/// there; it is no part of the desk. After `Back` the wakes are told when what the job did is taken back,
+/// and before the mutex is freed; after a commit or a give-up they may be told once it is free.
 #[repr(C)]
 #[derive(Clone)]
 pub struct Wakes {
@@ -489,7 +505,8 @@ impl Locks {
 
     /// One request, its kind a letter as `BEGIN`. A begin reads neither job nor cell; commit, give-up and
     /// retry read no cell. The step's wakes, which only a commit, a give-up and a sending back have, stand
-    /// in `wakes`, and those that stood there are forgotten.
+    /// in `wakes`, and those that stood there are forgotten. Before a give-up take back what the job did;
+    /// after `Back` do so before anything else.
     pub fn step(&mut self, kind: u8, job: u32, cell: u32, wakes: &mut Wakes) -> Answer {
         // Sound: the fields of two values, each borrowed for this call by nobody else.
         let told = unsafe {
@@ -570,7 +587,8 @@ impl Stamps {
         }
     }
 
-    /// One request, as to a lock desk; but nobody waits, so nobody wakes.
+    /// One request, as to a lock desk; but nobody waits, so nobody wakes. After `Go` the act comes before
+    /// the mutex is freed, since nothing is held.
     pub fn step(&mut self, kind: u8, job: u32, cell: u32) -> Answer {
         // Sound: four fields of a value that is borrowed for this call by nobody else.
         let told = unsafe {
