@@ -30,7 +30,7 @@ static void answer(struct tuyenlomac_locks *desk, uint64_t line, const char *tex
     put(line, said.word, said.number, 0);
     /* The order matters to a program that keeps what the cells hold. After BACK it takes back here what the job did, whose locks are free
        already; then it tells who goes on, as below; and if it has threads it frees its mutex after that. Before a give-up it has taken back
-       already, before the step. */
+       already, before the step. library/count.c is such a program. */
     for (size_t i = 0; i < said.wakes; i++) /* who waited, and goes on now */
         put(line, TUYENLOMAC_WAKE, wakes.job[i], 0);
 }

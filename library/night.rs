@@ -31,6 +31,7 @@ fn answer(desk: &mut Locks, line: u64, text: &[u8], out: &mut impl Write) -> io:
     // The order matters to a program that keeps what the cells hold. After Back it takes back here what the
     // job did, whose locks are free already; then it tells who goes on, as below; and if it has threads it
     // frees its mutex after that. Before a give-up it has taken back already, before the step.
+    // library/count.rs is such a program.
     for wake in &wakes {
         put(out, line, Word::Wake, wake.job, None)?; // who waited, and goes on now
     }

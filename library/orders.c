@@ -1,0 +1,104 @@
+/* What comes out of each order in which a caller can do the three things that follow BACK: take back (b), tell the wakes (t) and free the mutex (f).
+
+       orders btf
+
+   prints what two cells hold at the end, each of which one committed job has counted in once. With b first each holds 1. In the four other orders
+   one of them or both hold 0, and the status is 1: the job that was sent back has put its old value over what another job had written meanwhile.
+
+   Two threads take turns at a barrier, so that each order comes out the same in every run. The one thread's job is sent back, and it does the three
+   things in turn. After each of them the other thread does all that it may by then: a job that waited goes on as soon as it is told, and a new job
+   asks as soon as the mutex is free. */
+#define _POSIX_C_SOURCE 200809L
+#include <pthread.h>
+#include <stdio.h>
+#include <stdlib.h>
+#include <string.h>
+
+#include "tuyenlomac.h"
+
+enum { WAITER = 1, SENT_BACK = 2, ASKER = 3 }; /* the jobs, by their numbers */
+enum { WAITED_FOR = 0, ASKED = 1, KEPT = 2 };  /* the cells: the job that is sent back has counted in the first two */
+
+static pthread_mutex_t mutex = PTHREAD_MUTEX_INITIALIZER; /* around the desk */
+static pthread_barrier_t turn;
+static struct tuyenlomac_locks desk;
+static struct tuyenlomac_wakes wakes;
+static uint64_t held[2]; /* what the first two cells hold */
+static int told;         /* whether the waiter has been told of its wake */
+
+/* One request, which has to get this answer. */
+static struct tuyenlomac_answer ask(uint8_t kind, uint32_t job, uint32_t cell, uint32_t word) {
+    struct tuyenlomac_answer said = tuyenlomac_locks_step(&desk, kind, job, cell, &wakes);
+    if (said.word != word) {
+        fprintf(stderr, "orders: the desk answers otherwise\n");
+        exit(2);
+    }
+    return said;
+}
+
+/* The other thread: in each turn it does what it may by then, and once. */
+static void *other(void *unused) {
+    int told_done = 0, asked_done = 0;
+    for (int i = 0; i < 3; i++) {
+        pthread_barrier_wait(&turn); /* the one thread has done one of its three things, and waits */
+        if (told && !told_done) {    /* it has been granted the cell, and needs no mutex to count */
+            held[WAITED_FOR]++;
+            told_done = 1;
+        }
+        if (!asked_done && pthread_mutex_trylock(&mutex) == 0) {
+            ask(TUYENLOMAC_BEGIN, 0, 0, TUYENLOMAC_GO);
+            ask(TUYENLOMAC_WRITE, ASKER, ASKED, TUYENLOMAC_GO);
+            held[ASKED]++;
+            pthread_mutex_unlock(&mutex);
+            asked_done = 1;
+        }
+        pthread_barrier_wait(&turn);
+    }
+    ask(TUYENLOMAC_COMMIT, WAITER, 0, TUYENLOMAC_GO);
+    ask(TUYENLOMAC_COMMIT, ASKER, 0, TUYENLOMAC_GO);
+    return unused;
+}
+
+/* Two jobs, of which the younger counts in two cells, and the older waits for the first of them. */
+static void prepare(void) {
+    tuyenlomac_locks_start(&desk, 1);
+    ask(TUYENLOMAC_BEGIN, 0, 0, TUYENLOMAC_GO);
+    ask(TUYENLOMAC_BEGIN, 0, 0, TUYENLOMAC_GO);
+    ask(TUYENLOMAC_WRITE, WAITER, KEPT, TUYENLOMAC_GO);
+    ask(TUYENLOMAC_WRITE, SENT_BACK, WAITED_FOR, TUYENLOMAC_GO);
+    ask(TUYENLOMAC_WRITE, SENT_BACK, ASKED, TUYENLOMAC_GO);
+    held[WAITED_FOR] = held[ASKED] = 1; /* 0 stood there before */
+    ask(TUYENLOMAC_WRITE, WAITER, WAITED_FOR, TUYENLOMAC_WAIT);
+}
+
+/* The one thread: its job asks for what the older one keeps, is sent back, and the three things follow in the given order. */
+static void run(const char *order) {
+    pthread_mutex_lock(&mutex);
+    struct tuyenlomac_answer said = ask(TUYENLOMAC_WRITE, SENT_BACK, KEPT, TUYENLOMAC_BACK);
+    for (int i = 0; i < 3; i++) {
+        if (order[i] == 'b')
+            held[WAITED_FOR] = held[ASKED] = 0; /* as it found them */
+        if (order[i] == 't')
+            told = said.wakes == 1 && wakes.job[0] == WAITER;
+        if (order[i] == 'f')
+            pthread_mutex_unlock(&mutex);
+        pthread_barrier_wait(&turn);
+        pthread_barrier_wait(&turn); /* the other thread has done what it may */
+    }
+}
+
+int main(int argc, char **argv) {
+    const char *order = argc == 2 ? argv[1] : "";
+    pthread_t thread;
+    if (strlen(order) != 3 || strspn(order, "btf") != 3 || order[0] == order[1] || order[1] == order[2] || order[0] == order[2]) {
+        fputs("usage: orders btf, or the three letters in another order\n", stderr);
+        return 2;
+    }
+    prepare();
+    if (pthread_barrier_init(&turn, NULL, 2) != 0 || pthread_create(&thread, NULL, other, NULL) != 0)
+        return 2;
+    run(order);
+    pthread_join(thread, NULL);
+    printf("%s %d %d\n", order, (int)held[WAITED_FOR], (int)held[ASKED]);
+    return held[WAITED_FOR] == 1 && held[ASKED] == 1 ? 0 : 1;
+}
