@@ -11,11 +11,14 @@
 
    What a caller keeps to, in every call:
    - a pointer is not null, is aligned as its type is, and points to so many initialised objects as its array has or as the length beside it says
-     (a desk that is yet to be started too: let it be static, or initialised by = {0}). Where that length is 0 the pointer is not null either,
-     and nothing is read or written through it;
+     (a desk that is yet to be started too: let it be static, or initialised by = {0}). Where the length beside it is 0 the pointer may be null
+     (NULL with 0, as an empty std::vector gives it): then nothing is read or written through it;
    - of two objects that are lent in one call, and one of which may be written, no byte belongs to both;
    - one caller at a time: while a call runs nobody else reads or writes what is lent to be written, nor writes what is lent to be read.
      A program with threads holds a mutex of its own around each step, and around what has to follow the step at once (below).
+   To break one of these rules is undefined behaviour: no answer says so, and nothing is promised any more. What was seen, and may be otherwise
+   elsewhere: a null desk faults (a null pointer for the wakes only in the step that wakes somebody); the same list lent twice silently holds what
+   was written later, the cells of the wakes in place of their jobs.
    Numbers may be any. A call with any kind, job, cell, first number, text, line, place or length is answered as it says here.
 
    A desk is a struct of the caller's. tuyenlomac_locks_start or tuyenlomac_stamps_start makes it, and from then on only the step changes it:

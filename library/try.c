@@ -5,6 +5,7 @@
        try judge                                        prints the verdict on a text of any length, and the faulty line, as try_judge prints them
        try mix [STEPS], try stamp_mix [STEPS]           prints what time_desk prints, of the lock desk and of the timestamp desk
        try rubbish                                      steps, chains and records over random bytes, and counts of them
+       try empty                                        every call that takes a length, lent NULL and 0
 
    What is lent holds FILL, or numbers that are known again, before each call, and is looked at after it: what the header says stays has to stay,
    and the fields of a desk have to hold what it says of them.
@@ -800,6 +801,57 @@ static void rubbish(void) {
     printf("records %llu\n", (unsigned long long)rubbish_records());
 }
 
+/* ---- empty: every call that takes a length, lent NULL and 0, as an empty std::vector may give them */
+
+static void put_empty_judged(const char *text, uint8_t *order, size_t places) {
+    struct tuyenlomac_judgement j = tuyenlomac_judge((const uint8_t *)text, text != NULL ? strlen(text) : 0, order, places);
+    hold(j.from == 0 && j.length == 0, "a line is handed back where none is at fault");
+    put_verdict(j.said, order);
+}
+
+/* A request and a line of a history. */
+static void put_empty_lines(void) {
+    struct tuyenlomac_line request = tuyenlomac_read_request(NULL, 0), history = tuyenlomac_read_history(NULL, 0);
+    hold(request.kind + request.job + request.cell == 0 && history.kind + history.job + history.cell == 0, "no line says something");
+    printf("%u\n%u\n", (unsigned)request.field, (unsigned)history.field);
+}
+
+/* The chain of a job on a desk on which 1 runs, 2 was sent back and 3 is not open, over a list of no places. */
+static void put_empty_chain(const struct tuyenlomac_locks *d, uint32_t job) {
+    struct tuyenlomac_chain told = tuyenlomac_locks_chain(d, job, NULL, 0);
+    hold(told.jobs == 0, "a chain stands in a list of no places");
+    printf("%u\n", (unsigned)told.refusal);
+}
+
+/* Both records, from a place on of a buffer of no bytes, and a letter that there is not. */
+static void put_empty_records(size_t at) {
+    struct tuyenlomac_written answer = tuyenlomac_write_answer(NULL, 0, at, 1, TUYENLOMAC_GO, 1, 0);
+    struct tuyenlomac_written line = tuyenlomac_write_line(NULL, 0, at, TUYENLOMAC_BEGIN, 0, 0);
+    struct tuyenlomac_written none = tuyenlomac_write_line(NULL, 0, at, 'x', 0, 0);
+    hold(answer.next == 0 && line.next == 0 && none.next == 0, "a record stands in a buffer of no bytes");
+    hold(tuyenlomac_write_answer(NULL, 0, at, 1, 5, 1, 0).refusal == TUYENLOMAC_UNKNOWN_KIND, "a word that there is not is written");
+    printf("%u\n%u\n%u\n", (unsigned)answer.refusal, (unsigned)line.refusal, (unsigned)none.refusal);
+}
+
+static void empty(void) {
+    static struct desk d;
+    uint8_t order[TUYENLOMAC_ORDER] = {0};
+    put_empty_judged(NULL, order, TUYENLOMAC_ORDER);
+    put_empty_judged("c\t1\n", NULL, 0);
+    put_empty_judged(NULL, NULL, 0);
+    put_empty_lines();
+    hold(start(&d, 0, 1) == 0, "a start at 1 is refused");
+    for (uint32_t job = 1; job <= 2; job++) { /* both ask for one cell, and the younger is sent back */
+        step(&d, TUYENLOMAC_BEGIN, 0, 0);
+        step(&d, TUYENLOMAC_WRITE, job, 5);
+    }
+    for (uint32_t job = 1; job <= 3; job++)
+        put_empty_chain(&d.locks, job);
+    put_empty_records(0);
+    put_empty_records(1);
+    put_empty_records(SIZE_MAX);
+}
+
 /* Runs a mode that there is. */
 static int run(const char *mode, long count) {
     if (strcmp(mode, "answers") == 0) answers(0);
@@ -813,13 +865,14 @@ static int run(const char *mode, long count) {
     else if (strcmp(mode, "mix") == 0) mix(0, count);
     else if (strcmp(mode, "stamp_mix") == 0) mix(1, count);
     else if (strcmp(mode, "rubbish") == 0) rubbish();
+    else if (strcmp(mode, "empty") == 0) empty();
     else return 0;
     return 1;
 }
 
 int main(int argc, char **argv) {
     if (argc < 2 || !run(argv[1], argc > 2 ? atol(argv[2]) : 1000000)) {
-        fputs("usage: try answers|stamp_answers|chain|verdict|judge|lines|steps|cases|mix|stamp_mix|rubbish [STEPS]\n", stderr);
+        fputs("usage: try answers|stamp_answers|chain|verdict|judge|lines|steps|cases|mix|stamp_mix|rubbish|empty [STEPS]\n", stderr);
         return 2;
     }
     hold(fflush(stdout) == 0 && !ferror(stdout), "cannot write");

@@ -7,6 +7,7 @@
 //!                                                      faulty line, as try_judge prints them
 //!     try mix [STEPS], try stamp_mix [STEPS]           prints what time_desk prints
 //!     try rubbish                                      steps, chains and records over random bytes, counted
+//!     try empty                                        every call that takes a slice, lent an empty one
 //!
 //! What is lent holds FILL, or numbers that are known again, before each call, and is looked at after it:
 //! what the header says stays has to stay. Where it does not, a message and status 1.
@@ -704,6 +705,41 @@ fn rubbish() -> Vec<u8> {
     format!("{}{}records {}\n", locks.line("locks"), stamps.line("stamps"), records).into_bytes()
 }
 
+// ---- empty: every call that takes a slice, lent an empty one
+
+fn refused<T>(told: Result<T, Refusal>) -> u32 {
+    told.err().map_or(0, Refusal::number)
+}
+
+fn empty() -> Vec<u8> {
+    let mut out = Vec::new();
+    for (text, places) in [(&b""[..], ORDER), (b"c\t1\n", 0), (b"", 0)] {
+        put_judged(&mut out, text, places, true);
+    }
+    let mut told = Vec::new();
+    for line in [read_request(&[]), read_history(&[])] {
+        told.push(line.err().map_or(0, |field| u32::from(field.number())));
+    }
+    let (mut desk, mut wakes) = (Locks::start(1).expect("a start at 1"), Wakes::new());
+    for job in 1..=2 {
+        // both ask for one cell, and the younger is sent back
+        let _ = locks_step(&mut desk, BEGIN, 0, 0, &mut wakes);
+        let _ = locks_step(&mut desk, WRITE, job, 5, &mut wakes);
+    }
+    for job in 1..=3 {
+        told.push(refused(desk.chain(job, &mut [])));
+    }
+    for at in [0, 1, usize::MAX] {
+        told.push(refused(write_answer(&mut [], at, 1, Word::Go, 1, None)));
+        told.push(refused(write_line(&mut [], at, BEGIN, 0, 0)));
+        told.push(refused(write_line(&mut [], at, b'x', 0, 0)));
+    }
+    for number in told {
+        put_text(&mut out, &format!("{}\n", number));
+    }
+    out
+}
+
 fn main() {
     let words: Vec<String> = std::env::args().skip(1).collect();
     let steps = words.get(1).map_or(1_000_000, |steps| steps.parse().expect("a number of steps"));
@@ -719,8 +755,9 @@ fn main() {
         "mix" => mix(false, steps),
         "stamp_mix" => mix(true, steps),
         "rubbish" => rubbish(),
+        "empty" => empty(),
         _ => {
-            eprintln!("usage: try answers|stamp_answers|chain|verdict|judge|lines|steps|cases|mix|stamp_mix|rubbish [STEPS]");
+            eprintln!("usage: try answers|stamp_answers|chain|verdict|judge|lines|steps|cases|mix|stamp_mix|rubbish|empty [STEPS]");
             std::process::exit(2);
         }
     };
