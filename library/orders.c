@@ -1,13 +1,15 @@
 /* What comes out of each order in which a caller can do the three things that follow BACK: take back (b), tell the wakes (t) and free the mutex (f).
 
        orders btf
+       orders batf
 
-   prints what two cells hold at the end, each of which one committed job has counted in once. With b first each holds 1. In the four other orders
-   one of them or both hold 0, and the status is 1: the job that was sent back has put its old value over what another job had written meanwhile.
+   prints what two cells hold at the end, each of which one committed job has counted in once. With an a the job gives up there, in place of being
+   sent back. With b before t and f each cell holds 1. In all other orders one of them or both hold 0, and the status is 1: the job has put its old
+   values over what another job had written meanwhile.
 
-   Two threads take turns at a barrier, so that each order comes out the same in every run. The one thread's job is sent back, and it does the three
-   things in turn. After each of them the other thread does all that it may by then: a job that waited goes on as soon as it is told, and a new job
-   asks as soon as the mutex is free. */
+   Two threads take turns at a barrier, so that each order comes out the same in every run. The one thread's job is sent back or gives up, and the
+   thread does the things in turn. After each of them the other thread does all that it may by then: a job that waited goes on as soon as it is told,
+   and a new job asks as soon as the mutex is free. */
 #define _POSIX_C_SOURCE 200809L
 #include <pthread.h>
 #include <stdio.h>
@@ -16,8 +18,8 @@
 
 #include "tuyenlomac.h"
 
-enum { WAITER = 1, SENT_BACK = 2, ASKER = 3 }; /* the jobs, by their numbers */
-enum { WAITED_FOR = 0, ASKED = 1, KEPT = 2 };  /* the cells: the job that is sent back has counted in the first two */
+enum { WAITER = 1, UNDONE = 2, ASKER = 3 };   /* the jobs, by their numbers */
+enum { WAITED_FOR = 0, ASKED = 1, KEPT = 2 }; /* the cells: the job that is undone has counted in the first two */
 
 static pthread_mutex_t mutex = PTHREAD_MUTEX_INITIALIZER; /* around the desk */
 static pthread_barrier_t turn;
@@ -37,10 +39,10 @@ static struct tuyenlomac_answer ask(uint8_t kind, uint32_t job, uint32_t cell, u
 }
 
 /* The other thread: in each turn it does what it may by then, and once. */
-static void *other(void *unused) {
+static void *other(void *order) {
     int told_done = 0, asked_done = 0;
-    for (int i = 0; i < 3; i++) {
-        pthread_barrier_wait(&turn); /* the one thread has done one of its three things, and waits */
+    for (size_t i = 0; i < strlen((const char *)order); i++) {
+        pthread_barrier_wait(&turn); /* the one thread has done one of its things, and waits */
         if (told && !told_done) {    /* it has been granted the cell, and needs no mutex to count */
             held[WAITED_FOR]++;
             told_done = 1;
@@ -56,7 +58,7 @@ static void *other(void *unused) {
     }
     ask(TUYENLOMAC_COMMIT, WAITER, 0, TUYENLOMAC_GO);
     ask(TUYENLOMAC_COMMIT, ASKER, 0, TUYENLOMAC_GO);
-    return unused;
+    return NULL;
 }
 
 /* Two jobs, of which the younger counts in two cells, and the older waits for the first of them. */
@@ -65,17 +67,21 @@ static void prepare(void) {
     ask(TUYENLOMAC_BEGIN, 0, 0, TUYENLOMAC_GO);
     ask(TUYENLOMAC_BEGIN, 0, 0, TUYENLOMAC_GO);
     ask(TUYENLOMAC_WRITE, WAITER, KEPT, TUYENLOMAC_GO);
-    ask(TUYENLOMAC_WRITE, SENT_BACK, WAITED_FOR, TUYENLOMAC_GO);
-    ask(TUYENLOMAC_WRITE, SENT_BACK, ASKED, TUYENLOMAC_GO);
+    ask(TUYENLOMAC_WRITE, UNDONE, WAITED_FOR, TUYENLOMAC_GO);
+    ask(TUYENLOMAC_WRITE, UNDONE, ASKED, TUYENLOMAC_GO);
     held[WAITED_FOR] = held[ASKED] = 1; /* 0 stood there before */
     ask(TUYENLOMAC_WRITE, WAITER, WAITED_FOR, TUYENLOMAC_WAIT);
 }
 
-/* The one thread: its job asks for what the older one keeps, is sent back, and the three things follow in the given order. */
+/* The one thread: its job asks for what the older one keeps, and is sent back, or it gives up where the order says so; the other things follow. */
 static void run(const char *order) {
+    struct tuyenlomac_answer said = {0, 0, 0};
     pthread_mutex_lock(&mutex);
-    struct tuyenlomac_answer said = ask(TUYENLOMAC_WRITE, SENT_BACK, KEPT, TUYENLOMAC_BACK);
-    for (int i = 0; i < 3; i++) {
+    if (strchr(order, 'a') == NULL)
+        said = ask(TUYENLOMAC_WRITE, UNDONE, KEPT, TUYENLOMAC_BACK);
+    for (size_t i = 0; i < strlen(order); i++) {
+        if (order[i] == 'a')
+            said = ask(TUYENLOMAC_GIVE_UP, UNDONE, 0, TUYENLOMAC_GO);
         if (order[i] == 'b')
             held[WAITED_FOR] = held[ASKED] = 0; /* as it found them */
         if (order[i] == 't')
@@ -87,18 +93,24 @@ static void run(const char *order) {
     }
 }
 
+/* Whether each of b, t and f is there once, and with an a, before t and f, nothing else. */
+static int is_order(const char *order) {
+    int all = strchr(order, 'b') != NULL && strchr(order, 't') != NULL && strchr(order, 'f') != NULL;
+    int early = order[0] == 'a' || (order[0] == 'b' && order[1] == 'a');
+    return all && (strlen(order) == 3 || (strlen(order) == 4 && early));
+}
+
 int main(int argc, char **argv) {
-    const char *order = argc == 2 ? argv[1] : "";
     pthread_t thread;
-    if (strlen(order) != 3 || strspn(order, "btf") != 3 || order[0] == order[1] || order[1] == order[2] || order[0] == order[2]) {
-        fputs("usage: orders btf, or the three letters in another order\n", stderr);
+    if (argc != 2 || !is_order(argv[1])) {
+        fputs("usage: orders btf, or the three letters in another order, or with an a before t and f\n", stderr);
         return 2;
     }
     prepare();
-    if (pthread_barrier_init(&turn, NULL, 2) != 0 || pthread_create(&thread, NULL, other, NULL) != 0)
+    if (pthread_barrier_init(&turn, NULL, 2) != 0 || pthread_create(&thread, NULL, other, argv[1]) != 0)
         return 2;
-    run(order);
+    run(argv[1]);
     pthread_join(thread, NULL);
-    printf("%s %d %d\n", order, (int)held[WAITED_FOR], (int)held[ASKED]);
+    printf("%s %d %d\n", argv[1], (int)held[WAITED_FOR], (int)held[ASKED]);
     return held[WAITED_FOR] == 1 && held[ASKED] == 1 ? 0 : 1;
 }
