@@ -1,0 +1,1 @@
+believe() { echo ok; }

@@ -1,0 +1,1 @@
+refusals() { echo ok; }
