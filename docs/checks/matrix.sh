@@ -22,8 +22,30 @@ matrix_rows() {
         }' docs/MATRIX.md
 }
 
+# mode_grants and mode_covers are one look into their table each, and that by the function and the tables of tables.rt: no comparison beside it
+looked_up() {
+    local file=crates/conflict/src/modes.rt pair name table
+    for pair in mode_grants:GRANTS mode_covers:COVERS; do
+        name=${pair%:*} table=${pair#*:}
+        # the body without comments, and the two parameters in their order
+        awk -v name="$name" -v table="$table" '
+            /^pub fn / { reading = index($0, "pub fn " name "(") == 1; if (reading) { split($0, part, /[(:,] */); first = part[2]; second = part[4] } }
+            { sub(/ *\/\/.*$/, "") }
+            reading && /^{$/ { inside = 1; next }
+            /^}$/ { inside = reading = 0 }
+            inside && reading { sub(/^ */, ""); body = body $0 }
+            END {
+                if (body ~ ("^look\\(" table ", Row\\([YN], [YN], [YN], [YN]\\), " first ", " second "\\)$")) print "ok"
+                else print "crates/conflict/src/modes.rt: " name " is not one look into " table " for " first " and " second
+            }' "$file"
+        if grep -qx "use crate::tables::$table;" "$file" && [ "$(grep -cE "(const|let) $table\b" "$file")" = 0 ]; then echo ok; else echo "$file does not take $table from tables.rt"; fi
+    done
+    if grep -qx 'use crate::tables::look;' "$file" && ! grep -qE 'fn look\b' "$file"; then echo ok; else echo "$file does not take look from tables.rt"; fi
+}
+
 matrix() {
     local what head held other said same steps step n
+    looked_up
     declare -A letter=([S]=r [X]=w [I]=i [U]=u)
     matrix_rows >"$log/matrix"
     [ "$(grep -c '^entry' "$log/matrix") $(grep -c '^row' "$log/matrix")" = '32 16' ] || echo "docs/MATRIX.md has not two matrices of sixteen entries, with four rows each of definition and of code"
