@@ -91,6 +91,6 @@ quotes() {
             continue ;;
         esac
         # shellcheck disable=SC2086
-        if cat $files 2>/dev/null | tr '\t' ' ' | grep -qxF -- "$record"; then echo ok; else echo "$page: of $text the $desk write no $what record $record"; fi
+        if cat $files 2>/dev/null | tr '\t' ' ' | grep -qxF -- "$record"; then echo ok; else echo "$page: $record is nothing that the programs write there (example $text, $desk, $what)"; fi
     done <"$log/quoted"
 }
