@@ -29,15 +29,30 @@ refusal_numbers() { # PAGE
     done <"$log/defined"
     while IFS=$'\t' read -r number said; do
         # each number that the header's comment has stands in the row
-        for n in $(grep -oE '[0-9][0-9,]*' <<<"$said" | sed 's/,$//'); do
-            if awk -F '\t' -v n="$number" '$2 == n { print $3 }' "$log/rows" | grep -qE "(^|[^0-9,])$n([^0-9,]|,[^0-9]|,?$)"; then echo ok; else echo "$1: of $number the header says $n, and the table does not"; fi
+        for n in $(grep -oE '[0-9][0-9,]*[0-9]|[0-9]' <<<"$said"); do
+            if limits "$number" | grep -qx "${n//,/}"; then echo ok; else echo "$1: of $number the header says $n, and the table does not"; fi
         done
     done <"$log/header"
 }
 
+# docs/PROMISES.md, Refusals: rows '| N: words |' name no limit that row N of the table has not (0 apart), and every number begins a row, or stands in
+# one that begins with several
+refusals_promised() {
+    local number words n
+    sed -n '/^## Refusals/,/^## The desk that runs/s/^| \([0-9][0-9, ]*\)\(: \| with \| of \)\([^|]*\) |.*/\1\t\2\t\3/p' docs/PROMISES.md >"$log/promised"
+    if [ "$(cut -f 1 "$log/promised" | tr -d ' ' | tr ',' '\n' | sort -nu)" = "$(cut -f 1 "$log/defined" | sort -n)" ]; then echo ok; else echo "docs/PROMISES.md, Refusals: not every refusal has its row, or there is one too many"; fi
+    grep '	: 	' "$log/promised" | while IFS=$'\t' read -r number _ words; do
+        for n in $(grep -oE '[0-9][0-9,]*[0-9]|[0-9]' <<<"${words%%: see*}" | grep -vx 0); do
+            if limits "$number" | grep -qx "${n//,/}"; then echo ok; else echo "docs/PROMISES.md, refusal $number: the table has no $n there"; fi
+        done
+    done
+}
+
+# the numbers that a row names, without their commas, to a line each
+limits() { awk -F '\t' -v n="$1" '$2 == n { print $3 }' "$log/rows" | grep -oE '[0-9][0-9,]*[0-9]|[0-9]' | tr -d ','; }
 # a limit that a row names, as a number; the second one of '1 to 255' by 2
 limit() { # NUMBER [WHICH]
-    awk -F '\t' -v n="$1" '$2 == n { print $3 }' "$log/rows" | grep -oE '[0-9][0-9,]*[0-9]|[0-9]' | tr -d ',' | sed -n "${2:-1}p"
+    limits "$1" | sed -n "${2:-1}p"
 }
 # the field that row 9 tells for 'letter', 'job', 'cell' or 'what follows'
 field() { awk -F '\t' '$2 == 9 { print $3 }' "$log/rows" | grep -oE "[0-9] (the )?$1" | grep -oE '^[0-9]'; }
@@ -165,5 +180,7 @@ refusals() {
         judge_refusals
         refusal_givers "$page"
     done
+    grep '^README.md	' "$log/tables" >"$log/rows"
+    refusals_promised
     refusals_printed
 }
