@@ -30,25 +30,25 @@ reached() { # CRATE
 }
 
 # the theorems NAME-unique of a crate, in the files that its proofs/Lib.antt declares; to a line, parted by tabs: the theorem, how it says that there is
-# no second result, and each module over whose contract it says so
+# no second result, each module over whose contract it says so, and its file
 uniques() { # CRATE
     # shellcheck disable=SC2046
     awk -v crate="$1" -v OFS='\t' '
         function tell(   i, n, part, word) {
             n = split(said, part, /[ \t(){}]+/)
-            for (i = 1; i <= n; i++) { word = part[i]; if (sub(/\.(Post|clauses|ensures-1)$/, "", word) && word in of) print theorem, how, of[word] }
+            for (i = 1; i <= n; i++) { word = part[i]; if (sub(/\.(Post|clauses|ensures-1)$/, "", word) && word in of) print theorem, how, of[word], file }
             theorem = ""
         }
         FNR == 1 { if (theorem != "") tell(); split("", of) }
         $1 == "use" && index($2, "Rattle·" crate "·proofs.proofs.") == 1 && $3 == "as" { path = $2; sub(/^.*·proofs\.proofs\./, "", path); sub(/\.Reads$/, "", path); of[$4] = path }
         theorem != "" && $1 == theorem { tell() }
-        $1 == "pub" && $2 ~ /-unique$/ && $3 == ":" { theorem = $2; how = $4 ~ /^Unique/ ? $4 : "other"; said = "" }
+        $1 == "pub" && $2 ~ /-unique$/ && $3 == ":" { theorem = $2; file = FILENAME; how = $4 ~ /^Unique/ ? $4 : "other"; said = "" }
         theorem != "" { said = said " " $0; if (how == "other" && /x ≡ y/) how = "x ≡ y" }
         END { if (theorem != "") tell() }' $(sed -n "s,^pub mod \([A-Za-z0-9]*\)\$,crates/$1/proofs/\1.antt,p" "crates/$1/proofs/Lib.antt") /dev/null
 }
 
 contracts() {
-    local crate file name module states requires lends theorem how excepted
+    local crate file name module states requires lends theorem how proof excepted
     # exceptions stand in rows with these words, each function as `crate::name`
     excepted=" $(grep 'exception to full contracts' docs/DECISIONS.md | grep -oE '`[a-z_]+::[a-z_]+`' | tr -d '`' | tr '\n' ' ')"
     for crate in $(sed -n 's/^\([a-z0-9_]*\):.*/\1/p' crates.txt); do
@@ -64,11 +64,11 @@ contracts() {
             # where two functions have one name the theorem has the module in front of it
             theorem=${name//_/-}-unique
             [ "$(cut -f 2 "$log/reached" | grep -cx "$name")" = 1 ] || theorem=$(sed 's/.*\.\([^.]*\)\.[^.]*$/\1/; s/_/-/g' <<<".$module")-$theorem
-            how=$(awk -F '\t' -v theorem="$theorem" -v module="$module" '$1 == theorem && $3 == module { print $2; exit }' "$log/uniques")
+            IFS=$'\t' read -r how proof < <(awk -F '\t' -v OFS='\t' -v theorem="$theorem" -v module="$module" '$1 == theorem && $3 == module { print $2, $4; exit }' "$log/uniques")
             case $how:$lends in
             '':*) echo "$file: of $name there is no theorem $theorem over its contract" ;;
             other:* | Unique:yes) echo "$file: $theorem does not say that there is no second result, with all that is lent" ;;
-            *) echo ok ;;
+            *) if grep -F "| \`$proof\` |" docs/PROMISES.md | grep -qF "\`$theorem\`"; then echo ok; else echo "docs/PROMISES.md does not cite $theorem of $proof"; fi ;;
             esac
         done <"$log/reached"
     done
