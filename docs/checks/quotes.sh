@@ -48,7 +48,7 @@ quoted() {
 
 # what the programs write of an example, or of its first lines, in files of $log/NAME@AFTER.*
 run_example() { # NAME AFTER
-    local at="$log/$1@$2"
+    local at="$log/$1@$2" program
     [ ! -e "$at.verdict" ] || return 0
     if [ -f "examples/$1.requests" ]; then
         if [ "$2" = 0 ]; then cat "examples/$1.requests"; else head -n "$2" "examples/$1.requests"; fi >"$at.requests"
