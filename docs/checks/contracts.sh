@@ -7,20 +7,20 @@ opened() { # FILE FOLDER
     for name in $(sed -n 's/^pub mod \([a-z0-9_]*\);.*/\1/p' "$1"); do opened "$2/$name.rt" "$2/$name"; done
 }
 
-# the public functions of those files, and what these pass on by `pub use`; to a line, parted by tabs: file, name, the module that its proofs have for
+# the public functions of those files, what these pass on by `pub use`, and every public method, which goes with its type; to a line, parted by tabs: file, name, the module that its proofs have for
 # it (with the type of a method), whether it states something, requires something, lends something to be changed
 reached() { # CRATE
     local files names
     files=$(opened "crates/$1/src/lib.rt" "crates/$1/src")
     # shellcheck disable=SC2086
-    names=$(sed -n 's/^pub use .*[:{, ]\([a-z0-9_]*\)}\{0,1\};.*/\1/p' $files)
-    find "crates/$1/src" -name '*.rt' -print0 | sort -z | xargs -0 awk -v files=" ${files//$'\n'/ } " -v names=" ${names//$'\n'/ } " -v OFS='\t' '
+    names=$(sed -n 's/;.*//; s/ as [A-Za-z0-9_]*//g; s/[{},]/ /g; s/^pub use .*:://p' $files)
+    find "crates/$1/src" -name '*.rt' -print0 | sort -z | xargs -0 awk -v files=" ${files//$'\n'/ } " -v names=" ${names//[$'\n ']/  } " -v OFS='\t' '
         FNR == 1 { type = ""; head = 0; module = FILENAME; sub(/^crates\/[^\/]*\/src\//, "", module); sub(/\.rt$/, ".", module); sub(/^lib\.$/, "", module); gsub(/\//, ".", module) }
         /^impl / { type = $2 "." }
         /^}/ { type = "" }
         match($0, /^ *pub (extern "C" )?fn [a-zA-Z0-9_]+/) {
             name = substr($0, RSTART, RLENGTH); sub(/^.* /, "", name)
-            head = index(files, " " FILENAME " ") || index(names, " " name " "); states = requires = lends = "no"
+            head = type != "" || index(files, " " FILENAME " ") || index(names, " " name " "); states = requires = lends = "no"
         }
         head && /^ *ensures / { states = "yes" }
         head && /^ *requires / { requires = "yes" }
