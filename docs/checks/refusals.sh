@@ -9,30 +9,37 @@ refusal_rows() {
 defined_refusals() {
     awk -v OFS='\t' '/^-- / { words = substr($0, 4); sub(/ \(02, No\. [0-9]+\)$/, "", words) } /^numberOf / { number = $0; sub(/^.*= /, "", number); print number, words }' crates/terms/specs/Refusals.antt
 }
-# the numbers of the header, with what its comment says: number, comment
-header_refusals() {
-    sed -n '/^enum tuyenlomac_refusal {/,/^};/s/^ *TUYENLOMAC_[A-Z_]* = \([0-9]*\),\{0,1\} *\(.*\)$/\1\t\2/p' include/tuyenlomac.h
+# the numbers that code has, with what the comments say: number, comment. Of the enum of refusals, of the header, and of the face in Rust
+coded_refusals() { # FILE
+    case $1 in
+    *.rt) sed -n '/^pub enum Refusal {/,/^}/s/^ *\/\/ \([0-9]*\): \(.*\)$/\1\t\2/p' "$1" ;;
+    *.h) sed -n '/^enum tuyenlomac_refusal {/,/^};/s/^ *TUYENLOMAC_[A-Z_]* = \([0-9]*\),\{0,1\} *\(.*\)$/\1\t\2/p' "$1" ;;
+    *.rs) awk -v OFS='\t' '/^pub enum Refusal {/ { inside = 1; next } /^}/ { inside = 0 } inside && /\/\/\// { words = $0 } inside && / = [0-9]+,$/ { number = $NF; sub(/,/, "", number); print number, words }' "$1" ;;
+    esac
 }
 
-# number and words of a page's rows beside those of definitions and header
+# number and words of a page's rows beside those of the definitions, and its numbers beside those of code, header and face
 refusal_numbers() { # PAGE
-    local number words when said n
+    local number words when file said n
     cut -f 1 "$log/defined" | sort -n | uniq -d | while read -r number; do echo "the definitions have the number $number twice"; done
     if [ "$(cut -f 2 "$log/rows")" = "$(cut -f 1 "$log/defined" | sort -n)" ]; then echo ok; else echo "$1: the numbers of the table are not those of the definitions, each once and ascending"; fi
-    # 16 is of the program verdict alone
-    if [ "$(cut -f 1 "$log/header" | sort -n)" = "$(cut -f 2 "$log/rows" | grep -vx 16)" ]; then echo ok; else echo "$1: the numbers of the table are not those of include/tuyenlomac.h and 16"; fi
     while IFS=$'\t' read -r number words; do
         when=$(awk -F '\t' -v n="$number" '$2 == n { gsub(/`/, "", $3); print $3 }' "$log/rows")
         # either has the other's words in front; one may say more
         case $when in "$words"*) echo ok; continue ;; esac
         case $words in "${when:-no row}"*) echo ok ;; *) echo "$1: of $number the definitions say: $words" ;; esac
     done <"$log/defined"
-    while IFS=$'\t' read -r number said; do
-        # each number that the header's comment has stands in the row
-        for n in $(grep -oE '[0-9][0-9,]*[0-9]|[0-9]' <<<"$said"); do
-            if limits "$number" | grep -qx "${n//,/}"; then echo ok; else echo "$1: of $number the header says $n, and the table does not"; fi
-        done
-    done <"$log/header"
+    for file in crates/terms/src/refusals.rt include/tuyenlomac.h library/tuyenlomac.rs; do
+        coded_refusals "$file" | sort -n >"$log/coded"
+        # the library has no 16, which is of the program verdict alone
+        if [ "$(cut -f 1 "$log/coded")" = "$(cut -f 2 "$log/rows" | case $file in *.rt) cat ;; *) grep -vx 16 ;; esac)" ]; then echo ok; else echo "$1: the numbers of the table are not those of $file"; fi
+        # each number that a comment has stands in the row
+        while IFS=$'\t' read -r number said; do
+            for n in $(grep -oE '[0-9][0-9,]*[0-9]|[0-9]' <<<"$said"); do
+                if limits "$number" | grep -qx "${n//,/}"; then echo ok; else echo "$1: of $number $file says $n, and the table does not"; fi
+            done
+        done <"$log/coded"
+    done
 }
 
 # docs/PROMISES.md, Refusals: rows '| N: words |' name no limit that row N of the table has not (0 apart), and every number begins a row, or stands in
@@ -170,7 +177,6 @@ refusals() {
     local page
     refusal_rows >"$log/tables"
     defined_refusals >"$log/defined"
-    header_refusals >"$log/header"
     grep -q '^README.md' "$log/tables" || echo "README.md has no table of refusals"
     for page in $(cut -f 1 "$log/tables" | sort -u); do
         grep "^$page	" "$log/tables" >"$log/rows"
