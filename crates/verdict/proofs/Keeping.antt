@@ -2,7 +2,6 @@
 -- Assumes nothing.
 use Prim.Native.Nat.{ℕ, _+_, _-_, _≤_, _<_, min}
 use mathlib.Core.Path.{_≡_, refl, sym, ap, ap₂, _∙_}
-use mathlib.Core.Bool.{true, false}
 use mathlib.Core.List.{List, [], _++_}
 use native.Mathlib.Numerals.{add-one}
 use native.Mathlib.Nat.{zero-add, sub-zero}
@@ -10,7 +9,7 @@ use native.Mathlib.Omega.{arith}
 use lib.ListN.{length, take, drop, set, getD, length-append}
 use lib.Dec.{leb}
 use borrow.Author.Tests.{leb-true, leb-false}
-use lib.Seq.{take-all, paste, paste-zero, paste-suc, take-paste, drop-paste, take-length, take-append-add, drop-drop}
+use lib.Seq.{take-all, paste, paste-zero, paste-suc, take-paste, drop-paste, length-paste, take-length, take-append-add, drop-drop}
 use Rattle.laws.specs.Choice.{by-test}
 use Rattle.terms.specs.Limits.{judgedBytes}
 use Rattle.judge_rules.specs.VerdictLine.{verdictOf}
@@ -98,10 +97,11 @@ took-first {buffer} {text} {len} t =
         (λ y. let l = leb-true (length (t .read)) (length buffer) y in take-all len (t .read) (omega arith) ∙ sym (take-all (length buffer) (t .read) l))
         (λ n. let l = leb-false (length (t .read)) (length buffer) n in let e : len ≡ length buffer = omega arith in ap (λ m. take m (t .read)) e)
 
--- the line on what a buffer of 65,537 bytes holds is the line on all that was read
-pub took-judged : {buffer text out : List ℕ} {len next : ℕ} → Took buffer text len → length buffer ≡ judgedBytes + 1 → next ≤ length out → take next out ≡ verdictOf (take (len - 0) text) → Judges out next true
-took-judged {text = text} {len = len} t l w e = record { read = t .read; within = w; line = e ∙ ap verdictOf (ap (λ n. take n text) (sub-zero len) ∙ took-first t ∙ ap (λ n. take n (t .read)) l) ∙ first-bytes (t .read) }
+-- the buffer that they were read into has as many bytes as what it then holds
+took-length : {buffer text : List ℕ} {len : ℕ} → Took buffer text len → length buffer ≡ length text
+unfolding fitting kept
+took-length {buffer} t = sym (ap length (t .holds) ∙ length-paste buffer 0 (t .read) (fitting buffer 0 (t .read)) (omega arith) (omega arith))
 
--- a read failed: there is no line
-pub judged-none : (out : List ℕ) → Judges out 0 false
-judged-none out = record { read = []; within = omega arith; line = refl }
+-- the line on what a buffer of 65,537 bytes holds is the line on all that was read
+pub took-judged : {text bytes : List ℕ} {len : ℕ} → length text ≡ judgedBytes + 1 → bytes ≡ verdictOf (take (len - 0) text) → Judges text len bytes
+took-judged {text} {len = len} l e buffer t = e ∙ ap verdictOf (ap (λ n. take n text) (sub-zero len) ∙ took-first t ∙ ap (λ n. take n (t .read)) (took-length t ∙ l)) ∙ first-bytes (t .read)

@@ -1,11 +1,9 @@
 -- What the verdict program keeps of the bytes that it reads, and what it says of them (01, The judge's rules; 01, refusal 16).
-use Prim.Native.Nat.{ℕ, _-_, _≤_, min}
+use Prim.Native.Nat.{ℕ, _-_, min}
 use mathlib.Core.Path.{_≡_}
-use mathlib.Core.Bool.{Bool}
-use mathlib.Core.List.{List, []}
-use lib.ListN.{length, take}
+use mathlib.Core.List.{List}
+use lib.ListN.{length}
 use lib.Seq.{paste}
-use Rattle.laws.specs.Choice.{pick}
 use Rattle.judge_rules.specs.VerdictLine.{verdictOf}
 
 -- how many bytes of a chunk there is room for in a buffer behind its first ones
@@ -22,8 +20,6 @@ pub record Took (buffer after : List ℕ) (len : ℕ) : Type 0 where
   pub count : len ≡ fitting buffer 0 read
   pub holds : after ≡ kept buffer 0 read
 
--- for some bytes that were read: what stands in front of a place is the verdict's line on all of them, or nothing where a read failed
-pub record Judges (out : List ℕ) (next : ℕ) (whole : Bool) : Type 0 where
-  pub read : List ℕ
-  pub within : next ≤ length out
-  pub line : take next out ≡ pick whole (verdictOf read) []
+-- what is to be written: whatever bytes were read into a buffer that now holds the text, these bytes are the verdict's line on all of them. That they go to standard output no contract can say: the one call of `write_all` is left to the comparison of programs
+abbrev pub Judges : List ℕ → ℕ → List ℕ → Type 0
+Judges text len bytes = (buffer : List ℕ) (t : Took buffer text len) → bytes ≡ verdictOf (t .read)

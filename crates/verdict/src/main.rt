@@ -20,12 +20,6 @@ struct Taken {
     whole: bool,
 }
 
-// Where the line on what was read ends, and whether no read failed.
-struct Judged {
-    next: usize,
-    whole: bool,
-}
-
 // The line on a text stands before the place that is told. There is room for the longest, so none is refused.
 fn put_line(text: &[u8], out: &mut [u8]) -> usize
     requires { ⌜ lineLimit ≤ length (now out) ⌝ }
@@ -35,6 +29,16 @@ fn put_line(text: &[u8], out: &mut [u8]) -> usize
         Written::Next(next) => next,
         Written::Refused(_) => 0,
     }
+}
+
+// The line on a text, as the part of the buffer that holds it.
+fn line_on<'a>(text: &[u8], out: &'a mut [u8]) -> &'a [u8]
+    requires { ⌜ lineLimit ≤ length (now out) ⌝ }
+    ensures { λ r. ⌜ now r ≡ verdictOf (now (text .entry)) ⌝ }
+{
+    let next = put_line(text, out);
+    let all = &out[..];
+    &all[0..next]
 }
 
 // A chunk's bytes kept behind those that are, as far as there is room for them, and how many there are then.
@@ -79,34 +83,25 @@ fn take_all(input: &mut [u8], text: &mut [u8]) -> Taken
     Taken { len, whole: false }
 }
 
-// The line on all that was read. Where a read fails there is no text to judge, and there is no line: no verdict on half a history.
-fn judge_all(input: &mut [u8], text: &mut [u8], out: &mut [u8]) -> Judged
-    requires { ⌜ (length (now text) ≡ judgedBytes + 1) × (lineLimit ≤ length (now out)) ⌝ }
-    ensures { λ r. ⌜ Judges (now (out .exit)) (r .next) (r .whole) ⌝ }
+// What is to be written: the line on all that was read, as the part of the buffer that holds it.
+fn to_write<'a>(taken: Taken, text: &[u8], out: &'a mut [u8]) -> &'a [u8]
+    requires { ⌜ (length (now text) ≡ judgedBytes + 1) × (taken .len ≤ length (now text)) × (lineLimit ≤ length (now out)) ⌝ }
+    ensures { λ r. ⌜ Judges (now (text .entry)) (taken .len) (now r) ⌝ }
 {
-    let taken = take_all(input, text);
-    if !taken.whole {
-        return Judged {
-            next: 0,
-            whole: false,
-        };
-    }
     let n = taken.len;
-    let next = put_line(&text[0..n], out);
-    Judged { next, whole: true }
+    line_on(&text[0..n], out)
 }
 
-// Writes out the line on what was read, and says on standard error what failed.
+// Writes out the line on what was read, and says on standard error what failed. Where a read fails there is no text to judge, and there is no line: no verdict on half a history.
 fn report(input: &mut [u8], text: &mut [u8], out: &mut [u8])
     requires { ⌜ (length (now text) ≡ judgedBytes + 1) × (lineLimit ≤ length (now out)) ⌝ }
 {
-    let judged = judge_all(input, text, out);
-    if !judged.whole {
+    let taken = take_all(input, text);
+    if !taken.whole {
         os::fail(b"verdict: cannot read");
         return;
     }
-    let next = judged.next;
-    if !io::write_all(STDOUT_FILENO, &out[0..next]) {
+    if !io::write_all(STDOUT_FILENO, to_write(taken, text, out)) {
         os::fail(b"verdict: cannot write");
     }
 }
