@@ -1,3 +1,4 @@
 pub mod Places
 pub mod Rest
+pub mod OneProgram
 pub mod Unique

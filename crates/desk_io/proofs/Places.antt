@@ -9,62 +9,74 @@ use lib.ListN.{length, take}
 use lib.Seq.{take-add, take-all}
 use borrow.Author.Tests.{le-leb}
 use Rattle.laws.specs.Choice.{by-test, not-both}
-use Rattle.program_rules.specs.declared.Clerk.{Clerk}
-use Rattle.program_rules.specs.declared.View.{View}
 use Rattle.program_rules.specs.declared.Worked.{Worked}
 use Rattle.program_rules.specs.Work.{lineRoom, roomy, workOf}
-use Rattle.program_rules.specs.Tellings.{clerkAfter}
 use Rattle.text_rules.specs.Split.{part}
 use Rattle.program_rules.proofs.Records.{clerk-append, clerk-none}
 use Rattle.program_rules.proofs.Progress.{call-used, call-moved}
 use Rattle.program_rules.proofs.AnyCourse.{call-did}
+use Rattle.desk_io.specs.declared.Front.{Front}
+use Rattle.desk_io.specs.declared.Called.{Called}
 use Rattle.desk_io.specs.declared.Served.{Served}
-use Rattle.desk_io.specs.Serving.{Turned, Serves, Saw}
+use Rattle.desk_io.specs.Serving.{frontAfter, Turned, HandsOn, Serves, Saw}
+
+-- a front that has seen some bytes and then others has seen them one behind the other
+front-append : (f : Front) (a b : List ℕ) → frontAfter f (a ++ b) ≡ frontAfter (frontAfter f a) b
+front-append f a b i = record { view = f .view; clerk = clerk-append (f .clerk) a b i }
+
+-- of no bytes it is as it was
+pub front-none : (f : Front) → frontAfter f [] ≡ f
+front-none f i = record { view = f .view; clerk = clerk-none (f .clerk) i }
 
 -- a call from the buffer's first byte on, with room for a line and a byte to work on
-pub call-turned : (view : View) (c : Clerk) (chunk : List ℕ) (from : ℕ) (out : List ℕ) {w : Worked} {after : List ℕ} → from < length chunk → lineRoom ≤ length out →
-    w ≡ workOf view c chunk from out 0 .worked → after ≡ workOf view c chunk from out 0 .out → Turned view c chunk from w after
+pub call-turned : (f : Front) (chunk : List ℕ) (from : ℕ) (out : List ℕ) {w : Worked} {after : List ℕ} → from < length chunk → lineRoom ≤ length out →
+    w ≡ workOf (f .view) (f .clerk) chunk from out 0 .worked → after ≡ workOf (f .view) (f .clerk) chunk from out 0 .out →
+    Turned f chunk from (record { front = record { view = f .view; clerk = w .clerk }; next = w .next; at = w .at }) after
 unfolding roomy
-call-turned view c chunk from out {w} {after} h l e f =
-    let d = call-did view c chunk from out 0 (omega arith) in
-    let on : from < workOf view c chunk from out 0 .worked .next =
-    by-test (workOf view c chunk from out 0 .worked .full) (call-moved view c chunk from out 0 (omega arith) (le-leb (0 + lineRoom) (length out) (omega arith)))
-    (λ n. let u = call-used view c chunk from out 0 n in omega arith) in
-    rw (e, f) (record { ahead = on; within = d .within; clerk = d .clerk; records = d .text })
+call-turned f chunk from out {w} {after} h l e g =
+    let d = call-did (f .view) (f .clerk) chunk from out 0 (omega arith) in
+    let on : from < workOf (f .view) (f .clerk) chunk from out 0 .worked .next =
+    by-test (workOf (f .view) (f .clerk) chunk from out 0 .worked .full) (call-moved (f .view) (f .clerk) chunk from out 0 (omega arith) (le-leb (0 + lineRoom) (length out) (omega arith)))
+    (λ n. let u = call-used (f .view) (f .clerk) chunk from out 0 n in omega arith) in
+    rw (e, g) (record { ahead = on; within = d .within; front = λ i. record { view = f .view; clerk = d .clerk i }; records = d .text })
+
+-- what stands before the place told is what is to be written out
+pub handed-on : (c : Called) (out : List ℕ) {bytes : List ℕ} → bytes ≡ take (c .at) out → HandsOn c out bytes
+handed-on c out e f chunk from t = e ∙ t .records
 
 -- the bytes of a chunk up to a place, and from there on up to another
 up-to : (chunk : List ℕ) (from to : ℕ) → from ≤ to → take from chunk ++ part chunk from to ≡ take to chunk
 up-to chunk from to h = let e : from + (to - from) ≡ to = omega arith in sym (take-add from (to - from) chunk) ∙ ap (λ n. take n chunk) e
 
--- a clerk who has seen a chunk up to a place has, after a call, seen it up to the place told
-pub seen-more : (c : Clerk) {view : View} {k : Clerk} {chunk out : List ℕ} {from : ℕ} {w : Worked} → k ≡ clerkAfter c (take from chunk) → Turned view k chunk from w out → w .clerk ≡ clerkAfter c (take (w .next) chunk)
-seen-more c {chunk = chunk} {from = from} {w = w} e t =
+-- a front that has seen a chunk up to a place has, after a call, seen it up to the place told
+pub seen-more : (f : Front) {k : Front} {chunk out : List ℕ} {from : ℕ} {c : Called} → k ≡ frontAfter f (take from chunk) → Turned k chunk from c out → c .front ≡ frontAfter f (take (c .next) chunk)
+seen-more f {chunk = chunk} {from = from} {c = c} e t =
     let h = t .ahead in
-    t .clerk ∙ ap (λ x. clerkAfter x (part chunk from (w .next))) e ∙ sym (clerk-append c (take from chunk) (part chunk from (w .next))) ∙ ap (clerkAfter c) (up-to chunk from (w .next) (omega arith))
+    t .front ∙ ap (λ (x : Front). frontAfter x (part chunk from (c .next))) e ∙ sym (front-append f (take from chunk) (part chunk from (c .next))) ∙ ap (frontAfter f) (up-to chunk from (c .next) (omega arith))
 
 -- output that is not taken ends the work there
-pub serves-some : {c k : Clerk} {chunk : List ℕ} {from : ℕ} → k ≡ clerkAfter c (take from chunk) → Serves c chunk (record { clerk = k; seen = from; taken = false })
+pub serves-some : {f k : Front} {chunk : List ℕ} {from : ℕ} → k ≡ frontAfter f (take from chunk) → Serves f chunk (record { front = k; seen = from; taken = false })
 serves-some e = record { some = e; all = λ t. not-both t refl }
 
--- at the chunk's end the clerk has seen it all
-pub serves-all : {c k : Clerk} {chunk : List ℕ} {from : ℕ} → k ≡ clerkAfter c (take from chunk) → length chunk ≤ from → Serves c chunk (record { clerk = k; seen = from; taken = true })
-serves-all {c} {chunk = chunk} {from} e h = record { some = e; all = λ t. e ∙ ap (clerkAfter c) (take-all from chunk h) }
+-- at the chunk's end the front has seen it all
+pub serves-all : {f k : Front} {chunk : List ℕ} {from : ℕ} → k ≡ frontAfter f (take from chunk) → length chunk ≤ from → Serves f chunk (record { front = k; seen = from; taken = true })
+serves-all {f} {chunk = chunk} {from} e h = record { some = e; all = λ t. e ∙ ap (frontAfter f) (take-all from chunk h) }
 
--- a clerk who has seen a text and then bytes has seen the text with them
-saw-on : {first c k : Clerk} (s : Saw first c) (bytes : List ℕ) → k ≡ clerkAfter c bytes → Saw first k
-saw-on {first} s bytes e = record { text = s .text ++ bytes; clerk = e ∙ ap (λ x. clerkAfter x bytes) (s .clerk) ∙ sym (clerk-append first (s .text) bytes) }
+-- a front that has seen a text and then bytes has seen the text with them
+saw-on : {first f k : Front} (s : Saw first f) (bytes : List ℕ) → k ≡ frontAfter f bytes → Saw first k
+saw-on {first} s bytes e = record { text = s .text ++ bytes; front = e ∙ ap (λ (x : Front). frontAfter x bytes) (s .front) ∙ sym (front-append first (s .text) bytes) }
 
--- at first he has seen nothing
-pub saw-none : {c : Clerk} → Saw c c
-saw-none {c} = record { text = []; clerk = sym (clerk-none c) }
+-- at first it has seen nothing
+pub saw-none : {f : Front} → Saw f f
+saw-none {f} = record { text = []; front = sym (front-none f) }
 
 -- by whatever name the first one goes
-pub saw-since : {a b c : Clerk} → a ≡ b → Saw a c → Saw b c
-saw-since e s = record { text = s .text; clerk = s .clerk ∙ ap (λ x. clerkAfter x (s .text)) e }
+pub saw-since : {a b f : Front} → a ≡ b → Saw a f → Saw b f
+saw-since e s = record { text = s .text; front = s .front ∙ ap (λ (x : Front). frontAfter x (s .text)) e }
 
--- after a chunk he has seen it too, all of it or as far as output was taken
-pub saw-chunk : {first c : Clerk} {chunk : List ℕ} {s : Served} → Saw first c → Serves c chunk s → not (s .taken) ≡ false → Saw first (s .clerk)
+-- after a chunk it has seen that too, all of it or as far as output was taken
+pub saw-chunk : {first f : Front} {chunk : List ℕ} {s : Served} → Saw first f → Serves f chunk s → not (s .taken) ≡ false → Saw first (s .front)
 saw-chunk {chunk = chunk} {s} w t e = by-test (s .taken) (λ y. saw-on w chunk (t .all y)) (λ n. not-both (ap not n) e)
 
-pub saw-part : {first c : Clerk} {chunk : List ℕ} {s : Served} → Saw first c → Serves c chunk s → Saw first (s .clerk)
+pub saw-part : {first f : Front} {chunk : List ℕ} {s : Served} → Saw first f → Serves f chunk s → Saw first (s .front)
 saw-part {chunk = chunk} {s} w t = saw-on w (take (s .seen) chunk) (t .some)

@@ -15,6 +15,7 @@ use Rattle.program_rules.specs.Closing.{closingRoom, programRoom, closeOf, endO
 use Rattle.program_rules.specs.Tellings.{clerkAfter}
 use Rattle.program_rules.proofs.Closings.{close-within, ends-within}
 use Rattle.program_rules.proofs.Endings.{ended-all, closed-all}
+use Rattle.desk_io.specs.declared.Front.{Front}
 use Rattle.desk_io.specs.declared.Halted.{Halted}
 use Rattle.desk_io.specs.declared.Halt.{Halt}
 use Rattle.desk_io.specs.declared.Halt.the-variants.{Ended, NotRead, AllRead, NotTaken}
@@ -40,46 +41,50 @@ closing-fits History = omega arith
 closing-fits Chains = omega arith
 
 -- by why no more is read
-by-why : {view : View} {h : Halted} {why : Halt} {at : ℕ} {out : List ℕ} → h .why ≡ why → at ≤ length out → ((m : Method) (text : List ℕ) → h .clerk ≡ clerkAfter (startedClerk m) text → Makes m view why text (take at out)) → Rests view h at out
-by-why {view} {at = at} {out} e w r = record { within = w; rest = λ m text k. subst (λ y. Makes m view y text (take at out)) (sym e) (r m text k) }
+by-why : {h : Halted} {why : Halt} {at : ℕ} {out : List ℕ} → h .why ≡ why → at ≤ length out → ((m : Method) (text : List ℕ) → h .front .clerk ≡ clerkAfter (startedClerk m) text → Makes m (h .front .view) why text (take at out)) → Rests h at out
+by-why {h} {at = at} {out} e w r =
+    record {
+      within = w;
+      rest = λ m view text k. subst (λ v. Makes m v (h .why) text (take at out)) (ap (λ (x : Front). x .view) k) (subst (λ y. Makes m (h .front .view) y text (take at out)) (sym e) (r m text (ap (λ (x : Front). x .clerk) k)));
+    }
 
-module _ (view : View) (h : Halted) (out : List ℕ) (room : programRoom view ≤ length out) where
-  module _ {at : ℕ} {after : List ℕ} (e : at ≡ endOf view (h .clerk) out 0 .finished .at) (f : after ≡ endOf view (h .clerk) out 0 .out) where
+module _ (h : Halted) (out : List ℕ) (room : programRoom (h .front .view) ≤ length out) where
+  module _ {at : ℕ} {after : List ℕ} (e : at ≡ endOf (h .front .view) (h .front .clerk) out 0 .finished .at) (f : after ≡ endOf (h .front .view) (h .front .clerk) out 0 .out) where
     -- what the end of the input puts into the buffer makes it all
-    makes-all : (m : Method) (text : List ℕ) → h .clerk ≡ clerkAfter (startedClerk m) text → MakesAll m view text (take at after)
-    makes-all m text k = rw (e, f) (ended-all m view (h .clerk) text k out room)
+    makes-all : (m : Method) (text : List ℕ) → h .front .clerk ≡ clerkAfter (startedClerk m) text → MakesAll m (h .front .view) text (take at after)
+    makes-all m text k = rw (e, f) (ended-all m (h .front .view) (h .front .clerk) text k out room)
 
     -- and stands within it
     ends-there : at ≤ length after
-    ends-there = rw (e, f) (ends-within view (h .clerk) out 0 (omega arith))
+    ends-there = rw (e, f) (ends-within (h .front .view) (h .front .clerk) out 0 (omega arith))
 
     -- the input has ended
-    pub rests-ended : h .why ≡ Ended → Rests view h at after
+    pub rests-ended : h .why ≡ Ended → Rests h at after
     rests-ended w = by-why w ends-there makes-all
 
     -- a read failed, and answers are written
-    pub rests-answers : h .why ≡ NotRead → view ≡ Answers → Rests view h at after
+    pub rests-answers : h .why ≡ NotRead → h .front .view ≡ Answers → Rests h at after
     rests-answers w v = by-why w ends-there (λ m text k. subst (λ x. MakesAll m x text (take at after) → MakesUnread m x text (take at after)) (sym v) (λ y. y) (makes-all m text k))
 
     -- or the history is
-    pub rests-history : h .why ≡ NotRead → view ≡ History → Rests view h at after
+    pub rests-history : h .why ≡ NotRead → h .front .view ≡ History → Rests h at after
     rests-history w v = by-why w ends-there (λ m text k. subst (λ x. MakesAll m x text (take at after) → MakesUnread m x text (take at after)) (sym v) (λ y. y) (makes-all m text k))
 
   -- every line has been read
-  pub rests-read : {g : Finished} {after : List ℕ} → g ≡ closeOf view (h .clerk) out 0 .finished → after ≡ closeOf view (h .clerk) out 0 .out → Over (h .why) (h .clerk .splitter) → h .why ≡ AllRead → Rests view h (g .at) after
+  pub rests-read : {at : ℕ} {after : List ℕ} → at ≡ closeOf (h .front .view) (h .front .clerk) out 0 .finished .at → after ≡ closeOf (h .front .view) (h .front .clerk) out 0 .out → Over (h .why) (h .front .clerk .splitter) → h .why ≡ AllRead → Rests h at after
   rests-read e f s w =
-      let r = closing-fits view in
-      by-why w (rw (e, f) (close-within view (h .clerk) out 0 (omega arith)))
-      (λ m text k more. rw (e, f) (closed-all m view (h .clerk) text k out (omega arith) (subst (λ y. Over y (h .clerk .splitter)) w s) more))
+      let r = closing-fits (h .front .view) in
+      by-why w (rw (e, f) (close-within (h .front .view) (h .front .clerk) out 0 (omega arith)))
+      (λ m text k more. rw (e, f) (closed-all m (h .front .view) (h .front .clerk) text k out (omega arith) (subst (λ y. Over y (h .front .clerk .splitter)) w s) more))
 
 -- nothing is written after a write that failed
-pub rests-untaken : {view : View} {h : Halted} {out : List ℕ} → h .why ≡ NotTaken → Rests view h 0 out
+pub rests-untaken : {h : Halted} {out : List ℕ} → h .why ≡ NotTaken → Rests h 0 out
 rests-untaken w = by-why w (omega arith) (λ m text k. refl)
 
 -- nor are chains after a read that failed
-pub rests-chains : {view : View} {h : Halted} {out : List ℕ} → h .why ≡ NotRead → view ≡ Chains → Rests view h 0 out
+pub rests-chains : {h : Halted} {out : List ℕ} → h .why ≡ NotRead → h .front .view ≡ Chains → Rests h 0 out
 rests-chains w v = by-why w (omega arith) (λ m text k. subst (λ x. MakesUnread m x text []) (sym v) refl)
 
 -- what is to be written after a read that failed
-pub rests-unread : {view : View} {h : Halted} {c : Clerk} {at : ℕ} {out : List ℕ} → h .why ≡ NotRead → h .clerk ≡ c → Rests view (record { clerk = c; why = NotRead }) at out → Rests view h at out
-rests-unread w e r = by-why w (r .within) (λ m text k. r .rest m text (sym e ∙ k))
+pub rests-unread : {h : Halted} {f : Front} {at : ℕ} {out : List ℕ} → h .why ≡ NotRead → h .front ≡ f → Rests (record { front = f; why = NotRead }) at out → Rests h at out
+rests-unread {at = at} {out} w e r = record { within = r .within; rest = λ m view text k. subst (λ y. Makes m view y text (take at out)) (sym w) (r .rest m view text (sym e ∙ k)) }

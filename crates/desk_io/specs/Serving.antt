@@ -5,31 +5,52 @@ use mathlib.Core.Bool.{true}
 use mathlib.Core.List.{List, [], _++_}
 use lib.ListN.{length, take}
 use Rattle.text_rules.specs.declared.splitter.Splitter.{Splitter}
-use Rattle.program_rules.specs.declared.Clerk.{Clerk}
 use Rattle.program_rules.specs.declared.Method.{Method}
 use Rattle.program_rules.specs.declared.View.{View}
 use Rattle.program_rules.specs.declared.View.the-variants.{Answers, History, Chains}
-use Rattle.program_rules.specs.declared.Worked.{Worked}
 use Rattle.program_rules.specs.Programs.{programOf}
 use Rattle.program_rules.specs.Work.{startedClerk, allRead}
 use Rattle.program_rules.specs.Tellings.{clerkAfter, recordsIn}
 use Rattle.text_rules.specs.Split.{part}
+use Rattle.desk_io.specs.declared.Program.{Program}
+use Rattle.desk_io.specs.declared.Front.{Front}
+use Rattle.desk_io.specs.declared.Called.{Called}
 use Rattle.desk_io.specs.declared.Served.{Served}
 use Rattle.desk_io.specs.declared.Halted.{Halted}
 use Rattle.desk_io.specs.declared.Halt.{Halt}
 use Rattle.desk_io.specs.declared.Halt.the-variants.{Ended, NotRead, AllRead, NotTaken}
 
--- one call of the clerk's work from a place of a chunk on: it has seen at least a byte, and what stands in the buffer to be written out is the records of the lines that end in what it has seen
-pub record Turned (view : View) (c : Clerk) (chunk : List ℕ) (from : ℕ) (w : Worked) (out : List ℕ) : Type 0 where
-  pub ahead : from < w .next
-  pub within : w .at ≤ length out
-  pub clerk : w .clerk ≡ clerkAfter c (part chunk from (w .next))
-  pub records : take (w .at) out ≡ recordsIn view c (part chunk from (w .next))
+-- the program of a method and a view
+abbrev pub programBy : Method → View → Program
+programBy m view = record { method = m; view = view }
 
--- a chunk: the clerk has seen so many of its bytes, and all of them where all output was taken
-pub record Serves (c : Clerk) (chunk : List ℕ) (s : Served) : Type 0 where
-  pub some : s .clerk ≡ clerkAfter c (take (s .seen) chunk)
-  pub all : s .taken ≡ true → s .clerk ≡ clerkAfter c chunk
+-- the front of a program that has read nothing
+abbrev pub startedFront : Method → View → Front
+startedFront m view = record { view = view; clerk = startedClerk m }
+
+-- the front after some bytes: it writes the same view, and its clerk has seen them
+abbrev pub frontAfter : Front → List ℕ → Front
+frontAfter f bytes = record { view = f .view; clerk = clerkAfter (f .clerk) bytes }
+
+-- the records, in the front's view, of the lines that end in some bytes
+abbrev pub recordsBy : Front → List ℕ → List ℕ
+recordsBy f bytes = recordsIn (f .view) (f .clerk) bytes
+
+-- one call of the clerk's work from a place of a chunk on: it has seen at least a byte, and what stands in the buffer to be written out is the records of the lines that end in what it has seen
+pub record Turned (f : Front) (chunk : List ℕ) (from : ℕ) (c : Called) (out : List ℕ) : Type 0 where
+  pub ahead : from < c .next
+  pub within : c .at ≤ length out
+  pub front : c .front ≡ frontAfter f (part chunk from (c .next))
+  pub records : take (c .at) out ≡ recordsBy f (part chunk from (c .next))
+
+-- what is to be written out after a call of the work: of whatever front and chunk the call was, these bytes are the records of the lines that end in what it has seen. That they go to standard output no contract can say: the call of `write_all` is left to the comparison of programs
+abbrev pub HandsOn : Called → List ℕ → List ℕ → Type 0
+HandsOn c out bytes = (f : Front) (chunk : List ℕ) (from : ℕ) → Turned f chunk from c out → bytes ≡ recordsBy f (part chunk from (c .next))
+
+-- a chunk: the front has seen so many of its bytes, and all of them where all output was taken
+pub record Serves (f : Front) (chunk : List ℕ) (s : Served) : Type 0 where
+  pub some : s .front ≡ frontAfter f (take (s .seen) chunk)
+  pub all : s .taken ≡ true → s .front ≡ frontAfter f chunk
 
 -- before its end a text is left only where every line that is to be read has been read, or where a read or a write failed
 abbrev pub Over : Halt → Splitter → Type 0
@@ -38,14 +59,14 @@ Over NotRead s = Unit {0}
 Over AllRead s = allRead s ≡ true
 Over NotTaken s = Unit {0}
 
--- for some text that was read, byte after byte, the clerk has seen it since he was the first one
-pub record Saw (first c : Clerk) : Type 0 where
+-- for some text that was read, byte after byte, the front has seen it since it was the first one
+pub record Saw (first f : Front) : Type 0 where
   pub text : List ℕ
-  pub clerk : c ≡ clerkAfter first text
+  pub front : f ≡ frontAfter first text
 
--- the input: the clerk who was started with the method has seen what was read, and more is not read only for a reason
-abbrev pub Halts : Method → Halted → Type 0
-Halts m h = (Saw (startedClerk m) (h .clerk)) × (Over (h .why) (h .clerk .splitter))
+-- the input: the front that was started with the method and the view has seen what was read, and more is not read only for a reason
+abbrev pub Halts : Method → View → Halted → Type 0
+Halts m view h = (Saw (startedFront m view) (h .front)) × (Over (h .why) (h .front .clerk .splitter))
 
 -- behind the records of the lines that have ended, these bytes make all that the program of the method and the view writes of the text
 abbrev pub MakesAll : Method → View → List ℕ → List ℕ → Type 0
@@ -64,7 +85,11 @@ Makes m view NotRead text rest = MakesUnread m view text rest
 Makes m view AllRead text rest = (more : List ℕ) → recordsIn view (startedClerk m) text ++ rest ≡ programOf m view (text ++ more)
 Makes m view NotTaken text rest = rest ≡ []
 
--- once no more is read: what stands in the buffer to be written out last makes that, for whatever method the clerk was started with and whatever text he has seen
-pub record Rests (view : View) (h : Halted) (at : ℕ) (out : List ℕ) : Type 0 where
+-- what is to be written last: for whatever method and view the front was started with and whatever text it has seen, these bytes make that. The call of `write_all` that they go to is left to the comparison of programs
+abbrev pub HandsOnLast : Halted → List ℕ → Type 0
+HandsOnLast h bytes = (m : Method) (view : View) (text : List ℕ) → h .front ≡ frontAfter (startedFront m view) text → Makes m view (h .why) text bytes
+
+-- once no more is read: what stands in the buffer before a place is what is to be written last
+pub record Rests (h : Halted) (at : ℕ) (out : List ℕ) : Type 0 where
   pub within : at ≤ length out
-  pub rest : (m : Method) (text : List ℕ) → h .clerk ≡ clerkAfter (startedClerk m) text → Makes m view (h .why) text (take at out)
+  pub rest : HandsOnLast h (take at out)

@@ -7,20 +7,38 @@ use libc::STDOUT_FILENO;
 use program_rules::Clerk;
 use program_rules::Method;
 use program_rules::View;
-use program_rules::Worked;
 use terms::limits::REQUEST_LINES;
 use text_rules::splitter::Splitter;
 ghost use mathlib.Core.Path.{_≡_};
 ghost use Prim.Native.Nat.{_≤_, _<_};
-ghost use lib.ListN.{length};
+ghost use lib.ListN.{length, take};
 ghost use Rattle.program_rules.specs.Work.{lineRoom, allRead};
-ghost use Rattle.program_rules.specs.Closing.{programRoom, endOf};
+ghost use Rattle.program_rules.specs.Closing.{programRoom, closeOf, endOf};
 ghost use Rattle.desk_io.specs.declared.Halt.the-variants.{NotRead};
-ghost use Rattle.desk_io.specs.Serving.{Turned, Serves, Over, Halts, Rests};
+ghost use Rattle.desk_io.specs.Serving.{startedFront, programBy, Turned, HandsOn, Serves, Over, Halts, Rests, HandsOnLast};
 
-// The clerk after so many bytes of a chunk, and whether all output was taken.
-struct Served {
+// Which desk program it is: the method by which it answers, and the view that it writes.
+pub struct Program {
+    pub method: Method,
+    pub view: View,
+}
+
+// What a program keeps from one read to the next: the view that it writes, and the clerk, who keeps the method.
+struct Front {
+    view: View,
     clerk: Clerk,
+}
+
+// The front after a call of the work, the place in the chunk, and the place in the buffer before which the records stand.
+struct Called {
+    front: Front,
+    next: usize,
+    at: usize,
+}
+
+// The front after so many bytes of a chunk, and whether all output was taken.
+struct Served {
+    front: Front,
     seen: usize,
     taken: bool,
 }
@@ -33,10 +51,29 @@ enum Halt {
     NotTaken,
 }
 
-// The clerk after all that was read, and why that was all.
+// The front after all that was read, and why that was all.
 struct Halted {
-    clerk: Clerk,
+    front: Front,
     why: Halt,
+}
+
+// The front of a program that has read nothing.
+fn started(method: Method, view: View) -> Front
+    ensures { λ r. ⌜ r ≡ startedFront method view ⌝ }
+{
+    let clerk = Clerk::started(method);
+    Front { view, clerk }
+}
+
+// Which program a front is of.
+fn program_of(front: Front) -> Program
+    ensures { λ r. ⌜ r ≡ programBy (front .clerk .desks .method) (front .view) ⌝ }
+{
+    let clerk = front.clerk;
+    let desks = clerk.desks;
+    let method = desks.method;
+    let view = front.view;
+    Program { method, view }
 }
 
 // Whether every line that is to be read has been read, so that no byte to come has an answer.
@@ -49,42 +86,51 @@ fn is_over(s: Splitter) -> bool
     REQUEST_LINES < s.line
 }
 
-// Writes out what stands before a place, and tells whether all of it was taken.
-fn put_out(out: &[u8], at: usize) -> bool
-    requires { ⌜ at ≤ length (now out) ⌝ }
+// One call of the work, from a place of a chunk on: its records stand in the buffer, to be written out.
+fn serve_some(front: Front, chunk: &[u8], from: usize, out: &mut [u8]) -> Called
+    requires { ⌜ (from < length (now chunk)) × (lineRoom ≤ length (now out)) ⌝ }
+    ensures { λ r. ⌜ Turned front (now (chunk .entry)) from r (now (out .exit)) ⌝ }
 {
-    io::write_all(STDOUT_FILENO, &out[0..at])
+    let view = front.view;
+    let worked = work(view, front.clerk, chunk, from, out, 0);
+    let clerk = worked.clerk;
+    let front = Front { view, clerk };
+    let next = worked.next;
+    let at = worked.at;
+    Called { front, next, at }
 }
 
-// One call of the work, from a place of a chunk on: its records stand in the buffer, to be written out.
-fn serve_some(view: View, before: Clerk, chunk: &[u8], from: usize, out: &mut [u8]) -> Worked
-    requires { ⌜ (from < length (now chunk)) × (lineRoom ≤ length (now out)) ⌝ }
-    ensures { λ r. ⌜ Turned view before (now (chunk .entry)) from r (now (out .exit)) ⌝ }
+// What is to be written out after a call of the work, as the part of the buffer that holds it: the records of the lines that end in what the call has seen.
+fn to_write<'a>(called: Called, out: &'a [u8]) -> &'a [u8]
+    requires { ⌜ called .at ≤ length (now out) ⌝ }
+    ensures bytes { λ r. ⌜ now r ≡ take (called .at) (now (out .entry)) ⌝ }
+    ensures records { λ r. ⌜ HandsOn called (now (out .entry)) (now r) ⌝ }
 {
-    work(view, before, chunk, from, out, 0)
+    let at = called.at;
+    &out[0..at]
 }
 
 // A chunk: the records of every line that ends in it are written out before the next read. Output that is not taken ends the work.
-fn serve_chunk(view: View, before: Clerk, chunk: &[u8], out: &mut [u8]) -> Served
+fn serve_chunk(before: Front, chunk: &[u8], out: &mut [u8]) -> Served
     requires { ⌜ lineRoom ≤ length (now out) ⌝ }
     ensures { λ r. ⌜ Serves before (now (chunk .entry)) r ⌝ }
 {
-    let mut clerk = before;
+    let mut front = before;
     let mut seen = 0;
     while seen < chunk.len() {
-        let worked = serve_some(view, clerk, chunk, seen, out);
-        clerk = worked.clerk;
-        seen = worked.next;
-        if !put_out(out, worked.at) {
+        let called = serve_some(front, chunk, seen, out);
+        front = called.front;
+        seen = called.next;
+        if !io::write_all(STDOUT_FILENO, to_write(called, out)) {
             return Served {
-                clerk,
+                front,
                 seen,
                 taken: false,
             };
         }
     }
     Served {
-        clerk,
+        front,
         seen,
         taken: true,
     }
@@ -93,15 +139,15 @@ fn serve_chunk(view: View, before: Clerk, chunk: &[u8], out: &mut [u8]) -> Serve
 // Reads chunk after chunk. Nothing says that input ends, so the loop counts down from a number of turns that no run uses up.
 fn serve_all(method: Method, view: View, input: &mut [u8], out: &mut [u8]) -> Halted
     requires { ⌜ lineRoom ≤ length (now out) ⌝ }
-    ensures { λ r. ⌜ Halts method r ⌝ }
+    ensures { λ r. ⌜ Halts method view r ⌝ }
 {
-    let mut clerk = Clerk::started(method);
+    let mut front = started(method, view);
     let mut turns = u64::MAX;
     while turns > 0 {
         let got = libc::read(STDIN_FILENO, input);
         if got < 0 {
             return Halted {
-                clerk,
+                front,
                 why: Halt::NotRead,
             };
         }
@@ -109,24 +155,25 @@ fn serve_all(method: Method, view: View, input: &mut [u8], out: &mut [u8]) -> Ha
         if n == 0 {
             break;
         }
-        let served = serve_chunk(view, clerk, &input[0..n], out);
-        clerk = served.clerk;
+        let served = serve_chunk(front, &input[0..n], out);
+        front = served.front;
         if !served.taken {
             return Halted {
-                clerk,
+                front,
                 why: Halt::NotTaken,
             };
         }
+        let clerk = front.clerk;
         if is_over(clerk.splitter) {
             return Halted {
-                clerk,
+                front,
                 why: Halt::AllRead,
             };
         }
         turns -= 1;
     }
     Halted {
-        clerk,
+        front,
         why: Halt::Ended,
     }
 }
@@ -172,62 +219,83 @@ fn say_halt(method: Method, view: View, why: Halt) {
 }
 
 // The input has ended: the record of a last line that lacks its newline, and behind it what the program writes last, from the buffer's first byte on.
-fn put_ended(view: View, last: Clerk, out: &mut [u8]) -> usize
-    ensures { λ r. ⌜ (r ≡ endOf view last (now (out .entry)) 0 .finished .at) × (now (out .exit) ≡ endOf view last (now (out .entry)) 0 .out) ⌝ }
+fn put_ended(front: Front, out: &mut [u8]) -> usize
+    ensures { λ r. ⌜ (r ≡ endOf (front .view) (front .clerk) (now (out .entry)) 0 .finished .at) × (now (out .exit) ≡ endOf (front .view) (front .clerk) (now (out .entry)) 0 .out) ⌝ }
 {
+    let view = front.view;
+    let last = front.clerk;
     let finished = finish(view, last, out, 0);
     let closed = close(view, last, out, finished.at);
     closed.at
 }
 
-// A read failed: answers and history end as they do at the end of the input, and no chain is told of half a text.
-fn put_unread(view: View, last: Clerk, out: &mut [u8]) -> usize
-    requires { ⌜ programRoom view ≤ length (now out) ⌝ }
-    ensures { λ r. ⌜ Rests view (record { clerk = last; why = NotRead }) r (now (out .exit)) ⌝ }
+// Every line has been read: what the program writes last, from the buffer's first byte on.
+fn put_closed(front: Front, out: &mut [u8]) -> usize
+    ensures { λ r. ⌜ (r ≡ closeOf (front .view) (front .clerk) (now (out .entry)) 0 .finished .at) × (now (out .exit) ≡ closeOf (front .view) (front .clerk) (now (out .entry)) 0 .out) ⌝ }
 {
+    let view = front.view;
+    let closed = close(view, front.clerk, out, 0);
+    closed.at
+}
+
+// A read failed: answers and history end as they do at the end of the input, and no chain is told of half a text.
+fn put_unread(front: Front, out: &mut [u8]) -> usize
+    requires { ⌜ programRoom (front .view) ≤ length (now out) ⌝ }
+    ensures { λ r. ⌜ Rests (record { front = front; why = NotRead }) r (now (out .exit)) ⌝ }
+{
+    let view = front.view;
     match view {
-        View::Answers => put_ended(view, last, out),
-        View::History => put_ended(view, last, out),
+        View::Answers => put_ended(front, out),
+        View::History => put_ended(front, out),
         View::Chains => 0,
     }
 }
 
 // What is still to be written once no more is read, from the buffer's first byte on.
-fn put_rest(view: View, halted: Halted, out: &mut [u8]) -> usize
-    requires { ⌜ (programRoom view ≤ length (now out)) × (Over (halted .why) (halted .clerk .splitter)) ⌝ }
-    ensures { λ r. ⌜ Rests view halted r (now (out .exit)) ⌝ }
+fn put_rest(halted: Halted, out: &mut [u8]) -> usize
+    requires { ⌜ (programRoom (halted .front .view) ≤ length (now out)) × (Over (halted .why) (halted .front .clerk .splitter)) ⌝ }
+    ensures { λ r. ⌜ Rests halted r (now (out .exit)) ⌝ }
 {
-    let last = halted.clerk;
+    let front = halted.front;
     let why = halted.why;
     match why {
-        Halt::Ended => put_ended(view, last, out),
-        Halt::NotRead => put_unread(view, last, out),
-        Halt::AllRead => {
-            let closed = close(view, last, out, 0);
-            closed.at
-        }
+        Halt::Ended => put_ended(front, out),
+        Halt::NotRead => put_unread(front, out),
+        Halt::AllRead => put_closed(front, out),
         Halt::NotTaken => 0,
     }
 }
 
-// All of the input, and what is to be written and said at its end.
-fn serve_input(method: Method, view: View, input: &mut [u8], out: &mut [u8])
+// What is to be written last, as the part of the buffer that holds it.
+fn to_write_last<'a>(halted: Halted, out: &'a mut [u8]) -> &'a [u8]
+    requires { ⌜ (programRoom (halted .front .view) ≤ length (now out)) × (Over (halted .why) (halted .front .clerk .splitter)) ⌝ }
+    ensures { λ r. ⌜ HandsOnLast halted (now r) ⌝ }
+{
+    let at = put_rest(halted, out);
+    let all = &out[..];
+    &all[0..at]
+}
+
+// All of the input, and what is to be written and said at its end; told is which program was run.
+fn serve_input(method: Method, view: View, input: &mut [u8], out: &mut [u8]) -> Program
     requires { ⌜ programRoom view ≤ length (now out) ⌝ }
+    ensures { λ r. ⌜ r ≡ programBy method view ⌝ }
 {
     let halted = serve_all(method, view, input, out);
     let why = halted.why;
     say_halt(method, view, why);
-    let at = put_rest(view, halted, out);
-    if !put_out(out, at) {
+    if !io::write_all(STDOUT_FILENO, to_write_last(halted, out)) {
         say_untaken(method, view);
     }
+    program_of(halted.front)
 }
 
 // Serves standard input to its end, to the end of line 1,000,000, or to the first output that is not taken; what cannot be read or written is said on standard error.
-pub fn serve(method: Method, view: View)
-    ensures { λ r. ⌜ r ≡ tt ⌝ }
+// Told is which program was run, so that no other method or view is handed on.
+pub fn serve(method: Method, view: View) -> Program
+    ensures { λ r. ⌜ r ≡ programBy method view ⌝ }
 {
     let mut input = io::large_buffer();
     let mut out = io::large_buffer();
-    serve_input(method, view, &mut input, &mut out);
+    serve_input(method, view, &mut input, &mut out)
 }

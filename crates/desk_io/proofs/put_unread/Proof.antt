@@ -25,13 +25,13 @@ same-length : tie.Need-same-length
 same-length c = search needs
 
 returns : tie.Need-returns
-returns c = let e = c .before .before .put-ended .ensures in rests-answers _ _ _ (search needs) (e .0) (e .1) refl (search needs)
+returns c = let e = c .before .before .put-ended .ensures in rests-answers _ _ (search needs) (e .0) (e .1) refl (search needs)
 
 same-length-2 : tie.Need-same-length-2
 same-length-2 c = search needs
 
 returns-2 : tie.Need-returns-2
-returns-2 c = let e = c .before .before .put-ended2 .ensures in rests-history _ _ _ (search needs) (e .0) (e .1) refl (search needs)
+returns-2 c = let e = c .before .before .put-ended2 .ensures in rests-history _ _ (search needs) (e .0) (e .1) refl (search needs)
 
 returns-3 : tie.Need-returns-3
 returns-3 c = rests-chains refl (search needs)

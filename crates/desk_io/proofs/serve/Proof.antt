@@ -1,8 +1,8 @@
 -- `desk_io::serve` meets its contract: a buffer of 65,536 bytes has room enough for every program.
 -- Assumes nothing.
 use native.Mathlib.Omega.{arith}
-use borrow.Author.Needs.{needs}
 use Rattle.desk_io.proofs.Rest.{room-at-most}
+use borrow.Author.Needs.{needs}
 use Rattle.desk_io.proofs.serve.Statement.{statement}
 use Rattle.desk_io.proofs.serve.Tie as tie
 
@@ -25,4 +25,5 @@ returns : tie.Need-returns
 returns c = search needs
 
 pub serve-spec : {M : Type 1} → statement M
-serve-spec = tie.close (tie.spec large-buffer-requires large-buffer-requires-2 slice-aggregate-serve-input slice-aggregate-serve-input-2 serve-input-requires returns)
+serve-spec =
+    tie.close (tie.spec large-buffer-requires large-buffer-requires-2 slice-aggregate-serve-input slice-aggregate-serve-input-2 serve-input-requires returns)

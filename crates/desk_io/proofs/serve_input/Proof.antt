@@ -1,8 +1,9 @@
--- `desk_io::serve_input` is safe: there is room for every line's records, and what is written last stands within the buffer.
+-- `desk_io::serve_input` meets its contract: the front at the end is still of the program that was asked for, and there is room for each line's records and for what is written last.
 -- Assumes nothing.
 use native.Mathlib.Omega.{arith}
-use borrow.Author.Needs.{needs}
 use Rattle.program_rules.proofs.Closings.{line-room}
+use Rattle.desk_io.proofs.OneProgram.{program-kept, room-kept}
+use borrow.Author.Needs.{needs}
 use Rattle.desk_io.proofs.serve_input.Statement.{statement}
 use Rattle.desk_io.proofs.serve_input.Tie as tie
 
@@ -12,14 +13,17 @@ serve-all-requires c κs = omega (arith, line-room (c .before .before .before .b
 say-halt-requires : tie.Need-say-halt-requires
 say-halt-requires c κs = search needs
 
-put-rest-requires : tie.Need-put-rest-requires
-put-rest-requires c κs = search needs
+to-write-last-requires : tie.Need-to-write-last-requires
+to-write-last-requires c κs = let h = c .before .before .before .before .before .before .serve-all .ensures in (omega (arith, room-kept (h .0)), h .1)
 
-put-out-requires : tie.Need-put-out-requires
-put-out-requires c κs = search needs
+write-all-requires : tie.Need-write-all-requires
+write-all-requires c κs = search needs
 
 say-untaken-requires : tie.Need-say-untaken-requires
 say-untaken-requires c κs = search needs
+
+program-of-requires : tie.Need-program-of-requires
+program-of-requires c κs = search needs
 
 same-length : tie.Need-same-length
 same-length c = search needs
@@ -28,18 +32,8 @@ same-length-2 : tie.Need-same-length-2
 same-length-2 c = search needs
 
 returns : tie.Need-returns
-returns c = search needs
-
-same-length-3 : tie.Need-same-length-3
-same-length-3 c = search needs
-
-same-length-4 : tie.Need-same-length-4
-same-length-4 c = search needs
-
-returns-2 : tie.Need-returns-2
-returns-2 c = search needs
+returns c = program-kept (c .before .before .before .before .before .before .before .before .before .before .before .before .serve-all .ensures .0) (c .program-of .ensures)
 
 pub serve-input-spec : {M : Type 1} → statement M
 serve-input-spec =
-    let first = tie.spec serve-all-requires say-halt-requires put-rest-requires put-out-requires say-untaken-requires same-length same-length-2 returns in
-    tie.close (first same-length-3 same-length-4 returns-2)
+    tie.close (tie.spec serve-all-requires say-halt-requires to-write-last-requires write-all-requires say-untaken-requires program-of-requires same-length same-length-2 returns)

@@ -15,9 +15,9 @@ same-length c = search needs
 
 returns : tie.Need-returns
 returns c =
-    let s = c .before .before .before .before .before .before .args in
-    let w = c .before .before .work in
-    call-turned (s .view) (s .before) (now (s .chunk)) (s .from) (now (s .out)) (omega arith) (omega arith) (w .ensures .0) (w .ensures .1)
+    let s = c .before .before .before .before .before .before .before .args in
+    let w = c .before .before .before .work in
+    call-turned (s .front) (now (s .chunk)) (s .from) (now (s .out)) (omega arith) (omega arith) (w .ensures .0) (w .ensures .1)
 
 pub serve-some-spec : {M : Type 1} → statement M
 serve-some-spec = tie.close (tie.spec work-requires same-length returns)
