@@ -5,6 +5,6 @@ use Rattle.laws.specs.Unique.{Unique}
 use Rattle.desk_io.proofs.serve.Reads as serve
 use Rattle.desk_io.proofs.serve.Kinds as serveK
 
--- serving has one result, that it has ended
+-- serving has one result: which program was run
 pub serve-unique : Unique serveK.ps serveK.r serve.Post
 serve-unique κs a x y e f p q = p ∙ sym q
