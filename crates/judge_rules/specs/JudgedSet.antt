@@ -110,6 +110,8 @@ cases =
     ∷ fine "w\t1\t0\nw\t2\t0\nw\t2\t1\nk\t1\nw\t1\t1\nc\t1\nc\t2\n" 2 (2 ∷ 1 ∷ [])
     ∷ fine "w\t1\t0\nw\t2\t0\nw\t2\t1\nw\t1\t1\na\t1\nc\t2\n" 1 (2 ∷ [])
     ∷ fine "w\t1\t0\nw\t2\t0\nw\t2\t1\nw\t1\t1\nc\t2\n" 1 (2 ∷ [])
+    -- two cycles and jobs ahead of them and behind: 3 gives to 4, 4 and 5 to each other, 5 to 1, and 2 and 6 to each other. The walk starts at 1, which is on no cycle and has no successor; from the largest job, from the smallest on a cycle, or with jobs without a successor taken away too it comes to 2 and 6 (01, The judge's rules: Knot)
+    ∷ tied "w\t2\t0\nw\t6\t0\nw\t6\t1\nw\t2\t1\nw\t4\t2\nw\t5\t2\nw\t5\t3\nw\t4\t3\nw\t5\t4\nw\t1\t4\nw\t3\t5\nw\t4\t5\nc\t1\nc\t2\nc\t3\nc\t4\nc\t5\nc\t6\n" 2 (4 ∷ 5 ∷ [])
     -- dirty (02, No. 2): the writer is sent back, gives up, has no end; it wrote or incremented; it commits in a later run; a committed write in between does not cleanse
     ∷ soiled "w\t1\t0\nr\t2\t0\nk\t1\nc\t2\n" 2 1
     ∷ soiled "i\t1\t0\nr\t2\t0\nc\t2\na\t1\n" 2 1
@@ -119,6 +121,15 @@ cases =
     -- the first such read, and of its writers the latest; dirty before a knot
     ∷ soiled "w\t1\t0\ni\t3\t0\nr\t2\t0\nr\t4\t0\na\t3\na\t1\nc\t4\nc\t2\n" 2 3
     ∷ soiled "w\t3\t5\nr\t2\t5\nw\t1\t0\nw\t2\t0\nw\t2\t1\nw\t1\t1\nc\t1\nc\t2\na\t3\n" 2 3
+    -- the read that stands first, not that of the smallest reader nor that of the earliest write, which tell 2 and 7; of its writers that of the latest action, not the one with the largest number nor the one whose run began last, which is 4
+    ∷ soiled "w\t1\t9\nw\t7\t1\nw\t4\t0\nw\t1\t0\nr\t6\t0\nr\t2\t1\nc\t2\nc\t6\na\t1\na\t4\na\t7\n" 6 1
+    -- the request's own: the writer is sent back, does it again and commits, after the reader's commit or before it; what is done again does not cleanse
+    ∷ soiled "w\t1\t0\nr\t2\t0\nw\t2\t1\nc\t2\nk\t1\nw\t1\t0\nc\t1\n" 2 1
+    ∷ soiled "w\t1\t0\nr\t2\t0\nk\t1\nw\t1\t0\nc\t1\nc\t2\n" 2 1
+    -- the reader's own write in between does not cleanse; the latest action is of the writer that came first; the later writer's run has ended before the read
+    ∷ soiled "w\t1\t0\nw\t2\t0\nr\t2\t0\nc\t2\na\t1\n" 2 1
+    ∷ soiled "w\t1\t0\nw\t3\t0\ni\t1\t0\nr\t2\t0\nc\t2\na\t1\na\t3\n" 2 1
+    ∷ soiled "w\t1\t0\nw\t3\t0\nk\t3\nr\t2\t0\nc\t2\na\t1\n" 2 1
     -- not dirty: the writer's run ended before the read, the writer commits, the job's own write was taken back, an increment in place of the read, another cell, the read stands first, the reader is sent back or has no end
     ∷ fine "w\t1\t0\nk\t1\nr\t2\t0\nc\t2\n" 1 (2 ∷ [])
     ∷ fine "w\t1\t0\nr\t2\t0\nc\t2\nc\t1\n" 2 (1 ∷ 2 ∷ [])
