@@ -110,8 +110,8 @@ cases =
     ∷ fine "w\t1\t0\nw\t2\t0\nw\t2\t1\nk\t1\nw\t1\t1\nc\t1\nc\t2\n" 2 (2 ∷ 1 ∷ [])
     ∷ fine "w\t1\t0\nw\t2\t0\nw\t2\t1\nw\t1\t1\na\t1\nc\t2\n" 1 (2 ∷ [])
     ∷ fine "w\t1\t0\nw\t2\t0\nw\t2\t1\nw\t1\t1\nc\t2\n" 1 (2 ∷ [])
-    -- two cycles and jobs ahead of them and behind: 3 gives to 4, 4 and 5 to each other, 5 to 1, and 2 and 6 to each other. The walk starts at 1, which is on no cycle and has no successor; from the largest job, from the smallest on a cycle, or with jobs without a successor taken away too it comes to 2 and 6 (01, The judge's rules: Knot)
-    ∷ tied "w\t2\t0\nw\t6\t0\nw\t6\t1\nw\t2\t1\nw\t4\t2\nw\t5\t2\nw\t5\t3\nw\t4\t3\nw\t5\t4\nw\t1\t4\nw\t3\t5\nw\t4\t5\nc\t1\nc\t2\nc\t3\nc\t4\nc\t5\nc\t6\n" 2 (4 ∷ 5 ∷ [])
+    -- two cycles, and jobs ahead of one and behind it: 2 and 6 give to each other, and so do 4 and 5; 3 gives to 4, 5 and 1, and both 4 and 5 give to 1. The walk starts at 1, on no cycle and without a successor; from the largest job, from the smallest on a cycle, or with jobs without a successor taken away too, it tells 2 and 6 (01, The judge's rules: Knot)
+    ∷ tied "w\t2\t0\nw\t6\t0\nw\t2\t0\nw\t3\t2\nw\t4\t2\nw\t5\t2\nw\t4\t2\nw\t1\t2\nc\t1\nc\t2\nc\t3\nc\t4\nc\t5\nc\t6\n" 2 (4 ∷ 5 ∷ [])
     -- dirty (02, No. 2): the writer is sent back, gives up, has no end; it wrote or incremented; it commits in a later run; a committed write in between does not cleanse
     ∷ soiled "w\t1\t0\nr\t2\t0\nk\t1\nc\t2\n" 2 1
     ∷ soiled "i\t1\t0\nr\t2\t0\nc\t2\na\t1\n" 2 1
