@@ -37,3 +37,7 @@ pub mod VerdictWords
 pub mod TextBack
 pub mod NumberOrder
 pub mod Examples
+pub mod OneWorded
+pub mod KnotPlaces
+pub mod KnotWorded
+pub mod Places

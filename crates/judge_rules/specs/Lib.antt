@@ -11,3 +11,4 @@ pub mod KeepsLimits
 pub mod VerdictLine
 pub mod AsWorded
 pub mod JudgedSet
+pub mod KnotWorded
