@@ -10,9 +10,13 @@ pub mod Turns
 pub mod Walking
 pub mod Knots
 pub mod OneKnot
+pub mod Places
+pub mod KnotPlaces
+pub mod OneWorded
 pub mod Judging
 pub mod Deciding
 pub mod Histories
+pub mod KnotWorded
 pub mod Readings
 pub mod LineFaults
 pub mod LineBack
@@ -24,6 +28,7 @@ pub mod OneAnswer
 pub mod Refusing
 pub mod VerdictNumbers
 pub mod JudgedTexts
+pub mod KnotSaid
 pub mod OverBefore
 pub mod BadLines
 pub mod WordedLines
@@ -37,7 +42,3 @@ pub mod VerdictWords
 pub mod TextBack
 pub mod NumberOrder
 pub mod Examples
-pub mod OneWorded
-pub mod KnotPlaces
-pub mod KnotWorded
-pub mod Places

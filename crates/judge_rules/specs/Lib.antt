@@ -2,6 +2,7 @@ pub mod Order
 pub mod Knot
 pub mod Judged
 pub mod Meant
+pub mod KnotWorded
 pub mod HistoryText
 pub mod Judgement
 pub mod Arrays
@@ -11,4 +12,3 @@ pub mod KeepsLimits
 pub mod VerdictLine
 pub mod AsWorded
 pub mod JudgedSet
-pub mod KnotWorded
