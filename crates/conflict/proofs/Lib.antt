@@ -29,6 +29,9 @@ pub mod CellSets
 pub mod DirtyReads
 pub mod LookingBack
 pub mod DirtyFound
+pub mod RunLines
+pub mod RunEnds
+pub mod DirtyRuns
 pub mod StrictClean
 pub mod Largest
 pub mod Within

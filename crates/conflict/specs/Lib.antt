@@ -5,4 +5,5 @@ pub mod Cells
 pub mod History
 pub mod Runs
 pub mod Dirty
+pub mod DirtyRuns
 pub mod NumberOrder

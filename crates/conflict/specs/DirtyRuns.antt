@@ -1,0 +1,96 @@
+-- Dirty reads once more, by runs as pairs of lines: where a run of a job begins and where it ends, with no looking along the history (02, No. 2; 01, Jobs and their numbers). Lines are counted from 0.
+use Prim.Native.Nat.{ℕ, suc, _≤_, _<_}
+use mathlib.Core.Path.{_≡_}
+use mathlib.Core.Logic.{_≢_, _⊎_}
+use lib.ListN.{length, getD}
+use Rattle.conflict.specs.declared.action.Kind.the-variants.{Read, Write, Increment}
+use Rattle.conflict.specs.declared.action.Action.{Action}
+use Rattle.conflict.specs.declared.action.Mark.{Mark}
+use Rattle.conflict.specs.declared.action.Mark.the-variants.{Commit}
+use Rattle.conflict.specs.declared.action.Event.{Event}
+use Rattle.conflict.specs.declared.action.Event.the-variants.{Does, Ends}
+use Rattle.conflict.specs.History.{History}
+
+-- line k of the history is there, and is this one (01, Lines)
+abbrev pub LineAt : History → ℕ → Event → Type 0
+LineAt h k e = (k < length h) × (getD h k e ≡ e)
+
+-- line k is a mark of job j: a c, an a or a k (01, Jobs and their numbers: the end of a run)
+abbrev pub MarkAt : History → ℕ → ℕ → Type 0
+MarkAt h k j = (m : Mark) × LineAt h k (Ends m j)
+
+-- a run of job j as a pair of lines: it begins with the history or right behind a mark of j, has no mark of j in it, and its end is the next mark of j; the history's length where there is none (01, Jobs and their numbers)
+pub record Run (h : History) (j begin end : ℕ) : Type 0 where
+  pub begins : (begin ≡ 0) ⊎ ((k : ℕ) × (begin ≡ suc k) × MarkAt h k j)
+  pub unbroken : (k : ℕ) → begin ≤ k → k < end → MarkAt h k j → ⊥
+  pub ends : (end ≡ length h) ⊎ MarkAt h end j
+
+-- line k is in that run
+pub record InRun (h : History) (j k begin end : ℕ) : Type 0 where
+  pub run : Run h j begin end
+  pub behind : begin ≤ k
+  pub before : k < end
+
+-- job j's line k is in a run that ends with a commit (01, Jobs and their numbers)
+pub record Kept (h : History) (j k : ℕ) : Type 0 where
+  pub begin : ℕ
+  pub end : ℕ
+  pub stands : InRun h j k begin end
+  pub commit : LineAt h end (Ends Commit j)
+
+-- job j's line k is in a run that does not end with a commit, and that has not ended before line p (02, No. 2)
+pub record Loose (h : History) (j k p : ℕ) : Type 0 where
+  pub begin : ℕ
+  pub end : ℕ
+  pub stands : InRun h j k begin end
+  pub never : LineAt h end (Ends Commit j) → ⊥
+  pub later : p ≤ end
+
+-- a dirty read by runs: line p is i's read of a cell in a run that commits, and line q, before it, is another's write or increment of that cell in a run that does not, and that has not ended before the read (02, No. 2)
+pub record DirtyByRuns (h : History) (p q i j : ℕ) : Type 0 where
+  pub read : Action
+  pub write : Action
+  pub read-line : LineAt h p (Does read)
+  pub reads : read .kind ≡ Read
+  pub reads-by : read .job ≡ i
+  pub write-line : LineAt h q (Does write)
+  pub writes : (write .kind ≡ Write) ⊎ (write .kind ≡ Increment)
+  pub writes-by : write .job ≡ j
+  pub one-cell : read .cell ≡ write .cell
+  pub two-jobs : i ≢ j
+  pub earlier : q < p
+  pub kept : Kept h i p
+  pub loose : Loose h j q p
+
+-- reader and writer told of a history: no line before p is a dirty read by runs, and none behind q makes line p one (02, No. 2: the first, and of its writers the latest)
+pub record FirstByRuns (h : History) (i j : ℕ) : Type 0 where
+  pub p : ℕ
+  pub q : ℕ
+  pub dirty : DirtyByRuns h p q i j
+  pub first : (x y k l : ℕ) → DirtyByRuns h x y k l → p ≤ x
+  pub latest : (y k l : ℕ) → DirtyByRuns h p y k l → y ≤ q
+
+-- line q is a write or increment of this cell by job j that stands when line p comes: its run has not ended before without a commit, by which it is taken back
+pub record Standing (h : History) (p q j cell : ℕ) : Type 0 where
+  pub write : Action
+  pub line : LineAt h q (Does write)
+  pub writes : (write .kind ≡ Write) ⊎ (write .kind ≡ Increment)
+  pub by : write .job ≡ j
+  pub on : write .cell ≡ cell
+  pub begin : ℕ
+  pub end : ℕ
+  pub stands : InRun h j q begin end
+  pub still : end < p → LineAt h end (Ends Commit j)
+
+-- what Adya calls an aborted read: a read, in a run that commits, of what the latest standing write or increment of the cell before it left, which is another job's in a run that never commits
+pub record AbortedRead (h : History) (p q i j : ℕ) : Type 0 where
+  pub read : Action
+  pub read-line : LineAt h p (Does read)
+  pub reads : read .kind ≡ Read
+  pub reads-by : read .job ≡ i
+  pub kept : Kept h i p
+  pub earlier : q < p
+  pub from : Standing h p q j (read .cell)
+  pub latest : (y k : ℕ) → y < p → Standing h p y k (read .cell) → y ≤ q
+  pub two-jobs : i ≢ j
+  pub never : LineAt h (from .end) (Ends Commit j) → ⊥
