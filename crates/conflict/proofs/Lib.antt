@@ -32,6 +32,7 @@ pub mod DirtyFound
 pub mod RunLines
 pub mod RunEnds
 pub mod DirtyRuns
+pub mod AbortedReads
 pub mod StrictClean
 pub mod Largest
 pub mod Within
