@@ -29,6 +29,7 @@ pub mod Refusing
 pub mod VerdictNumbers
 pub mod JudgedTexts
 pub mod KnotSaid
+pub mod DirtySaid
 pub mod OverBefore
 pub mod BadLines
 pub mod WordedLines
