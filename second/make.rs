@@ -5,6 +5,7 @@ pub mod chains;
 pub mod dirt;
 pub mod faults;
 pub mod histories;
+pub mod knots;
 pub mod lines;
 pub mod plans;
 pub mod requests;
@@ -16,7 +17,8 @@ use crate::words::{Line, LAST_NUMBER};
 use cases::case_text;
 use chains::Shaper;
 use faults::torn_line;
-use histories::history_lines;
+use histories::{fields_of, history_lines};
+use knots::knots_history;
 use lines::reader_line;
 use requests::Maker;
 use stamps::StampMaker;
@@ -105,6 +107,11 @@ pub fn make_histories(seed: u64, count: u64, output: &mut impl Write) -> io::Res
             line
         }
     })
+}
+
+pub fn make_knots(seed: u64, count: u64, output: &mut impl Write) -> io::Result<()> {
+    let mut events = knots_history(&mut Chance(seed), count as usize).into_iter();
+    put_lines(output, count, false, |_| events.next().map_or_else(Vec::new, fields_of))
 }
 
 pub fn make_lines(seed: u64, count: u64, output: &mut impl Write) -> io::Result<()> {

@@ -4,7 +4,7 @@
 //! random runs, so it is simple rather than clever.
 //!
 //! This file has the command line. Each subject has a file: words, lines, desk, chain, stamps, judge,
-//! commands, make with its nine, demands with its four; and tests with a file for each of these.
+//! commands, make with its ten, demands with its four; and tests with a file for each of these.
 
 mod chain;
 mod commands;
@@ -23,13 +23,13 @@ use demands::demands;
 use demands::stamps::stamp_demands;
 use desk::Desk;
 use make::{make_asked, make_cases, make_chains, make_histories, make_lines, make_requests, make_steps};
-use make::{make_stamp_steps, make_stamps};
+use make::{make_knots, make_stamp_steps, make_stamps};
 use stamps::Stamps;
 use std::io::{self, ErrorKind, Read, Write};
 
 const USAGE: &str = "usage: second answers | history | chain | verdict | lines | cases | steps FIRST | mix COUNT
        second stamp_answers | stamp_history | stamp_steps FIRST | stamp_mix COUNT
-       second make requests|chains|histories|lines|stamps SEED LINES
+       second make requests|chains|histories|knots|lines|stamps SEED LINES
        second make cases SEED COUNT
        second make steps|asked|stamp_steps SEED COUNT [FIRST]
        second demands|stamp_demands SEED STEPS";
@@ -112,6 +112,7 @@ fn make(
         ("requests", None) => make_requests(seed, count, output)?,
         ("chains", None) => make_chains(seed, count, output)?,
         ("histories", None) => make_histories(seed, count, output)?,
+        ("knots", None) => make_knots(seed, count, output)?,
         ("lines", None) => make_lines(seed, count, output)?,
         ("stamps", None) => make_stamps(seed, count, output)?,
         ("cases", None) => make_cases(seed, count, output)?,

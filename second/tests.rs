@@ -10,6 +10,7 @@ mod dirty_makers;
 mod fields;
 mod fields_makers;
 mod judge;
+mod knots_makers;
 mod lines;
 mod makers;
 mod stamps;

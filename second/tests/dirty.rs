@@ -92,6 +92,8 @@ fn the_first_read_and_the_latest_writer() {
     check_verdict("w 1 0, r 2 0, w 3 0, r 2 0, c 2, a 1, a 3", "dirty 2 1");
     check_verdict("w 1 0, r 3 0, r 2 0, k 3, c 2, c 3, k 1", "dirty 2 1");
     check_verdict("w 1 0, i 3 0, r 2 0, c 3, c 2, k 1", "dirty 2 1");
+    // Of the writers neither the largest nor the one whose run began last.
+    check_verdict("w 1 9, w 7 1, w 4 0, w 1 0, r 6 0, r 2 1, c 2, c 6, a 1, a 4, a 7", "dirty 6 1");
 }
 
 #[test]

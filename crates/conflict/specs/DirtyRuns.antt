@@ -25,7 +25,7 @@ pub record Run (h : History) (j begin end : ℕ) : Type 0 where
   pub unbroken : (k : ℕ) → begin ≤ k → k < end → MarkAt h k j → ⊥
   pub ends : (end ≡ length h) ⊎ MarkAt h end j
 
--- line k is in that run
+-- line k is in that run of job j (01, Jobs and their numbers)
 pub record InRun (h : History) (j k begin end : ℕ) : Type 0 where
   pub run : Run h j begin end
   pub behind : begin ≤ k
@@ -70,7 +70,7 @@ pub record FirstByRuns (h : History) (i j : ℕ) : Type 0 where
   pub first : (x y k l : ℕ) → DirtyByRuns h x y k l → p ≤ x
   pub latest : (y k l : ℕ) → DirtyByRuns h p y k l → y ≤ q
 
--- line q is a write or increment of this cell by job j that stands when line p comes: its run has not ended before without a commit, by which it is taken back
+-- line q is a write or increment of this cell by job j that stands when line p comes: its run has not ended before that without a commit, by which it would be taken back (02, No. 2)
 pub record Standing (h : History) (p q j cell : ℕ) : Type 0 where
   pub write : Action
   pub line : LineAt h q (Does write)
@@ -82,7 +82,7 @@ pub record Standing (h : History) (p q j cell : ℕ) : Type 0 where
   pub stands : InRun h j q begin end
   pub still : end < p → LineAt h end (Ends Commit j)
 
--- what Adya calls an aborted read: a read, in a run that commits, of what the latest standing write or increment of the cell before it left, which is another job's in a run that never commits
+-- what Adya calls an aborted read (G1a): a read, in a run that commits, of what the latest standing write or increment of the cell before it left, which is another job's, in a run that never commits; beside 02, No. 2, which asks for no latest
 pub record AbortedRead (h : History) (p q i j : ℕ) : Type 0 where
   pub read : Action
   pub read-line : LineAt h p (Does read)

@@ -15,7 +15,7 @@ pub record Remains (e : Edges) (jobs : List ℕ) (j : ℕ) : Type 0 where
   pub only : (i : ℕ) → member i part ≡ true → member i jobs ≡ true
   pub each : (i : ℕ) → member i part ≡ true → (k : ℕ) × (member k part ≡ true) × (e k i ≡ true)
 
--- a number is one of these, and none of these is below it
+-- a number is one of these, and none of these is below it: the smallest (01, The judge's rules: Knot)
 pub record SmallestOf (these : ℕ → Type 0) (j : ℕ) : Type 0 where
   pub among : these j
   pub below : (k : ℕ) → these k → j ≤ k
