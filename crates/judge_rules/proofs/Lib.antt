@@ -13,6 +13,7 @@ pub mod OneKnot
 pub mod Places
 pub mod KnotPlaces
 pub mod OneWorded
+pub mod KnotListed
 pub mod Judging
 pub mod Deciding
 pub mod Histories
