@@ -14,13 +14,13 @@ use Rattle.desk_rules.specs.Rules.{withRow, withStatus, wake, wakesAt, w
 use Rattle.desk_rules.specs.Step.{stepCommit, stepGiveUp, stepRetry, stepAsk, stepBegin, stepBy, step}
 use Rattle.desk_rules.specs.Chain.{otherHolders, aheadOf, inWayOf, younger, youngestOf, youngerThan, onward, chainBy, chainOf}
 use Rattle.desk_rules.specs.AskedChain.{chainHolds, chainOrder, chainDue, chainTold, askChain, chainNumbers}
-use Rattle.desks.specs.Told.{Example, toldOf, answersOf}
+use Rattle.desks.specs.Told.{Example, toldOf, stepTold, answersOf}
 use Rattle.desk_rules.specs.Examples.{examples}
 use Rattle.desk_rules.specs.ChainExamples.{ChainExample, answeredTo, saidOf, chainExamples}
 
 -- on the paper's desk every example's requests get its answers
 pub as-the-examples-say : map (λ (e : Example). answersOf step (freshDesk (e .start)) (e .requests)) examples ≡ map (λ (e : Example). e .answers) examples
-unfolding member needed recorded covers grants asked isFree wordOf numberBeside at idle freshDesk seated vacated every everyWaiter isEmpty agrees olderThanHolders olderThanWaiters without wants wokenFirst settle released refused withRow withStatus wake wakesAt wakesOf isWoken runAgain rowsAfter rule4 close sendBack grant queued rule1 rule2 rule3 ask retry begin stepCommit stepGiveUp stepRetry stepAsk stepBegin beginning stepBy step toldOf answersOf
+unfolding member needed recorded covers grants asked isFree wordOf numberBeside at idle freshDesk seated vacated every everyWaiter isEmpty agrees olderThanHolders olderThanWaiters without wants wokenFirst settle released refused withRow withStatus wake wakesAt wakesOf isWoken runAgain rowsAfter rule4 close sendBack grant queued rule1 rule2 rule3 ask retry begin stepCommit stepGiveUp stepRetry stepAsk stepBegin beginning stepBy step toldOf stepTold answersOf
 as-the-examples-say = refl
 
 -- every question gets its answer, and the list holds what the example says

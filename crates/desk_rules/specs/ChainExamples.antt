@@ -46,6 +46,10 @@ reads = request 114
 abbrev pub writes : ℕ → ℕ → Request
 writes = request 119
 
+-- a job asks to read it with intent to write
+abbrev pub intends : ℕ → ℕ → Request
+intends = request 117
+
 -- the night's first lines: job 3 reads, 2 is to write and waits, 1 is to read and waits behind it; the youngest in the way of 1 is the holder, not who stands ahead
 abbrev pub twoWait : ChainExample
 twoWait =
@@ -70,6 +74,26 @@ ownHoldLeftOut =
       questions = told 1 2 (1 ∷ 3 ∷ []) ∷ told 2 1 (2 ∷ []) ∷ [];
     }
 
+-- beside a reader the holder of a U is not the youngest in the way: 4 reads, 3 has U, 2 is to read and waits, and 1 with its u waits behind it
+abbrev pub readerBesideU : ChainExample
+readerBesideU =
+    record {
+      requests = begins 4 ++ reads 4 5 ∷ intends 3 5 ∷ reads 2 5 ∷ intends 1 5 ∷ [];
+      questions = told 2 2 (2 ∷ 4 ∷ []) ∷ told 1 2 (1 ∷ 4 ∷ []) ∷ told 3 1 (3 ∷ []) ∷ told 4 1 (4 ∷ []) ∷ [];
+    }
+
+-- and where the holder of the U is the youngest, the chain goes on to it: 2 reads, 3 has U, and 1 is to read
+abbrev pub youngestHasU : ChainExample
+youngestHasU = record { requests = begins 3 ++ reads 2 5 ∷ intends 3 5 ∷ reads 1 5 ∷ []; questions = told 1 2 (1 ∷ 3 ∷ []) ∷ told 3 1 (3 ∷ []) ∷ [] }
+
+-- a U that waits to become X leaves its own hold out: 3 reads, 2 has U and is to write, and 1 is to read behind it
+abbrev pub ownULeftOut : ChainExample
+ownULeftOut =
+    record {
+      requests = begins 3 ++ reads 3 5 ∷ intends 2 5 ∷ writes 2 5 ∷ reads 1 5 ∷ [];
+      questions = told 2 2 (2 ∷ 3 ∷ []) ∷ told 1 2 (1 ∷ 3 ∷ []) ∷ [];
+    }
+
 -- the refusals and their order: job 1 waits for 3, job 2 was sent back, 4 has committed, and 0 and 9 were never open
 abbrev pub refusals : ChainExample
 refusals =
@@ -82,4 +106,4 @@ refusals =
 
 -- all of them
 abbrev pub chainExamples : List ChainExample
-chainExamples = twoWait ∷ oneAfterAnother ∷ ownHoldLeftOut ∷ refusals ∷ []
+chainExamples = twoWait ∷ oneAfterAnother ∷ ownHoldLeftOut ∷ readerBesideU ∷ youngestHasU ∷ ownULeftOut ∷ refusals ∷ []

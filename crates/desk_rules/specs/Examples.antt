@@ -1,6 +1,13 @@
--- Requests by numbers, and what a desk answers them: the paper's samples S11 and S12, which cells there are, which of two refusals comes first, and the update lock's own cases (01, Samples to hold it against; 01, Refusals by number; 02, No. 1).
+-- Requests by numbers, and what a desk answers them: the paper's samples S11 and S12, which cells there are, which of two refusals comes first, and the update lock's own cases, and cases that tell a rule from its near misses (01, Samples to hold it against; 01, Refusals by number; 02, No. 1).
+use Prim.Native.Nat.{ℕ}
 use mathlib.Core.List.{List, [], _∷_, _++_}
-use Rattle.desks.specs.Told.{Example, request, begins, go, wait, back, no, goFrom}
+use lib.ListN.{replicate}
+use Rattle.desks.specs.Request.{Request}
+use Rattle.desks.specs.Told.{Example, request, begins, go, wait, back, no, wake, goFrom}
+
+-- read, write, increment and u of a cell by one job
+abbrev pub asks : ℕ → ℕ → List Request
+asks j c = request 114 j c ∷ request 119 j c ∷ request 105 j c ∷ request 117 j c ∷ []
 
 -- the examples
 abbrev pub examples : List Example
@@ -53,7 +60,7 @@ examples =
     ∷ record {
       start = 1;
       requests = begins 2 ++ request 117 2 5 ∷ request 117 1 5 ∷ request 119 2 5 ∷ request 99 2 0 ∷ request 119 1 5 ∷ request 99 1 0 ∷ [];
-      answers = goFrom 1 2 ++ go 2 ∷ wait 1 ∷ go 2 ∷ go 2 ∷ go 1 ∷ go 1 ∷ [];
+      answers = goFrom 1 2 ++ go 2 ∷ wait 1 ∷ go 2 ∷ go 2 ∷ wake 1 ∷ go 1 ∷ go 1 ∷ [];
     }
     -- with a plain read in its place the write costs a sending back
     ∷ record {
@@ -94,6 +101,54 @@ examples =
       start = 1;
       requests = begins 3 ++ request 117 4 64 ∷ request 117 0 5 ∷ request 117 2 64 ∷ request 117 2 5 ∷ request 117 1 5 ∷ request 117 1 64 ∷ request 117 3 5 ∷ request 117 3 64 ∷ [];
       answers = goFrom 1 3 ++ no 3 ∷ no 3 ∷ no 2 ∷ go 2 ∷ wait 1 ∷ no 4 ∷ back 3 ∷ no 5 ∷ [];
+    }
+    -- cases that tell rules 2 to 4 from their near misses. S to U goes beside an older reader: nobody's age is asked where the mode agrees
+    ∷ record { start = 1; requests = begins 2 ++ request 114 1 5 ∷ request 114 2 5 ∷ request 117 2 5 ∷ []; answers = goFrom 1 2 ++ go 1 ∷ go 2 ∷ go 2 ∷ [] }
+    -- a waiter's give-up wakes who stood behind it and agrees with the holders: 2 gives up its write, and the read of 1 is granted
+    ∷ record {
+      start = 1;
+      requests = begins 3 ++ request 114 3 5 ∷ request 119 2 5 ∷ request 114 1 5 ∷ request 97 2 0 ∷ request 114 1 5 ∷ [];
+      answers = goFrom 1 3 ++ go 3 ∷ wait 2 ∷ wait 1 ∷ go 2 ∷ wake 1 ∷ go 1 ∷ [];
+    }
+    -- a promotion is held against the holders' age alone and waits at the front: 2 waits though 1, who waits already, is older; and 2 is woken first
+    ∷ record {
+      start = 1;
+      requests = begins 3 ++ request 114 2 5 ∷ request 114 3 5 ∷ request 119 1 5 ∷ request 119 2 5 ∷ request 99 3 0 ∷ request 119 2 5 ∷ [];
+      answers = goFrom 1 3 ++ go 2 ∷ go 3 ∷ wait 1 ∷ wait 2 ∷ go 3 ∷ wake 2 ∷ go 2 ∷ [];
+    }
+    -- a job new to the cell is held against the waiters' age too: 2 is older than the holder 3, and 1, who waits, is older than 2
+    ∷ record { start = 1; requests = begins 3 ++ request 114 3 5 ∷ request 119 1 5 ∷ request 114 2 5 ∷ []; answers = goFrom 1 3 ++ go 3 ∷ wait 1 ∷ back 2 ∷ [] }
+    -- u does not pass a waiting write, though it would agree with the holder
+    ∷ record { start = 1; requests = begins 3 ++ request 114 3 5 ∷ request 119 2 5 ∷ request 117 1 5 ∷ []; answers = goFrom 1 3 ++ go 3 ∷ wait 2 ∷ wait 1 ∷ [] }
+    -- a u that waited is woken with U and no more: beside the reader 3 its write has to wait again
+    ∷ record {
+      start = 1;
+      requests = begins 3 ++ request 114 3 5 ∷ request 117 2 5 ∷ request 117 1 5 ∷ request 99 2 0 ∷ request 119 1 5 ∷ [];
+      answers = goFrom 1 3 ++ go 3 ∷ go 2 ∷ wait 1 ∷ go 2 ∷ wake 1 ∷ wait 1 ∷ [];
+    }
+    -- rows 2 to 5 and 8 of the table by every kind, each with cell 5 and with cell 64. A job that is not open gets 3 whatever it asks: 2 was never begun, 1 has closed, and 0 never is open
+    ∷ record {
+      start = 1;
+      requests = begins 1 ++ request 99 1 0 ∷ asks 2 5 ++ asks 2 64 ++ asks 1 5 ++ asks 1 64 ++ asks 0 5 ++ asks 0 64 ++ request 99 1 64 ∷ request 116 1 64 ∷ request 97 1 64 ∷ [];
+      answers = goFrom 1 1 ++ go 1 ∷ replicate 27 (no 3);
+    }
+    -- a waiting job gets 4 whatever it asks, also where the cell is above 63, and its commit and its retry get 4; its give-up goes
+    ∷ record {
+      start = 1;
+      requests = begins 2 ++ request 114 2 5 ∷ request 119 1 5 ∷ asks 1 5 ++ asks 1 64 ++ request 99 1 64 ∷ request 116 1 64 ∷ request 97 1 64 ∷ [];
+      answers = goFrom 1 2 ++ go 2 ∷ wait 1 ∷ replicate 10 (no 4) ++ go 1 ∷ [];
+    }
+    -- a sent back job gets 5 whatever it asks, also where the cell is above 63, and its commit gets 5; its retry goes
+    ∷ record {
+      start = 1;
+      requests = begins 2 ++ request 114 1 5 ∷ request 119 2 5 ∷ asks 2 5 ++ asks 2 64 ++ request 99 2 64 ∷ request 116 2 64 ∷ [];
+      answers = goFrom 1 2 ++ go 1 ∷ back 2 ∷ replicate 9 (no 5) ++ go 2 ∷ [];
+    }
+    -- a running job gets 2 for a cell above 63 whatever it asks, and 8 for a retry; its commit does not read the cell
+    ∷ record {
+      start = 1;
+      requests = begins 1 ++ asks 1 64 ++ asks 1 4294967295 ++ request 116 1 5 ∷ request 116 1 64 ∷ request 99 1 64 ∷ [];
+      answers = goFrom 1 1 ++ replicate 8 (no 2) ++ no 8 ∷ no 8 ∷ go 1 ∷ [];
     }
     -- 1 first, whatever the job and the cell: k is no request, nor is 0 or 255
     ∷ record { start = 1; requests = request 107 1 64 ∷ request 0 0 0 ∷ request 255 1 5 ∷ []; answers = no 1 ∷ no 1 ∷ no 1 ∷ [] }

@@ -11,7 +11,7 @@ use Rattle.desks.specs.Records.{recordsOf, recordsBy}
 use Rattle.desks.specs.Started.{StartedOn, fresh, after}
 use Rattle.desks.specs.Requests.{gives, givenBy, writes}
 use Rattle.desks.specs.Course.{Course, shown, course}
-use Rattle.desks.specs.Told.{toldOf, answersOf}
+use Rattle.desks.specs.Told.{stepTold, answersOf}
 use Rattle.desks.specs.Follows.{Follows}
 use Rattle.desks.proofs.StartedThrough.{run-started}
 
@@ -44,12 +44,12 @@ module _ {S T : Type 0} {see : S → T} {does : Stepping S} {new : ℕ → S} {t
       ap₂ (λ x y. x ++ y) (ap (λ o. givenBy r (o .said)) (f .same d h s r))
       (run-gives (does d r .desk) (h ++ recordsBy does d r) (after s r) rs ∙ ap (λ o. gives theirs (o .desk) rs) (f .same d h s r))
 
-  -- and their answers
+  -- and their answers and wakes
   run-answers : (d : S) (h : History) → StartedOn does new d h → (rs : List Request) → answersOf does d rs ≡ answersOf theirs (see d) rs
   unfolding answersOf
   run-answers d h s [] = refl
   run-answers d h s (r ∷ rs) =
-      ap₂ (λ x y. x ∷ y) (ap (λ o. toldOf (o .said)) (f .same d h s r))
+      ap₂ (λ x y. x ++ y) (ap (λ o. stepTold (o .said) (o .wakes)) (f .same d h s r))
       (run-answers (does d r .desk) (h ++ recordsBy does d r) (after s r) rs ∙ ap (λ o. answersOf theirs (o .desk) rs) (f .same d h s r))
 
   -- so it shows what the desk that is seen in it shows
@@ -70,7 +70,7 @@ module _ {S T : Type 0} {see : S → T} {does : Stepping S} {new : ℕ → S} {t
   pub keeps-too : {d : S} {h : History} (P : History → Course T → Type 0) → ((e : T) → StartedOn theirs first e h → P h (course (λ e. e) theirs e)) → StartedOn does new d h → P h (course see does d)
   keeps-too {d} {h} P kept s = subst (P h) (sym (one-course d h s)) (kept (see d) (seen-started s))
 
-  -- the same answers to any requests
+  -- the same answers and wakes to any requests
   pub same-answers : (n : ℕ) → 0 < n → n ≤ lastNumber → (rs : List Request) → answersOf does (new n) rs ≡ answersOf theirs (first n) rs
   same-answers n l u rs = run-answers (new n) [] (fresh n l u) rs ∙ ap (λ e. answersOf theirs e rs) (f .starts n l u)
 

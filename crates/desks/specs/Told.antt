@@ -1,8 +1,9 @@
 -- Requests by numbers, and what a desk answers them, as literal numbers: the form of the examples of every desk (01, Lines; 01, Refusals by number).
 use Prim.Native.Nat.{ℕ, zero, suc}
-use mathlib.Core.List.{List, [], _∷_}
+use mathlib.Core.List.{List, [], _∷_, _++_, map}
 use Rattle.terms.specs.declared.words.Word.{Word}
-use Rattle.terms.specs.declared.words.Word.the-variants.{Go, Wait, Back, No}
+use Rattle.terms.specs.declared.words.Word.the-variants.{Go, Wait, Back, No, Wake}
+use Rattle.conflict.specs.declared.action.Action.{Action}
 use Rattle.desks.specs.declared.Answer.{Answer}
 use Rattle.desks.specs.AnswerWords.{wordOf, numberBeside}
 use Rattle.desks.specs.Request.{Request}
@@ -17,12 +18,20 @@ pub record Said : Type 0 where
 unfoldable pub toldOf : Answer → Said
 toldOf a = record { word = wordOf a; number = numberBeside a }
 
--- the answers of any desk to requests, in their order
+-- the word wake with a job
+abbrev pub wake : ℕ → Said
+wake j = record { word = Wake; number = j }
+
+-- a step so told: its answer, and then the word wake for each wake (01, Lines)
+unfoldable pub stepTold : Answer → List Action → List Said
+stepTold said wakes = toldOf said ∷ map (λ (a : Action). wake (a .job)) wakes
+
+-- the answers of any desk to requests, in their order, each with the wakes of its step behind it
 unfoldable pub answersOf : {S : Type 0} → Stepping S → S → List Request → List Said
 answersOf step d [] = []
-answersOf step d (r ∷ rs) = toldOf (step d r .said) ∷ answersOf step (step d r .desk) rs
+answersOf step d (r ∷ rs) = stepTold (step d r .said) (step d r .wakes) ++ answersOf step (step d r .desk) rs
 
--- a desk started at a first number, requests to it, and its answers
+-- a desk started at a first number, requests to it, and its answers and wakes
 pub record Example : Type 0 where
   pub start : ℕ
   pub requests : List Request
