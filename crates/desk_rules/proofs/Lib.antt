@@ -43,6 +43,7 @@ pub mod AheadLaws
 pub mod AtMost31
 pub mod InTheWay
 pub mod JustAsked
+pub mod GetsItsCell
 pub mod NotForgotten
 pub mod Oldest
 pub mod Pigeonhole

@@ -10,6 +10,7 @@ use native.Mathlib.Omega.{arith}
 use Rattle.laws.specs.Choice.{not-both}
 use Rattle.conflict.specs.History.{History}
 use Rattle.conflict.specs.Runs.{ended}
+use Rattle.desks.specs.declared.Answer.the-variants.{Wait}
 use Rattle.desks.specs.Request.{Request}
 use Rattle.desk_rules.specs.Desk.{Waiter, Desk}
 use Rattle.desk_rules.specs.Locks.{wants}
@@ -31,7 +32,9 @@ use Rattle.desk_rules.proofs.NotForgotten.{ended-none, ended-neither, w
 use Rattle.desk_rules.proofs.Pigeonhole.{no-longer}
 use Rattle.desk_rules.proofs.AtMost31.{with-self, all-seated}
 use Rattle.desk_rules.proofs.SomebodyRuns.{runs-above}
+use Rattle.desk_rules.proofs.AnswerTells.{ask-waited}
 use Rattle.desk_rules.proofs.JustAsked.{just-asked, way-was, was-way}
+use Rattle.desk_rules.proofs.GetsItsCell.{gets-its-cell}
 
 module _ {d : Desk} (v : Inv d) (r : Request) (rs : List Request) (c : ℕ) (w : Waiter) (k : IsWaiting d c w) where
   -- it is served in the first of the requests
@@ -135,4 +138,9 @@ service {d} s =
       served-in-time = λ r a l e.
           let w = waiters (after s r) (r .cell) (asker r a) (just-asked s r a l e .status) in
           record { waits = just-asked s r a l e .status; in-a-run = w .in-way-live; at-most = w .at-most-31; served = w .waiter-served };
+      gets-its-cell = λ r j e.
+          let t = ask-waited d r j e in
+          let e′ : step d r .said ≡ Wait (r .job) = subst (λ i. step d r .said ≡ Wait i) (t .job) e in
+          let w = waiters (after s r) (r .cell) (asker r (t .ask)) (just-asked s r (t .ask) (t .asking .letter) e′ .status) in
+          (t .job, gets-its-cell s r (t .ask) (t .asking .letter) e′ w);
     }

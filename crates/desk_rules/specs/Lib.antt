@@ -11,6 +11,7 @@ pub mod Asked
 pub mod Moves
 pub mod Effects
 pub mod Waiting
+pub mod GetsItsCell
 pub mod WakeOrder
 pub mod Histories
 pub mod Invariant

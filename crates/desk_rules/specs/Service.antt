@@ -19,6 +19,7 @@ use Rattle.desks.specs.Course.{now, to, later}
 use Rattle.desk_rules.specs.Course.{Course}
 use Rattle.desk_rules.specs.Waiting.{Ahead, InWay, WasInWay, IsWaiting, Chain, Waits, GivesUp, Patient, AllEnd, AtMostInWay, Granted, Served, ServedInTime}
 use Rattle.desk_rules.specs.Asked.{asker}
+use Rattle.desk_rules.specs.GetsItsCell.{GetsItsCell}
 
 -- what is promised of a waiter of a cell
 pub record Waiters (k : Course) (c : ℕ) (w : Waiter) : Type 0 where
@@ -52,3 +53,5 @@ pub record Service (k : Course) : Type 0 where
   pub asker-waits : (r : Request) (a : Ask) → letterOf (r .kind) ≡ Known (Asks a) → to k r .said ≡ Wait (r .job) → IsWaiting (to k r .desk) (r .cell) (asker r a)
   pub in-way-when-asked : (r : Request) (a : Ask) → letterOf (r .kind) ≡ Known (Asks a) → to k r .said ≡ Wait (r .job) → (i : ℕ) → InWay (to k r .desk .row (r .cell)) (asker r a) i ↔ WasInWay (now k) r i
   pub served-in-time : (r : Request) (a : Ask) → letterOf (r .kind) ≡ Known (Asks a) → to k r .said ≡ Wait (r .job) → ServedInTime (later k r) (r .cell) (asker r a)
+  -- the second sentence of demand 3, whole: whatever request is answered wait, those that held its cell or stood ahead when it asked are at most 31, and if its job does not give up and their runs all end, it got its cell in the mode it asked for, at the latest in the step that ended the last of them
+  pub gets-its-cell : (r : Request) (j : ℕ) → to k r .said ≡ Wait j → (j ≡ r .job) × GetsItsCell k r
