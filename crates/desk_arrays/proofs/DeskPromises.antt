@@ -18,6 +18,8 @@ use Rattle.desks.specs.Request.{Request}
 use Rattle.desk_rules.specs.Desk.{freshDesk, waiting}
 use Rattle.desk_rules.specs.Desk as paper
 use Rattle.desk_rules.specs.Table.{Due}
+use Rattle.desks.specs.AsWorded.{RefusedBy}
+use Rattle.desk_rules.specs.AsWorded.{RefusedAs}
 use Rattle.desk_rules.specs.Asked.{asker}
 use Rattle.desks.specs.Started.{fresh}
 use Rattle.desk_rules.specs.Step.{step}
@@ -27,6 +29,7 @@ use Rattle.desks.specs.Course.{shown}
 use Rattle.desk_rules.specs.Course.{from}
 use Rattle.desks.specs.Told.{answersOf}
 use Rattle.desk_rules.specs.Waiting.{OldestLive, ServedInTime}
+use Rattle.desk_rules.specs.GetsItsCell.{GetsItsCell}
 use Rattle.desk_rules.specs.Effects.{Begins, RunEnds}
 use Rattle.desk_rules.specs.Releasing.{AllReleased}
 use Rattle.desks.specs.Numbers.{NumbersFrom}
@@ -77,6 +80,10 @@ module _ {d : Desk} {h : History} (s : Started d h) (r : Request) where
   pub desk-refused-exactly : (why : Refusal) → (stepOf d (r .kind) (r .job) (r .cell) .said .answer ≡ No why) ↔ Due (view d) r why
   desk-refused-exactly = desk-promises s .refuses .by-table .refused-exactly r
 
+  -- and it is refused with a number exactly where the paper's words say so
+  pub desk-refused-as : (n : ℕ) → RefusedBy (stepOf d (r .kind) (r .job) (r .cell) .said .answer) n ↔ RefusedAs (view d) r n
+  desk-refused-as = desk-promises s .worded .as-worded r
+
   -- a begin that goes opens a running job under the next number
   pub desk-begins : (j : ℕ) → letterOf (r .kind) ≡ Known Begin → stepOf d (r .kind) (r .job) (r .cell) .said .answer ≡ Go j → Begins (view d) (view (stepOf d (r .kind) (r .job) (r .cell) .desk)) j
   desk-begins = desk-promises s .effects .begins r
@@ -92,3 +99,7 @@ module _ {d : Desk} {h : History} (s : Started d h) (r : Request) where
   -- a job that asks and is answered wait is served in time (demand 3)
   pub desk-served-in-time : (a : Ask) → letterOf (r .kind) ≡ Known (Asks a) → stepOf d (r .kind) (r .job) (r .cell) .said .answer ≡ Wait (r .job) → ServedInTime (running (stepOf d (r .kind) (r .job) (r .cell) .desk)) (r .cell) (asker r a)
   desk-served-in-time = desk-promises s .service .served-in-time r
+
+  -- the second sentence of demand 3, whole: whatever is answered wait, its job gets its cell in time
+  pub desk-gets-its-cell : (j : ℕ) → stepOf d (r .kind) (r .job) (r .cell) .said .answer ≡ Wait j → (j ≡ r .job) × GetsItsCell (running d) r
+  desk-gets-its-cell = desk-promises s .service .gets-its-cell r

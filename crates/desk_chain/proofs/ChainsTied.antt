@@ -20,7 +20,7 @@ use Rattle.desk_rules.specs.Chain.{chainOf, waitingBelow, allChains}
 use Rattle.desk_rules.specs.AskedChain.{askChain}
 use Rattle.desk_rules.proofs.Statuses.{waiting-live}
 use Rattle.desks.proofs.Numbers.{rising-distinct}
-use Rattle.desk_rules.proofs.Pigeonhole.{no-longer}
+use Rattle.laws.proofs.Pigeonhole.{no-longer}
 use Rattle.desk_rules.proofs.ChainIs.{is-chain}
 use Rattle.desk_rules.proofs.AlongChain.{chain-begins}
 use Rattle.desk_rules.proofs.WaitingList.{listed-waits, waits-listed, waiting-rises}

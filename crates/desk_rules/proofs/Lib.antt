@@ -31,6 +31,8 @@ pub mod Bystanders
 pub mod Numbers
 pub mod Seats
 pub mod NumberLimits
+pub mod DueAsWorded
+pub mod AsWorded
 pub mod Deciding
 pub mod Written
 pub mod WakeRecords
@@ -46,7 +48,6 @@ pub mod JustAsked
 pub mod GetsItsCell
 pub mod NotForgotten
 pub mod Oldest
-pub mod Pigeonhole
 pub mod SentBack
 pub mod ServedInTime
 pub mod SomebodyRuns

@@ -13,6 +13,7 @@ use Rattle.desk_rules.specs.Course.{from}
 use Rattle.desk_rules.specs.Promises.{Promises}
 use Rattle.desks.proofs.StartedThrough.{run-started}
 use Rattle.desk_rules.proofs.Refusing.{refuses}
+use Rattle.desk_rules.proofs.AsWorded.{worded}
 use Rattle.desk_rules.proofs.StepEffects.{effects}
 use Rattle.desk_rules.proofs.Deciding.{decides}
 use Rattle.desk_rules.proofs.WakesTold.{wakes}
@@ -30,6 +31,7 @@ use Rattle.desk_rules.proofs.ChainsKept.{chains}
 pub promised : {d : Desk} {h : History} → Started d h → Promises h (from d)
 promised {d} s = record {
   refuses = refuses d;
+  worded = worded s;
   effects = effects s;
   decides = decides s;
   wakes = wakes s;

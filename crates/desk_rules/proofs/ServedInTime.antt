@@ -29,7 +29,7 @@ use Rattle.desks.proofs.StartedThrough.{run-started}
 use Rattle.desk_rules.proofs.InTheWay.{waiter-in, front-only, way-some, way-younger, way-live, chain-rises}
 use Rattle.desk_rules.proofs.WaiterStep.{step-on, step-undisturbed, step-not-ended}
 use Rattle.desk_rules.proofs.NotForgotten.{ended-none, ended-neither, waits-end, ways-through, waits-or-granted}
-use Rattle.desk_rules.proofs.Pigeonhole.{no-longer}
+use Rattle.laws.proofs.Pigeonhole.{no-longer}
 use Rattle.desk_rules.proofs.AtMost31.{with-self, all-seated}
 use Rattle.desk_rules.proofs.SomebodyRuns.{runs-above}
 use Rattle.desk_rules.proofs.AnswerTells.{ask-waited}

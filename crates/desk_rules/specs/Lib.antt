@@ -25,6 +25,7 @@ pub mod Service
 pub mod StepEffects
 pub mod Promises
 pub mod Refuses
+pub mod AsWorded
 pub mod Locking
 pub mod Decides
 pub mod Wakes

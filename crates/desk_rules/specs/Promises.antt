@@ -8,6 +8,8 @@ use Rattle.desks.specs.Request.{Request}
 use Rattle.desks.specs.Course.{now}
 use Rattle.desk_rules.specs.Course.{Course}
 use Rattle.desk_rules.specs.Refuses.{Refuses}
+use Rattle.desks.specs.AsWorded.{RefusesAs}
+use Rattle.desk_rules.specs.AsWorded.{RefusedAs}
 use Rattle.desk_rules.specs.StepEffects.{StepEffects}
 use Rattle.desk_rules.specs.Decides.{Decides}
 use Rattle.desk_rules.specs.Wakes.{Wakes}
@@ -20,8 +22,9 @@ use Rattle.desk_rules.specs.UpdateLock.{UpdateLock}
 use Rattle.desk_rules.specs.Chains.{Chains}
 
 pub record Promises (h : History) (k : Course) : Type 0 where
-  -- demand 1: refusals exactly, and rules 1 to 5
+  -- demand 1: refusals exactly, by the table and in words, and rules 1 to 5
   pub refuses : Refuses k
+  pub worded : RefusesAs RefusedAs k
   pub effects : StepEffects k
   pub decides : (r : Request) (a : Ask) → Decides k r a
   pub wakes : (r : Request) → Wakes k r

@@ -11,5 +11,7 @@ pub mod Found
 pub mod TableMeant
 pub mod Fields
 pub mod Refusing
+pub mod RequestBytes
+pub mod AsWorded
 pub mod Records
 pub mod Unique

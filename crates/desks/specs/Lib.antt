@@ -16,4 +16,5 @@ pub mod Seating
 pub mod DeskLimits
 pub mod Numbers
 pub mod Refuses
+pub mod AsWorded
 pub mod Recorded

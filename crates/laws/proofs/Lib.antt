@@ -8,3 +8,5 @@ pub mod Larger
 pub mod Walking
 pub mod Copies
 pub mod Standing
+pub mod Pigeonhole
+pub mod SameOn

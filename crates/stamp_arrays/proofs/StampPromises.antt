@@ -24,6 +24,8 @@ use Rattle.desks.proofs.Following.{started-course, same-answers}
 use Rattle.stamp_rules.specs.Desk.{freshDesk}
 use Rattle.stamp_rules.specs.Step.{step}
 use Rattle.stamp_rules.specs.Table.{Due}
+use Rattle.desks.specs.AsWorded.{RefusedBy}
+use Rattle.stamp_rules.specs.AsWorded.{RefusedAs}
 use Rattle.stamp_rules.specs.Course.{from}
 use Rattle.stamp_rules.specs.Promises.{Promises}
 use Rattle.stamp_rules.proofs.OneCourse.{keeps-promises, start-promises}
@@ -72,3 +74,7 @@ module _ {d : Stamps} {h : History} (s : Started d h) where
   -- a step is refused exactly where the table has that refusal due
   pub stamp-refused-exactly : (r : Request) (why : Refusal) → (stepOf d (r .kind) (r .job) (r .cell) .answer ≡ No why) ↔ Due (view d) r why
   stamp-refused-exactly r = stamp-promises s .refuses .by-table .refused-exactly r
+
+  -- and it is refused with a number exactly where the words say so
+  pub stamp-refused-as : (r : Request) (n : ℕ) → RefusedBy (stepOf d (r .kind) (r .job) (r .cell) .answer) n ↔ RefusedAs (view d) r n
+  stamp-refused-as r = stamp-promises s .worded .as-worded r

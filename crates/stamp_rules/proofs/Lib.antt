@@ -19,6 +19,7 @@ pub mod OneCourse
 pub mod DirtyExample
 pub mod TableMeant
 pub mod Refusing
+pub mod AsWorded
 pub mod Records
 pub mod Examples
 pub mod RecordLimits

@@ -14,6 +14,7 @@ use Rattle.stamp_rules.specs.Step.{step, Started}
 use Rattle.stamp_rules.specs.Course.{from}
 use Rattle.stamp_rules.specs.Promises.{Promises}
 use Rattle.stamp_rules.proofs.Refusing.{refuses}
+use Rattle.stamp_rules.proofs.AsWorded.{worded}
 use Rattle.stamp_rules.proofs.Records.{recorded}
 use Rattle.stamp_rules.proofs.Deciding.{decides}
 use Rattle.stamp_rules.proofs.Effecting.{effects}
@@ -27,6 +28,7 @@ use Rattle.stamp_rules.proofs.Numbers.{numbers}
 pub promised : {d : Desk} {h : History} → Started d h → Promises h (from d)
 promised {d} s = record {
   refuses = refuses d;
+  worded = worded s;
   decides = decides d;
   effects = effects s;
   recorded = recorded d;

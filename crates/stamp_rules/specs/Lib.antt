@@ -12,5 +12,6 @@ pub mod Quiet
 pub mod Stamped
 pub mod NumberHistory
 pub mod Refuses
+pub mod AsWorded
 pub mod Promises
 pub mod Examples

@@ -8,6 +8,8 @@ use Rattle.desks.specs.Numbers.{Numbers}
 use Rattle.desks.specs.Recorded.{Recorded}
 use Rattle.stamp_rules.specs.Desk.{Desk, isOpen}
 use Rattle.stamp_rules.specs.Refuses.{Refuses}
+use Rattle.desks.specs.AsWorded.{RefusesAs}
+use Rattle.stamp_rules.specs.AsWorded.{RefusedAs}
 use Rattle.stamp_rules.specs.Decides.{Decides}
 use Rattle.stamp_rules.specs.Effects.{Effects}
 use Rattle.stamp_rules.specs.Quiet.{Quiet}
@@ -15,8 +17,9 @@ use Rattle.stamp_rules.specs.Stamped.{Stamped}
 use Rattle.stamp_rules.specs.NumberHistory.{NumberHistory}
 
 pub record Promises (h : History) (k : Course Desk) : Type 0 where
-  -- refusals exactly, in their order, and they change nothing
+  -- refusals exactly, in their order and in words, and they change nothing
   pub refuses : Refuses k
+  pub worded : RefusesAs RefusedAs k
   -- each read, write, increment and u as the request says, and what each answer leaves
   pub decides : (r : Request) → Decides k r
   pub effects : Effects k

@@ -2,3 +2,4 @@ pub mod Alphabet
 pub mod Numbers
 pub mod PaperNumbers
 pub mod Unique
+pub mod LetterBytes
