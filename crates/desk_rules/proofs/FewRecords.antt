@@ -110,7 +110,7 @@ went-size r j (Known Retry) = omega arith
 went-size r j (Known (Asks a)) = omega arith
 
 -- and so has any answer
-own-size : (r : Request) (a : Answer) → length (ownRecords r a) ≤ 1
+pub own-size : (r : Request) (a : Answer) → length (ownRecords r a) ≤ 1
 unfolding ownRecords
 own-size r (Go j) = went-size r j (letterOf (r .kind))
 own-size r (Wait j) = omega arith
@@ -118,7 +118,7 @@ own-size r (Back j) = omega arith
 own-size r (No why) = omega arith
 
 -- the records of a step are its own and one for each wake
-records-size : (r : Request) (a : Answer) (ws : List Action) → length (recordsOf r a ws) ≡ length (ownRecords r a) + length ws
+pub records-size : (r : Request) (a : Answer) (ws : List Action) → length (recordsOf r a ws) ≡ length (ownRecords r a) + length ws
 unfolding recordsOf
 records-size r a ws = omega (arith, length-append (ownRecords r a) (wakeRecords ws), wake-size ws)
 

@@ -58,6 +58,7 @@ pub mod FewRecords
 pub mod OneRecordEach
 pub mod ExactModes
 pub mod RunEnded
+pub mod WakesFew
 pub mod WakesTold
 pub mod OthersLocks
 pub mod OneMove
@@ -78,3 +79,4 @@ pub mod WaitingList
 pub mod ChainsKept
 pub mod Promised
 pub mod Examples
+pub mod Bounds

@@ -41,6 +41,8 @@ use Rattle.desk_rules.proofs.Bystanders.{moved-status, moved-place}
 use Rattle.desk_rules.proofs.OthersLocks.{moved-locks, granted-elsewhere}
 use Rattle.desk_rules.proofs.WakeOrder.{Searched, granted-ahead, before-first, before-second, search-order}
 use Rattle.desk_rules.proofs.WakeOrder as searching
+use Rattle.desk_rules.proofs.WakesFew.{few-woken}
+use Rattle.desk_rules.proofs.FewRecords.{records-size, own-size}
 use Rattle.desk_rules.proofs.RunEnded.{Ran, ran, only-rule-4, wake-ran}
 
 module _ {d : Desk} (v : Inv d) (j c : ℕ) where
@@ -116,6 +118,8 @@ module _ {d : Desk} {h : History} (s : Started d h) (r : Request) where
     wakes-exactly = λ x m a k. let (t, g) = wake-ran d r x m in left-with (g .cell) (g .waiter) (g .granted) t x (g .is) a k;
     wakes-in-order = λ x y b. searched-sooner v (r .job) (searched b);
     woken-once = λ x y b. apart v (r .job) x y (subst (Before x y) (wake-ran d r x (before-first b) .0 .wakes) b);
+    at-most-31 = few-woken v r (apart v (r .job)) (only-rule-4 (step-moved d r));
+    records-at-most-32 = omega (arith, records-size r (step d r .said) (step d r .wakes), own-size r (step d r .said), few-woken v r (apart v (r .job)) (only-rule-4 (step-moved d r)));
     bystander = λ i n. moved-status d r i n (step-moved d r);
     bystander-place = λ i n z. moved-place d r i n z (step-moved d r);
     bystander-locks = λ i n f c. moved-locks v r i n c (step-moved d r) f;

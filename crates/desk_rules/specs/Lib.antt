@@ -31,4 +31,5 @@ pub mod Decides
 pub mod Wakes
 pub mod SerialHistory
 pub mod Examples
+pub mod Bounds
 pub mod ChainExamples

@@ -4,6 +4,7 @@ use mathlib.Core.Path.{_≡_}
 use mathlib.Core.Logic.{_≢_, _⊎_}
 use mathlib.Core.Bool.{false}
 use mathlib.Core.List.{[]}
+use lib.ListN.{length}
 use Rattle.laws.specs.Lists.{member}
 use Rattle.terms.specs.declared.letters.Ask.{Ask}
 use Rattle.conflict.specs.declared.action.Action.{Action}
@@ -29,6 +30,9 @@ pub record Wakes (k : Course) (r : Request) : Type 0 where
   -- cell by cell, and from the front of each queue, and no job twice
   pub wakes-in-order : (x y : Action) → Before x y (to k r .wakes) → Sooner (now k) x y
   pub woken-once : (x y : Action) → Before x y (to k r .wakes) → x .job ≢ y .job
+  -- so at most 31 are woken in a step, and the step writes at most 32 records, its own and theirs
+  pub at-most-31 : length (to k r .wakes) ≤ 31
+  pub records-at-most-32 : length (records k r) ≤ 32
   -- a job that the answer does not name and that is not among the wakes stays as it was, keeps its place, and holds what it held
   pub bystander : (i : ℕ) → i ≢ named (now k) r → isWoken i (to k r .wakes) ≡ false → to k r .desk .stat i ≡ now k .stat i
   pub bystander-place : (i : ℕ) → i ≢ named (now k) r → i ≢ 0 → member i (to k r .desk .jobs) ≡ member i (now k .jobs)

@@ -1,0 +1,99 @@
+-- The numbers that bound what a started desk can come to: that each is the least, and desks on which it is met (01, What is delivered; 01, Jobs and their numbers; 01, rule 4; demand 3; 02, No. 3).
+use Prim.Native.Nat.{ℕ, zero, suc, _≤_}
+use mathlib.Core.Path.{_≡_}
+use mathlib.Core.Bool.{true}
+use mathlib.Core.List.{List, [], _∷_, _++_}
+use lib.ListN.{length}
+use Rattle.terms.specs.declared.letters.Ask.{Ask}
+use Rattle.terms.specs.declared.letters.Letter.the-variants.{Asks}
+use Rattle.terms.specs.declared.letters.Lettered.the-variants.{Known}
+use Rattle.terms.specs.Letters.{letterOf}
+use Rattle.conflict.specs.History.{History}
+use Rattle.desks.specs.declared.Answer.the-variants.{Wait}
+use Rattle.desks.specs.Request.{Request}
+use Rattle.desks.specs.Places.{openAmong}
+use Rattle.desks.specs.Told.{request, begins}
+use Rattle.desk_rules.specs.Desk.{Waiter, Desk, freshDesk, isOpen, isLive}
+use Rattle.desk_rules.specs.Step.{step, events, Started}
+use Rattle.desk_rules.specs.Requests.{deskAfter}
+use Rattle.desk_rules.specs.Asked.{asker}
+use Rattle.desk_rules.specs.Waiting.{IsWaiting, AtMostInWay}
+use Rattle.desk_rules.specs.GetsItsCell.{AtMostWereInWay}
+use Rattle.desk_rules.specs.Chain.{chainOf}
+
+-- the bound holds with this number and with no smaller one: a promise with a larger number is weaker than need be, and one with a smaller is false
+abbrev pub Least : (ℕ → Type 0) → ℕ → Type 0
+Least Bound n = Bound n × ((m : ℕ) → Bound m → n ≤ m)
+
+-- something is so of every started desk of the paper
+abbrev pub OfStarted : (Desk → Type 0) → Type 0
+OfStarted P = (d : Desk) (h : History) → Started d h → P d
+
+-- at most n jobs are open (01, What is delivered)
+abbrev pub OpenAtMost : ℕ → Type 0
+OpenAtMost n = OfStarted (λ d. length (openAmong (λ j. isOpen (d .stat j)) (d .jobs)) ≤ n)
+
+-- an open job's number is at most n (01, Jobs and their numbers)
+abbrev pub NumberAtMost : ℕ → Type 0
+NumberAtMost n = OfStarted (λ d. (j : ℕ) → isOpen (d .stat j) ≡ true → j ≤ n)
+
+-- at most n jobs are in a waiter's way (demand 3)
+abbrev pub InWayAtMost : ℕ → Type 0
+InWayAtMost n = OfStarted (λ d. (c : ℕ) (w : Waiter) → IsWaiting d c w → AtMostInWay n (d .row c) w)
+
+-- at most n jobs are in a job's way right after it asked and was answered wait (demand 3)
+abbrev pub JustAskedAtMost : ℕ → Type 0
+JustAskedAtMost n = OfStarted (λ d. (r : Request) (a : Ask) → letterOf (r .kind) ≡ Known (Asks a) → step d r .said ≡ Wait (r .job) → AtMostInWay n (step d r .desk .row (r .cell)) (asker r a))
+
+-- at most n jobs held the cell or stood ahead when a job asked that was answered wait (demand 3)
+abbrev pub WereInWayAtMost : ℕ → Type 0
+WereInWayAtMost n = OfStarted (λ d. (r : Request) (j : ℕ) → step d r .said ≡ Wait j → AtMostWereInWay n d r)
+
+-- the chain of a live job has at most n jobs (02, No. 3)
+abbrev pub ChainAtMost : ℕ → Type 0
+ChainAtMost n = OfStarted (λ d. (j : ℕ) → isLive (d .stat j) ≡ true → length (chainOf d j) ≤ n)
+
+-- at most n jobs are woken in a step (01, rule 4)
+abbrev pub WakesAtMost : ℕ → Type 0
+WakesAtMost n = OfStarted (λ d. (r : Request) → length (step d r .wakes) ≤ n)
+
+-- a step writes at most n history records (01, Lines)
+abbrev pub RecordsAtMost : ℕ → Type 0
+RecordsAtMost n = OfStarted (λ d. (r : Request) → length (events d r) ≤ n)
+
+-- so many jobs, from number so many + 1 down to 2, ask to read cell 5
+abbrev pub readInTurn : ℕ → List Request
+readInTurn zero = []
+readInTurn (suc n) = request 114 (suc (suc n)) 5 ∷ readInTurn n
+
+-- so many jobs, down to 1, write each the cell of its own number
+abbrev pub writeOwn : ℕ → List Request
+writeOwn zero = []
+writeOwn (suc n) = request 119 (suc n) (suc n) ∷ writeOwn n
+
+-- so many jobs, down to 1, ask to write each the cell of the number after its own
+abbrev pub writeNext : ℕ → List Request
+writeNext zero = []
+writeNext (suc n) = request 119 (suc n) (suc (suc n)) ∷ writeNext n
+
+-- a queue: of 32 jobs 32 writes cell 5, and 31 down to 2 wait to read it
+abbrev pub toTheQueue : List Request
+toTheQueue = begins 32 ++ request 119 32 5 ∷ readInTurn 30
+
+-- a line: of 32 jobs each but the last waits for the cell that the next has written
+abbrev pub toTheLine : List Request
+toTheLine = begins 32 ++ writeOwn 32 ++ writeNext 31
+
+-- after them, on a desk that was started at 1
+unfoldable pub queueDesk : Desk
+queueDesk = deskAfter (freshDesk 1) toTheQueue
+
+unfoldable pub lineDesk : Desk
+lineDesk = deskAfter (freshDesk 1) toTheLine
+
+-- job 1 asks to read cell 5 too, and then job 32 commits
+abbrev pub oneMore : Request
+oneMore = request 114 1 5
+
+abbrev pub lastCommits : Request
+lastCommits = request 99 32 0
