@@ -13,6 +13,7 @@ pub mod Quiet
 pub mod Written
 pub mod Stamping
 pub mod NoEventAfterEnd
+pub mod IncrementsInOrder
 pub mod Serial
 pub mod Promised
 pub mod OneCourse

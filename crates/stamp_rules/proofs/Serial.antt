@@ -16,6 +16,7 @@ use Rattle.stamp_rules.specs.NumberHistory.{NumberHistory}
 use Rattle.stamp_rules.proofs.Late.{over-writer, over-reader}
 use Rattle.stamp_rules.proofs.Written.{asking, Wrote, nothing, action, mark, step-wrote}
 use Rattle.stamp_rules.proofs.Stamping.{Matches, started-matches}
+use Rattle.stamp_rules.proofs.IncrementsInOrder.{increments-in-order}
 use Rattle.stamp_rules.proofs.NoEventAfterEnd.{started-over}
 
 -- a step keeps number order, where the cells' numbers are what the history says: an action that goes is not below those that it is held against
@@ -40,6 +41,7 @@ number-history {h = h} s =
     record {
       committed-in-order = number-order-part h o;
       all-in-order = o;
+      increments-in-order = increments-in-order s;
       serial-by-numbers = number-order-serial h o;
       numbers-once = ascending-commits-once h;
       committed-jobs = ascending-commits h;
