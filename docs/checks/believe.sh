@@ -1,11 +1,8 @@
 # docs/BELIEVE.md against docs/believe: the rows of its tables with their counts, and what it says of all other definitions
 
-# whether the page counts a line of a file of definitions, or of any in a folder
-counted() { # FILE
-    awk -v file="$1" '
-        BEGIN { dir = file; if (sub(/\/[^\/]*\.antt$/, "", dir)) { name = file; sub(/^.*\//, "", name); sub(/\.antt$/, "", name) } }
-        index($0, "| `" dir "` |") == 1 && (name == "" || index($0, "`" name "` ")) { found = 1 }
-        END { exit !found }' "$log/page"
+# the files of definitions that the page counts lines of, by its table file by file
+counted() {
+    awk -F '`' '/^\| `crates\/[^`]*\/(specs|proofs)` \|/ { for (i = 4; i <= NF; i += 2) print $2 "/" $i ".antt" }' docs/BELIEVE.md
 }
 
 believe() {
@@ -19,15 +16,16 @@ believe() {
     while IFS= read -r row; do
         if grep -qxF -- "$row" "$log/believe"; then echo ok; else echo "docs/BELIEVE.md has a row that docs/believe does not reckon so: $row"; fi
     done <"$log/page"
+    counted >"$log/counted"
     # 'all of `FILE`' behind "What need not be believed": no line of it is counted
     sed '1,/^## What need not be believed/d' docs/BELIEVE.md >"$log/rest"
     grep -oE 'all of `[^`]*`' "$log/rest" | tr -d '`' | sed 's/^all of //' | while IFS= read -r file; do
         if [ ! -e "$file" ]; then echo "docs/BELIEVE.md names $file, which is not there"
-        elif counted "$file"; then echo "docs/BELIEVE.md says that nothing of $file is to be believed, and counts lines of it"
+        elif grep -q "^${file%.antt}[./]" "$log/counted"; then echo "docs/BELIEVE.md says that nothing of $file is to be believed, and counts lines of it"
         else echo ok; fi
     done
     # and every other file of definitions is counted, or told of there
     find crates -path '*/specs/*.antt' ! -name Lib.antt | sort | while IFS= read -r file; do
-        if counted "$file" || grep -qF -e "\`$file\`" -e "\`${file%/*}\`" "$log/rest"; then echo ok; else echo "docs/BELIEVE.md neither counts $file nor tells of it"; fi
+        if grep -qxF "$file" "$log/counted" || grep -qF -e "\`$file\`" -e "\`${file%/*}\`" "$log/rest"; then echo ok; else echo "docs/BELIEVE.md neither counts $file nor tells of it"; fi
     done
 }

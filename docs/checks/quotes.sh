@@ -24,6 +24,7 @@ quoted() {
         function scan(line,   token, before) {
             gsub(/` tab `/, " ", line); gsub(/→/, " ", line)
             if (text == "" && line ~ /the night/) text = "night"
+            # what is in backticks, the example, the desk, the moment, and the end of a sentence
             while (match(line, /`[^`]*`|(head -n [0-9]+ )?examples\/[A-Za-z0-9-]+\.requests|imestamp desk|nder timestamps|ock desk|nder locks|after line [0-9]+|in the history|night of [0-9]+ lines|\. /)) {
                 token = substr(line, RSTART, RLENGTH); before = substr(line, 1, RSTART - 1); line = substr(line, RSTART + RLENGTH)
                 if (token ~ /examples\/.*\.requests/) {

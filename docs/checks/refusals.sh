@@ -7,14 +7,20 @@ refusal_rows() {
 }
 # the numbers of the definitions, with the words above each: number, words without their place in the papers
 defined_refusals() {
-    awk -v OFS='\t' '/^-- / { words = substr($0, 4); sub(/ \(02, No\. [0-9]+\)$/, "", words) } /^numberOf / { number = $0; sub(/^.*= /, "", number); print number, words }' crates/terms/specs/Refusals.antt
+    awk -v OFS='\t' '
+        /^-- / { words = substr($0, 4); sub(/ \(02, No\. [0-9]+\)$/, "", words) }
+        /^numberOf / { number = $0; sub(/^.*= /, "", number); print number, words }' crates/terms/specs/Refusals.antt
 }
 # the numbers that code has, with what the comments say: number, comment. Of the enum of refusals, of the header, and of the face in Rust
 coded_refusals() { # FILE
     case $1 in
     *.rt) sed -n '/^pub enum Refusal {/,/^}/s/^ *\/\/ \([0-9]*\): \(.*\)$/\1\t\2/p' "$1" ;;
     *.h) sed -n '/^enum tuyenlomac_refusal {/,/^};/s/^ *TUYENLOMAC_[A-Z_]* = \([0-9]*\),\{0,1\} *\(.*\)$/\1\t\2/p' "$1" ;;
-    *.rs) awk -v OFS='\t' '/^pub enum Refusal {/ { inside = 1; next } /^}/ { inside = 0 } inside && /\/\/\// { words = $0 } inside && / = [0-9]+,$/ { number = $NF; sub(/,/, "", number); print number, words }' "$1" ;;
+    *.rs) awk -v OFS='\t' '
+        /^pub enum Refusal {/ { inside = 1; next }
+        /^}/ { inside = 0 }
+        inside && /\/\/\// { words = $0 }
+        inside && / = [0-9]+,$/ { print $NF + 0, words }' "$1" ;;
     esac
 }
 
@@ -32,7 +38,8 @@ refusal_numbers() { # PAGE
     for file in crates/terms/src/refusals.rt include/tuyenlomac.h library/tuyenlomac.rs; do
         coded_refusals "$file" | sort -n >"$log/coded"
         # the library has no 16, which is of the program verdict alone
-        if [ "$(cut -f 1 "$log/coded")" = "$(cut -f 2 "$log/rows" | case $file in *.rt) cat ;; *) grep -vx 16 ;; esac)" ]; then echo ok; else echo "$1: the numbers of the table are not those of $file"; fi
+        case $file in *.rt) cut -f 2 "$log/rows" ;; *) cut -f 2 "$log/rows" | grep -vx 16 ;; esac >"$log/wanted"
+        if cut -f 1 "$log/coded" | cmp -s - "$log/wanted"; then echo ok; else echo "$1: the numbers of the table are not those of $file"; fi
         # each number that a comment has stands in the row
         while IFS=$'\t' read -r number said; do
             for n in $(grep -oE '[0-9][0-9,]*[0-9]|[0-9]' <<<"$said"); do
@@ -47,7 +54,8 @@ refusal_numbers() { # PAGE
 refusals_promised() {
     local number words n
     sed -n '/^## Refusals/,/^## The desk that runs/s/^| \([0-9][0-9, ]*\)\(: \| with \| of \)\([^|]*\) |.*/\1\t\2\t\3/p' docs/PROMISES.md >"$log/promised"
-    if [ "$(cut -f 1 "$log/promised" | tr -d ' ' | tr ',' '\n' | sort -nu)" = "$(cut -f 1 "$log/defined" | sort -n)" ]; then echo ok; else echo "docs/PROMISES.md, Refusals: not every refusal has its row, or there is one too many"; fi
+    if [ "$(cut -f 1 "$log/promised" | tr -d ' ' | tr ',' '\n' | sort -nu)" = "$(cut -f 1 "$log/defined" | sort -n)" ]; then echo ok
+    else echo "docs/PROMISES.md, Refusals: not every refusal has its row, or there is one too many"; fi
     grep '	: 	' "$log/promised" | while IFS=$'\t' read -r number _ words; do
         for n in $(grep -oE '[0-9][0-9,]*[0-9]|[0-9]' <<<"${words%%: see*}" | grep -vx 0); do
             if limits "$number" | grep -qx "${n//,/}"; then echo ok; else echo "docs/PROMISES.md, refusal $number: the table has no $n there"; fi
@@ -91,7 +99,8 @@ desk_refusals() {
         { echo "1$first"; step x 1 5; } | gives 1 "$desk desk" try_desk 'no 1'
         # of all bytes so many are kinds
         kinds=$({ echo "1$first"; for kind in $(seq 0 255); do echo "$kind 1 5"; done; } | ./run try_desk | grep -vcx 'no	1')
-        if awk -F '\t' '$2 == 1' "$log/rows" | grep -q "other than the $(cut -d ' ' -f $((kinds + 1)) <<<'none one two three four five six seven eight nine ten')\b"; then echo ok; else echo "$desk desk: there are $kinds kinds of request"; fi
+        kinds=$(cut -d ' ' -f $((kinds + 1)) <<<'none one two three four five six seven eight nine ten')
+        if awk -F '\t' '$2 == 1' "$log/rows" | grep -q "other than the $kinds\b"; then echo ok; else echo "$desk desk: there are $kinds kinds of request"; fi
         { begin 1; line r 1 $((cell + 1)); } | gives 2 "$desk desk" $answers '2 no 2'
         { begin 1; line r 1 "$cell"; } | gives - "$desk desk" $answers '2 go 1'
         line r 7 5 | gives 3 "$desk desk" $answers '1 no 3'

@@ -47,20 +47,31 @@ schedules() {
         function knots(row,   c, n, i, part, want) {
             sub(/^.* n = /, "", row); sub(/:.*$/, "", row); n = split(row, part, /, */)
             if (n != last - first + 1) wrong("not as many n as cases")
-            for (c = first; c <= last; c++) { want = "knot"; for (i = 1; i <= part[c - first + 1]; i++) want = want " " i; if (said[c] != want) wrong("case " c " is no knot of 1 to " part[c - first + 1]) }
+            for (c = first; c <= last; c++) {
+                want = "knot"; n = part[c - first + 1] + 0
+                for (i = 1; i <= n; i++) want = want " " i
+                if (said[c] != want) wrong("case " c " is no knot of 1 to " n)
+            }
         }
         FILENAME ~ /stdin$/ && /^=/ { cases++; places[cases] = substr($0, 2) + 0; next }
         FILENAME ~ /stdin$/ { gsub(/\t/, " "); text[cases, ++size[cases]] = $0; next }
         FILENAME ~ /said$/ && /^line\t/ { sub(/^line\t/, ""); gsub(/\t/, " "); handed[told] = $0; next }
         FILENAME ~ /said$/ { gsub(/\t/, " "); said[++told] = $0; next }
-        /^\| Case / { n = split($0, head, / *\| */); wanted = lined = 0; for (i = 1; i <= n; i++) { if (head[i] == "Expected") wanted = i; if (head[i] == "Lines") lined = i } next }
+        /^\| Case / {
+            n = split($0, head, / *\| */); wanted = lined = 0
+            for (i = 1; i <= n; i++) { if (head[i] == "Expected") wanted = i; if (head[i] == "Lines") lined = i }
+            next
+        }
         match($0, /^(\| |Cases )[0-9]+( to [0-9]+)?/) {
             split(substr($0, RSTART, RLENGTH), part, / +/); first = part[2] + 0; last = part[4] == "" ? first : part[4] + 0; bad = 0
             split($0, cell, / *\| */)
             if (first != seen + 1) wrong("the row before ends with case " seen)
             seen = last
             # generated ones: as many as the second program was asked for, and what it says of them stands in the file stdout
-            if (/^Cases /) { if (!match($0, /make cases [0-9]+ [0-9]+/)) wrong("does not say how they are made"); else { split(substr($0, RSTART, RLENGTH), part, " "); if (part[4] != last - first + 1) wrong("are not " part[4]) } }
+            if (/^Cases /) {
+                if (!match($0, /make cases [0-9]+ [0-9]+/)) wrong("does not say how they are made")
+                split(substr($0, RSTART, RLENGTH), part, " "); if (part[4] != last - first + 1) wrong("are not " part[4])
+            }
             else if (cell[wanted] ~ /^`knot` and 1 to n$/) knots($0)
             else if (first != last) counted(cell[wanted])
             else one_case(first, cell[wanted], lined ? cell[lined] : "", $0)
