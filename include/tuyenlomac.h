@@ -34,7 +34,7 @@
    - or change cells only between the job's last GO (or wake) and its commit: then a job that is sent back has nothing to take back.
    Between its GO and its end a job may use the cell without the mutex. After a commit or a give-up the wakes may be told once the mutex is free.
    An increment is one atomic operation where the cell is kept, since several jobs may hold increment locks on one cell at once; it is taken
-   back by the opposite increment, and not by the value that stood there before.
+   back by the opposite increment, and not by the value that stood there before. library/count.c is a program with threads that does so.
 
    At the timestamp desk nothing is held between GO and the act, so the act belongs inside the mutex: read or change the cell before the mutex
    is freed, and never later, at commit, say. Nothing is held up to the end either. A job's writes are taken back inside the mutex too, but by

@@ -17,7 +17,8 @@
 //!   back has nothing to take back.
 //!
 //! An increment is one atomic operation where the cell is kept, since increment locks are shared; it is
-//! taken back by the opposite increment, and not by the value that stood there before.
+//! taken back by the opposite increment, and not by the value that stood there before. library/count.rs is
+//! a program with threads that does so.
 //!
 //! At the timestamp desk nothing is held between `Go` and the act: the act belongs inside the mutex, and
 //! so does taking back. The header says more of it.
