@@ -20,19 +20,19 @@ use Rattle.desk_io.specs.declared.Halted.{Halted}
 use Rattle.desk_io.specs.declared.Halt.{Halt}
 use Rattle.desk_io.specs.declared.Halt.the-variants.{Ended, NotRead, AllRead, NotTaken}
 
--- the program of a method and a view
+-- the program of a method and a view (01, What is delivered; 02, Nos. 3 and 6)
 abbrev pub programBy : Method → View → Program
 programBy m view = record { method = m; view = view }
 
--- the front of a program that has read nothing
+-- the front of a program that has read nothing (01, Lines)
 abbrev pub startedFront : Method → View → Front
 startedFront m view = record { view = view; clerk = startedClerk m }
 
--- the front after some bytes: it writes the same view, and its clerk has seen them
+-- the front after some bytes: it writes the same view, and its clerk has seen them (01, Lines)
 abbrev pub frontAfter : Front → List ℕ → Front
 frontAfter f bytes = record { view = f .view; clerk = clerkAfter (f .clerk) bytes }
 
--- the records, in the front's view, of the lines that end in some bytes
+-- the records, in the front's view, of the lines that end in some bytes (01, Lines)
 abbrev pub recordsBy : Front → List ℕ → List ℕ
 recordsBy f bytes = recordsIn (f .view) (f .clerk) bytes
 
@@ -43,7 +43,7 @@ pub record Turned (f : Front) (chunk : List ℕ) (from : ℕ) (c : Called) (out 
   pub front : c .front ≡ frontAfter f (part chunk from (c .next))
   pub records : take (c .at) out ≡ recordsBy f (part chunk from (c .next))
 
--- what is to be written out after a call of the work: of whatever front and chunk the call was, these bytes are the records of the lines that end in what it has seen. That they go to standard output no contract can say: the call of `write_all` is left to the comparison of programs
+-- what is to be written out after a call of the work: of whatever front and chunk the call was, these bytes are the records of the lines that end in what it has seen (01, Lines). That they go to standard output no contract can say: the call of `write_all` is left to the comparison of programs
 abbrev pub HandsOn : Called → List ℕ → List ℕ → Type 0
 HandsOn c out bytes = (f : Front) (chunk : List ℕ) (from : ℕ) → Turned f chunk from c out → bytes ≡ recordsBy f (part chunk from (c .next))
 
@@ -85,7 +85,7 @@ Makes m view NotRead text rest = MakesUnread m view text rest
 Makes m view AllRead text rest = (more : List ℕ) → recordsIn view (startedClerk m) text ++ rest ≡ programOf m view (text ++ more)
 Makes m view NotTaken text rest = rest ≡ []
 
--- what is to be written last: for whatever method and view the front was started with and whatever text it has seen, these bytes make that. The call of `write_all` that they go to is left to the comparison of programs
+-- what is to be written last: for whatever method and view the front was started with and whatever text it has seen, these bytes make that (01, What is delivered; 02, Nos. 3 and 6). The call of `write_all` that they go to is left to the comparison of programs
 abbrev pub HandsOnLast : Halted → List ℕ → Type 0
 HandsOnLast h bytes = (m : Method) (view : View) (text : List ℕ) → h .front ≡ frontAfter (startedFront m view) text → Makes m view (h .why) text bytes
 

@@ -163,8 +163,7 @@ fn serve_all(method: Method, view: View, input: &mut [u8], out: &mut [u8]) -> Ha
                 why: Halt::NotTaken,
             };
         }
-        let clerk = front.clerk;
-        if is_over(clerk.splitter) {
+        if is_over(front.clerk.splitter) {
             return Halted {
                 front,
                 why: Halt::AllRead,

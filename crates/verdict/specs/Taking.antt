@@ -20,6 +20,6 @@ pub record Took (buffer after : List ℕ) (len : ℕ) : Type 0 where
   pub count : len ≡ fitting buffer 0 read
   pub holds : after ≡ kept buffer 0 read
 
--- what is to be written: whatever bytes were read into a buffer that now holds the text, these bytes are the verdict's line on all of them. That they go to standard output no contract can say: the one call of `write_all` is left to the comparison of programs
+-- what is to be written: whatever bytes were read into a buffer that now holds the text, these bytes are the verdict's line on all of them (01, The judge's rules). That they go to standard output no contract can say: the one call of `write_all` is left to the comparison of programs
 abbrev pub Judges : List ℕ → ℕ → List ℕ → Type 0
 Judges text len bytes = (buffer : List ℕ) (t : Took buffer text len) → bytes ≡ verdictOf (t .read)

@@ -62,23 +62,5 @@ returns-3 c = search needs
 
 pub report-spec : {M : Type 1} → statement M
 report-spec =
-    tie.close
-    (tie.spec
-    take-all-requires
-    slice-aggregate-fail
-    fail-requires
-    same-length
-    same-length-2
-    returns
-    to-write-requires
-    write-all-requires
-    slice-aggregate-fail-2
-    fail-requires-2
-    same-length-3
-    same-length-4
-    same-length-5
-    returns-2
-    same-length-6
-    same-length-7
-    same-length-8
-    returns-3)
+    let first = tie.spec take-all-requires slice-aggregate-fail fail-requires same-length same-length-2 returns to-write-requires write-all-requires in
+    tie.close (first slice-aggregate-fail-2 fail-requires-2 same-length-3 same-length-4 same-length-5 returns-2 same-length-6 same-length-7 same-length-8 returns-3)
