@@ -10,7 +10,7 @@ use Rattle.desks.specs.Records.{recordsBy}
 use Rattle.desks.specs.Started.{StartedOn}
 use Rattle.desks.specs.Requests.{writes}
 use Rattle.desks.specs.Course.{Course, course}
-use Rattle.desks.specs.Told.{toldOf, answersOf}
+use Rattle.desks.specs.Told.{stepTold, answersOf}
 use Rattle.desks.specs.Follows.{Follows}
 use Rattle.desks.proofs.StartedThrough.{run-started}
 use Rattle.desks.proofs.Following.{keeps-too}
@@ -26,7 +26,7 @@ module _ {S : Type 0} (does : Stepping S) where
   steps-answered : (d : S) (rs : List Request) → answersBy (stepsOf does d rs) ≡ answersOf does d rs
   unfolding answersBy stepsOf answersOf
   steps-answered d [] = refl
-  steps-answered d (r ∷ rs) = ap (λ xs. toldOf (does d r .said) ∷ xs) (steps-answered (does d r .desk) rs)
+  steps-answered d (r ∷ rs) = ap (λ xs. stepTold (does d r .said) (does d r .wakes) ++ xs) (steps-answered (does d r .desk) rs)
 
   steps-wrote : (d : S) (rs : List Request) → wroteBy rs (stepsOf does d rs) ≡ writes does d rs
   unfolding wroteBy stepsOf writes recordsBy

@@ -6,7 +6,7 @@ use Rattle.desks.specs.Request.{Request}
 use Rattle.desks.specs.Stepping.{Stepped, Stepping, through}
 use Rattle.desks.specs.Records.{recordsOf}
 use Rattle.desks.specs.Requests.{writes}
-use Rattle.desks.specs.Told.{Said, toldOf, answersOf}
+use Rattle.desks.specs.Told.{Said, stepTold, answersOf}
 
 -- the calls, one after another: `call d r o` says that a call that finds the desk d and is asked r may come to o, and the next one finds what that leaves
 pub data Lent {S O : Type 0} (leaves : O → S) (call : S → Request → O → Type 0) : S → List Request → List O → Type 0 where
@@ -18,10 +18,10 @@ unfoldable pub leftBy : {S : Type 0} → S → List (Stepped S) → S
 leftBy d [] = d
 leftBy d (o ∷ os) = leftBy (o .desk) os
 
--- the answers, by what each call told
+-- the answers, each with its wakes behind it, by what each call told
 unfoldable pub answersBy : {S : Type 0} → List (Stepped S) → List Said
 answersBy [] = []
-answersBy (o ∷ os) = toldOf (o .said) ∷ answersBy os
+answersBy (o ∷ os) = stepTold (o .said) (o .wakes) ++ answersBy os
 
 -- the history, by what each call was asked and told (01, Lines)
 unfoldable pub wroteBy : {S : Type 0} → List Request → List (Stepped S) → History
