@@ -1,4 +1,4 @@
--- Rule 4 as the code comes along it: a grant, one cell more, and a cell that nobody waits for passed over; with the places woken in the first places of a list.
+-- Rule 4 as the code does it: a grant, one cell more, a skipped cell without waiters; the woken places stand in the first places of a list.
 -- Assumes nothing.
 use Prim.Native.Nat.{ℕ, zero, suc, _+_, _≤_, _<_}
 use mathlib.Core.Path.{_≡_, refl, sym, ap, subst, _∙_}

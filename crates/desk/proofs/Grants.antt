@@ -1,4 +1,4 @@
--- Laws of granting from the front of a cell's queue: when it stands still, and how a loop that may stop early does it 32 times.
+-- Granting from the front of a cell's queue: when it stops changing anything, and why a loop that stops early does the same as 32 rounds.
 -- Assumes nothing.
 use Prim.Native.Nat.{ℕ, zero, suc, _+_, _≤_, _<_}
 use mathlib.Core.Path.{_≡_, refl, sym, ap, _∙_}

@@ -1,4 +1,4 @@
--- A move carried out in place, way by way: what the code leaves in the fields, with what it tells, is what the definition makes of the move.
+-- A move carried out in place, branch by branch: the fields that the code leaves, and what it tells, are what the definition makes of the move.
 -- Assumes nothing.
 use Prim.Native.Nat.{ℕ, _<_, _+_}
 use mathlib.Core.Path.{_≡_, refl, sym, ap, subst, _∙_}

@@ -1,4 +1,4 @@
--- Each grant turns one waiter into one wake: so the wakes and the waiters together stay as many, nobody starts to wait, and no wake is lost.
+-- Each grant turns one waiter into one wake, so wakes and waiters keep their sum, nobody starts to wait, and no wake is lost.
 -- Assumes nothing.
 use Prim.Native.Nat.{ℕ, suc, _+_, _≤_, _<_}
 use mathlib.Core.Path.{_≡_, refl, sym, ap, _∙_}

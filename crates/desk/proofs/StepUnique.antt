@@ -1,4 +1,4 @@
--- No second result, and no second content of a field or of the list, meets the contracts of the step in place, by letter and by byte; no second result that of the step by value and of the wakes.
+-- No second result, and no second content of a field or of the list, meets the contract of a step in place, by letter or by byte; no second result meets that of the step by value or of the wakes.
 -- Assumes nothing.
 use mathlib.Core.Path.{_≡_, sym, _∙_}
 use mathlib.Core.List.{List}

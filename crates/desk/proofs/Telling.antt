@@ -1,4 +1,4 @@
--- The wakes told as actions, one after another; and the step by value, put together from the step in place and these.
+-- The wakes as actions, one after another; and the step by value, made of the step in place and these.
 -- Assumes nothing.
 use Prim.Native.Nat.{ℕ, suc, _+_, _-_, _≤_, _<_}
 use mathlib.Core.Path.{_≡_, refl, sym, ap, _∙_}

@@ -1,4 +1,4 @@
--- Whom a step wakes, however the step is taken: the wakes that it says are those of the places woken, which stand first in the list of the step in place (01, rule 4).
+-- The jobs that a step wakes, in place or by value: the wakes told are those of the woken places, which stand first in the list of the step in place (01, rule 4).
 -- Assumes nothing.
 use Prim.Native.Nat.{ℕ}
 use mathlib.Core.Path.{_≡_, refl, sym, ap, _∙_}

@@ -1,4 +1,4 @@
-// The desk that runs: a step over the arrays where they stand, and the same by value.
+// The desk that runs (the lock manager): a step over the arrays in place, and the same by value.
 mod settling;
 pub mod step;
 pub mod wakes;

@@ -33,7 +33,7 @@ fn drop_locks(held: &mut [u8; SPOTS], p: usize)
     }
 }
 
-// Waiters of one cell are granted from the front while each agrees with the other holders; so many were woken before.
+// Grants waiters of one cell from the front, while each agrees with the other holders; `count` were woken before.
 fn settle_cell<'a>(
     held: &mut [u8; SPOTS],
     status: &mut [u8; PLACES],
@@ -66,7 +66,7 @@ fn settle_cell<'a>(
     k
 }
 
-// The same for every cell from 0 to 63; a cell that nobody waits for is passed over.
+// The same for every cell from 0 to 63; a cell without waiters is skipped.
 fn settle_all<'a>(
     held: &mut [u8; SPOTS],
     status: &mut [u8; PLACES],
@@ -90,7 +90,7 @@ fn settle_all<'a>(
     k
 }
 
-// Rule 4 once locks were dropped. Mostly nobody waits at all: one look over the places tells so, and then nothing changes.
+// Rule 4, after the locks were dropped. Mostly nobody waits: one look over the places shows it, and then nothing changes.
 fn settle<'a>(
     held: &mut [u8; SPOTS],
     status: &mut [u8; PLACES],
@@ -108,7 +108,7 @@ fn settle<'a>(
     settle_all(held, status, woken, number, cell, ask)
 }
 
-// What a place is once its run has ended: free, or sent back.
+// The status code of a place after its run has ended: free, or sent back.
 fn code_after(e: Ending) -> u8
     ensures { λ r. ⌜ r ≡ codeAfter e ⌝ }
 {
@@ -118,7 +118,7 @@ fn code_after(e: Ending) -> u8
     }
 }
 
-// The run of a place ends: its locks are dropped and the cells settled, where the arrays stand; tells how many were woken.
+// Ends the run at a place: drops its locks and settles the cells, in place; tells how many were woken.
 pub fn end_run<'a>(
     held: &mut [u8; SPOTS],
     status: &mut [u8; PLACES],

@@ -1,4 +1,4 @@
-// One step of the desk: what the plan says is carried out on the desk where it stands (01, The desk's rules).
+// One step of the desk: carries out the plan on the desk, in place (01, The desk's rules).
 use crate::settling::end_run;
 use crate::wakes::tell;
 use conflict::modes::code_of;
@@ -37,7 +37,7 @@ fn answer_after(e: Ending, job: u32) -> Answer
     }
 }
 
-// The answer to a job whose move this is.
+// The answer that goes with a move.
 fn answer_to(m: Move, job: u32) -> Answer
     ensures { λ r. ⌜ r ≡ answerTo m job ⌝ }
 {
@@ -52,7 +52,7 @@ fn answer_to(m: Move, job: u32) -> Answer
     }
 }
 
-// A job that is closed frees its place, and one that is sent back keeps it.
+// A closed job frees its place; a sent back job keeps it.
 fn leave_place(number: &mut [u32; PLACES], p: usize, e: Ending)
     requires { ⌜ p < places ⌝ }
     ensures { λ r. ⌜ now (number .exit) ≡ numbersAfter e (now (number .entry)) p ⌝ }
@@ -65,7 +65,7 @@ fn leave_place(number: &mut [u32; PLACES], p: usize, e: Ending)
     }
 }
 
-// What the places are doing once a job has been retried: the desk's own method says so.
+// What the places are doing after a retry, by the desk's own method.
 fn status_retried(d: Desk, job: u32) -> [u8; PLACES]
     ensures { λ r. ⌜ r ≡ retriedJob d job .status ⌝ }
 {
@@ -73,15 +73,15 @@ fn status_retried(d: Desk, job: u32) -> [u8; PLACES]
     after.status
 }
 
-// A list of as many places as there are: what a lent array does not say of itself.
+// Called for its contract alone: both lists have an entry for each place, which a lent array does not say by itself.
 fn sized(status: [u8; PLACES], woken: [u8; PLACES]) -> bool
     ensures { λ r. ⌜ (length status ≡ places) × (length woken ≡ places) ⌝ }
 {
     true
 }
 
-// One step by its letter, the job and the cell, on the desk's fields, each lent and changed where it stands.
-// The places woken are put first into a list lent for them, and the answer tells how many they are.
+// One step by letter, job and cell, on the desk's fields, each lent and changed in place.
+// The woken places go into the first places of a lent list, and the result tells how many there are.
 pub fn step_for(
     next: &mut u64,
     number: &mut [u32; PLACES],
@@ -138,7 +138,7 @@ pub fn step_for(
     }
 }
 
-// The same by a byte, which may be no letter's and is refused then.
+// The same by a byte; a byte of no letter is refused.
 pub fn step_on(
     next: &mut u64,
     number: &mut [u32; PLACES],
@@ -162,7 +162,7 @@ pub fn step_on(
     }
 }
 
-// The same by value: the desk comes in, and what it has become and what was said go out.
+// The same by value: takes the desk, and returns the new desk with what was said.
 pub fn step(d: Desk, kind: u8, job: u32, cell: u32) -> Outcome
     ensures { λ r. ⌜ r ≡ stepOf d kind job cell ⌝ }
 {

@@ -1,4 +1,4 @@
-// The wakes of a step as actions, read off the arrays: a woken place keeps its number, and what it waited for (01, rule 4).
+// The wakes of a step as actions, read off the arrays: a woken place keeps its number and what it waited for (01, rule 4).
 use conflict::action::Action;
 use conflict::action::Kind;
 use conflict::modes::recorded_kind;
@@ -10,7 +10,7 @@ ghost use lib.ListN.{length, take};
 ghost use Rattle.desk_arrays.specs.Steps.{wakeAt, listed};
 ghost use Rattle.terms.specs.Limits.{places};
 
-// Numbers, cells and what was asked, of as many places as there are: what a lent array does not say of itself.
+// Called for its contract alone: numbers, cells and asks have an entry for each place, which a lent array does not say by itself.
 fn sized(number: [u32; PLACES], cell: [u8; PLACES], ask: [u8; PLACES]) -> bool
     ensures { λ r. ⌜ (length number ≡ places) × (length cell ≡ places) × (length ask ≡ places) ⌝ }
 {
@@ -24,7 +24,7 @@ fn wide(byte: u8) -> u32
     byte as u32
 }
 
-// The action of a woken place; of a place that there is not, one that says nothing.
+// The action of a woken place; the filler action, for an index that is no place.
 pub fn wake_at<'a>(
     number: &'a [u32; PLACES],
     cell: &'a [u8; PLACES],
@@ -48,7 +48,7 @@ pub fn wake_at<'a>(
     }
 }
 
-// The list that tells the wakes of the first places of a list, so many.
+// The list of the wakes of the first `count` places of a list.
 pub fn tell<'a>(
     number: &'a [u32; PLACES],
     cell: &'a [u8; PLACES],

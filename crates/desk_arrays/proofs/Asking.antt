@@ -1,4 +1,4 @@
--- Rules 1 to 3 over the arrays are the paper's: the move is decided by the same tests, and carried out it leaves what the rule leaves.
+-- Rules 1 to 3 over the arrays are the paper's: the same tests decide the move, and the move leaves what the rule leaves.
 -- Assumes nothing.
 use Prim.Native.Nat.{ℕ, _<_}
 use mathlib.Core.Path.{_≡_, refl, sym, ap}

@@ -1,4 +1,4 @@
--- A search through the places that keeps the best so far: who beats every other that may be kept, and is beaten by nobody, is found; and where nobody takes over, nobody is.
+-- A search through the places that keeps the best so far finds the place that beats every other candidate and is beaten by none; without a candidate it finds none.
 -- Assumes nothing.
 use Prim.Native.Nat.{ℕ, zero, suc, _<_}
 use mathlib.Core.Path.{_≡_, sym, ap, subst, _∙_}

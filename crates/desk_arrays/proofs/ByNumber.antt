@@ -1,4 +1,4 @@
--- What stands at a job's place, looked up by the job's number: at each place, for nobody, and after a change at one place.
+-- The value at a job's place, looked up by the job's number: at each place, for a number at no place, and after a change at one place.
 -- Assumes nothing.
 use Prim.Native.Nat.{ℕ, _<_}
 use mathlib.Core.Path.{_≡_, sym, ap, subst, _∙_}

@@ -1,4 +1,4 @@
--- Proofs by cases on numbers: the same or not, below or not, the last one or one before it.
+-- Proofs by cases on numbers: equal or not, below or not, the last one or an earlier one.
 -- Assumes nothing.
 use Prim.Native.Nat.{ℕ, suc, _<_, _≤_}
 use mathlib.Core.Path.{_≡_}

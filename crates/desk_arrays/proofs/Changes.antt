@@ -1,4 +1,4 @@
--- The small changes of a step: a mode is taken, a job waits, a job runs again. The arrays changed stand for the paper's desk changed.
+-- The small changes of a step: a mode is taken, a job waits, a job runs again. The changed arrays stand for the paper's desk with the same change.
 -- Assumes nothing.
 use Prim.Native.Nat.{ℕ, _<_}
 use mathlib.Core.Path.{_≡_, refl, sym, subst, _∙_}

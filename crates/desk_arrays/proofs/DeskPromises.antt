@@ -1,4 +1,4 @@
--- THE PROMISES, of the desk that runs; and the foremost of them written out of its step, to be read.
+-- THE PROMISES hold of the desk that runs; the main ones are written out here for its step, to be read.
 -- Assumes nothing.
 use Prim.Native.Nat.{ℕ, _<_, _≤_}
 use mathlib.Core.Path.{_≡_}

@@ -1,4 +1,4 @@
--- The end of a run over the arrays is rule 4 of the paper's desk: for a job that is sent back, and for one that is closed and frees its place.
+-- The end of a run over the arrays is the paper's rule 4: for a job that is sent back, and for a job that is closed and frees its place.
 -- Assumes nothing.
 use Prim.Native.Nat.{ℕ, _<_}
 use mathlib.Core.Path.{_≡_, refl, sym, ap, subst, _∙_}

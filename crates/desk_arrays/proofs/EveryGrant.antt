@@ -1,4 +1,4 @@
--- What holds before the cells are settled, and is kept by every grant to a place that waits, holds in the end. So the place whose run has ended is not woken.
+-- A fact that holds before the cells are settled, and that each grant to a waiting place keeps, holds at the end. So the place whose run has ended is not woken.
 -- Assumes nothing.
 use Prim.Native.Nat.{ℕ, zero, suc, _<_}
 use mathlib.Core.Path.{_≡_, sym, ap, ap₂, _∙_}

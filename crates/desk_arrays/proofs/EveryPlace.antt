@@ -1,4 +1,4 @@
--- A test of every place is the test of every job of the list of places, where each place passes as the job there does.
+-- A test of every place is the test of every job at the places, if each place passes exactly when its job does.
 -- Assumes nothing.
 use Prim.Native.Nat.{ℕ, zero, suc, _<_}
 use mathlib.Core.Path.{_≡_, refl, sym, ap, subst, _∙_}

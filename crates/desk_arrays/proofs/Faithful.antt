@@ -1,4 +1,4 @@
--- THE DESK THAT RUNS DOES AS THE PAPER'S DESK DOES: what is seen in new arrays is a fresh desk, and each step of started ones is the step of the desk that is seen in them.
+-- THE DESK THAT RUNS DOES AS THE PAPER'S DESK DOES: new arrays show a fresh desk, and each step of started arrays is the step of the desk that they show.
 -- Assumes nothing.
 use Prim.Native.Nat.{ℕ, _≤_}
 use lib.ListN.{length, getD}

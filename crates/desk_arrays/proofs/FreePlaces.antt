@@ -1,4 +1,4 @@
--- A free place is marked free and holds nothing: so it reads as the place of a closed job that holds nothing.
+-- A free place is marked free and holds nothing, so it reads as the place of a closed job that holds nothing.
 -- Assumes nothing.
 use Prim.Native.Nat.{ℕ, _<_}
 use mathlib.Core.Path.{_≡_, subst}

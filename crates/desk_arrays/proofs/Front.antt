@@ -1,4 +1,4 @@
--- The front of a cell's queue is the youngest place that waits for it: where nobody waits there is none, a place younger than all others that wait is it, and whoever is found waits.
+-- The front of a cell's queue is the youngest place that waits for it. If nobody waits, there is none; any place found does wait.
 -- Assumes nothing.
 use Prim.Native.Nat.{ℕ, _<_}
 use mathlib.Core.Path.{_≡_, refl, subst}

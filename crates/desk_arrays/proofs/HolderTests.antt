@@ -1,4 +1,4 @@
--- The tests of holders over the places are the rules' own: agreeing with every other holder, being older than every other holder.
+-- The tests of holders over the places are the rules' own: the mode agrees with every other holder; the job is older than every other holder.
 -- Assumes nothing.
 use Prim.Native.Nat.{ℕ}
 use mathlib.Core.Path.{_≡_}

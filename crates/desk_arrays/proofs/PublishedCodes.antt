@@ -1,4 +1,4 @@
--- The numbers of the desk's arrays as they are published to callers, beside what each says: literals, so that two numbers which change places are seen (02, No. 7).
+-- The codes of the desk's arrays as published to callers, each beside its meaning. They are literals, so that swapping two numbers is seen (02, No. 7).
 -- Assumes nothing.
 use Prim.Native.Nat.{ℕ}
 use mathlib.Core.Path.{_≡_, refl}

@@ -1,4 +1,4 @@
--- A cell's queue read off the statuses: it falls, and who stands in it is who waits for the cell. So its front is the youngest place that waits, and the tests of waiters over the places are the rules' own.
+-- A cell's queue, read off the statuses, descends and holds exactly the cell's waiters. So its front is the youngest waiting place, and the tests of waiters over the places are the rules' own.
 -- Assumes nothing.
 use Prim.Native.Nat.{ℕ, _<_}
 use mathlib.Core.Path.{_≡_, refl, sym, ap, subst, _∙_}

@@ -1,4 +1,4 @@
--- Arrays that stand for a paper's desk are that desk but for the queues; a refusal is tied, and so are moves chosen by the same test.
+-- Arrays that stand for a paper's desk are that desk except for the queues; a refusal is tied, and so are moves chosen by the same test.
 -- Assumes nothing.
 use Prim.Native.Nat.{ℕ}
 use mathlib.Core.Path.{_≡_, refl, sym, subst, fun-ext}

@@ -1,4 +1,4 @@
--- The retry of a job by its number: it runs again where it was sent back, else nothing changes; and this is the desk that a retry step leaves.
+-- The retry of a job by its number: a sent back job runs again, else nothing changes; this is the desk that a retry step leaves.
 -- Assumes nothing.
 use Prim.Native.Nat.{ℕ, _≤_}
 use mathlib.Core.Path.{_≡_, refl, sym, ap, _∙_}

@@ -1,4 +1,4 @@
--- A run ends: the place drops its locks and gets its status, and the cells are settled. What the arrays hold then is what rule 4 leaves of the paper's desk.
+-- A run ends: the place drops its locks and gets its status, and the cells are settled. The arrays then hold what rule 4 leaves of the paper's desk.
 -- Assumes nothing.
 use Prim.Native.Nat.{ℕ, _<_, _≤_}
 use mathlib.Core.Path.{_≡_, refl, sym, subst, _∙_, fun-ext}

@@ -1,4 +1,4 @@
--- A job takes the first free place, or frees its own: one number among the places changes, and nothing for all other jobs.
+-- A job takes the first free place, or frees its own: one number among the places changes, and nothing changes for other jobs.
 -- Assumes nothing.
 use Prim.Native.Nat.{ℕ, _<_}
 use mathlib.Core.Path.{_≡_, refl, sym, ap, subst, _∙_}

@@ -1,4 +1,4 @@
--- Settling cell after cell: at each stage the cells passed are as the rules leave them, the others wait with their queues, and the wakes told are those of the cells passed.
+-- Settling cell after cell: at each stage the cells passed are as the rules leave them, the others keep their queues, and the wakes told are those of the cells passed.
 -- Assumes nothing.
 use Prim.Native.Nat.{ℕ, zero, suc, _<_, _≤_}
 use mathlib.Core.Path.{_≡_, refl, sym, ap, subst, _∙_}

@@ -1,4 +1,4 @@
--- Settling one cell of the arrays is settling the cell's queue, by induction on the queue: its first is the youngest place that waits, and it is granted or the search stops.
+-- Settling one cell of the arrays is settling its queue, by induction on the queue: the first waiter is the youngest waiting place, and is granted or stops the search.
 -- Assumes nothing.
 use Prim.Native.Nat.{ℕ, zero, suc, _<_, _≤_}
 use mathlib.Core.Path.{_≡_, refl, sym, ap, subst, _∙_}

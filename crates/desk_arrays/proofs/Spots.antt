@@ -1,4 +1,4 @@
--- The table of modes: a mode set at one place of a cell, and the locks that a place drops; nothing else of the table changes.
+-- The table of modes: setting a mode at one place of a cell, or dropping a place's locks, changes nothing else in the table.
 -- Assumes nothing.
 use Prim.Native.Nat.{ℕ, zero, suc, _<_, _≤_, _*_}
 use mathlib.Core.Path.{_≡_, refl, sym, ap, subst, _∙_}

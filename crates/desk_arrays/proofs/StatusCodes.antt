@@ -1,4 +1,4 @@
--- What a status code says: which code each status has, that a waiting place waits for one cell with one ask, and how a change of codes changes the status.
+-- Status codes: the code of each status; a waiting place waits for one cell with one ask; how a change of codes changes the status.
 -- Assumes nothing.
 use Prim.Native.Nat.{ℕ, _<_}
 use mathlib.Core.Path.{_≡_, refl, ap}

@@ -1,4 +1,4 @@
--- A step of the arrays is the step of the paper's desk that they stand for: the move is decided in the same order, refusals and then the rules, and each is carried out alike.
+-- A step of the arrays is the step of the paper's desk that they stand for: the move is decided in the same order, refusals first, then the rules, and carried out alike.
 -- Assumes nothing.
 use Prim.Native.Nat.{ℕ, _≤_}
 use mathlib.Core.Path.{_≡_, refl, sym, _∙_}

@@ -1,4 +1,4 @@
--- How a list of 32 tells the wakes: so many entries are the wakes, and nothing stands past them. A step is tied where what it leaves and whom it wakes are.
+-- How a list of 32 tells the wakes: the first entries are the wakes, and nothing stands past them. A step is tied if the desk it leaves and its wakes are.
 -- Assumes nothing.
 use Prim.Native.Nat.{ℕ, _≤_, _-_, _+_}
 use mathlib.Core.Path.{_≡_, refl, sym, ap, _∙_}

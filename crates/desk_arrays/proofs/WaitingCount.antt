@@ -1,4 +1,4 @@
--- How many places wait: one fewer where one is woken, and never all where one does not wait.
+-- How many places wait: one fewer after a wake, and never all if one place does not wait.
 -- Assumes nothing.
 use Prim.Native.Nat.{ℕ, zero, suc, _+_, _<_, _≤_}
 use mathlib.Core.Path.{_≡_, refl, sym, subst, _∙_}

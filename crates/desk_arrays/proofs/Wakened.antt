@@ -1,4 +1,4 @@
--- The statuses once some jobs have been woken and then others: as once all of them have been.
+-- Waking some jobs and then others leaves the same statuses as waking all of them.
 -- Assumes nothing.
 use Prim.Native.Nat.{ℕ}
 use mathlib.Core.Path.{_≡_, refl, ap, _∙_, fun-ext}

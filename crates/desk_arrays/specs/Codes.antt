@@ -1,4 +1,4 @@
--- The numbers that stand for a status and for what was asked in the desk's arrays.
+-- The codes for a status and for what was asked, as the desk's arrays hold them.
 use Prim.Native.Nat.{ℕ}
 use lib.Dec.{eqb}
 use Rattle.laws.specs.Choice.{pick}
@@ -21,13 +21,13 @@ waitingCode = 2
 abbrev pub sentBackCode : ℕ
 sentBackCode = 3
 
--- the number that stands for what was asked (01, Lines; 02, No. 1)
+-- the code of what was asked (01, Lines; 02, No. 1)
 abbrev pub askCode : Ask → ℕ
 askCode Read = 0
 askCode Write = 1
 askCode Increment = 2
 askCode Update = 3
 
--- what was asked, by its number; a number that stands for nothing is read as an increment
+-- what was asked, from its code; an unused code is read as an increment
 abbrev pub askOf : ℕ → Ask
 askOf n = pick (eqb n (askCode Read)) Read (pick (eqb n (askCode Write)) Write (pick (eqb n (askCode Update)) Update Increment))

@@ -25,49 +25,49 @@ use Rattle.desk_arrays.specs.declared.moves.Move.the-variants.{Refuse, B
 use Rattle.desk_arrays.specs.Codes.{freeCode, waitingCode, sentBackCode}
 use Rattle.desk_arrays.specs.Places.{modeAt, agreesAt, olderAt, nobodyWaits, oldestOf}
 
--- what a job is doing: free for 0 and for a number that no place has
+-- what a job is doing; free, for 0 and for a number at no place
 unfoldable pub statusOf : List ℕ → List ℕ → ℕ → ℕ
 statusOf number status job = pick (eqb job 0) freeCode (getD status (pos number job) freeCode)
 
--- where a job stands, and what it is doing
+-- where a job stands, and what the job is doing
 unfoldable pub foundAt : List ℕ → List ℕ → ℕ → Found
 foundAt number status job = record { place = pos number job; code = statusOf number status job }
 
--- the tests 3, 4 and 5, by what a job is doing (01, Refusals by number)
+-- refusals 3, 4 and 5, by what the job is doing (01, Refusals by number)
 unfoldable pub standingOf : ℕ → Standing
 standingOf code =
     pick (eqb code freeCode) (Against NotOpen)
     (pick (eqb code waitingCode) (Against Waiting) (pick (eqb code sentBackCode) (Against wasSentBack) Runs))
 
--- a request that only a running job may make
+-- the move of a request that only a running job may make
 unfoldable pub ifRuns : Standing → Move → Move
 ifRuns (Against why) goes = Refuse why
 ifRuns Runs goes = goes
 
--- begin, by where a new job is opened (01, Refusals by number)
+-- begin, given where the new job is opened (01, Refusals by number)
 unfoldable pub opened : Opening → Move
 opened (At p n) = Begin p n
 opened (Refused why) = Refuse why
 
--- begin: 7, then 6, else the next number at the first free place (01, Refusals by number)
+-- begin: refusal 7, then 6, else the next number at the first free place (01, Refusals by number)
 unfoldable pub beginMove : ℕ → List ℕ → Move
 beginMove next number = opened (openingOf next number)
 
--- commit: 3, 4, 5, else the run ends
+-- commit: refusals 3, 4, 5, else the run ends
 unfoldable pub commitMove : Found → Move
 commitMove f = ifRuns (standingOf (f .code)) (End (f .place) Closed)
 
--- give-up: 3, else the run ends
+-- give-up: refusal 3, else the run ends
 unfoldable pub giveUpMove : Found → Move
 giveUpMove f = pick (eqb (f .code) freeCode) (Refuse NotOpen) (End (f .place) Closed)
 
--- retry: 3, 4, 8, else the job runs again (01, rule 5)
+-- retry: refusals 3, 4, 8, else the job runs again (01, rule 5)
 unfoldable pub retryMove : Found → Move
 retryMove f =
     pick (eqb (f .code) freeCode) (Refuse NotOpen)
     (pick (eqb (f .code) waitingCode) (Refuse Waiting) (pick (eqb (f .code) sentBackCode) Retry (Refuse Running)))
 
--- rule 2, for a job that holds another mode: its new mode agrees with the other holders, or it is older than every one of them (01, rule 2; 02, No. 1)
+-- rule 2, for a job that holds another mode: go if the new mode agrees with the other holders; wait if older than each of them; else back (01, rule 2; 02, No. 1)
 unfoldable pub promotes : List ℕ → List ℕ → ℕ → ℕ → ℕ → Ask → Move
 promotes number held p c job a =
     let m = asked (modeAt held c p) (needed a) in
@@ -75,25 +75,25 @@ promotes number held p c job a =
     (pick (olderAt held number c p job) (Stay p a) (End p SentBack))
 
 module _ (number status cell held : List ℕ) where
-  -- rule 3, for a job new to the cell: an empty queue and a mode that agrees, or older than every holder and every waiter (01, rule 3)
+  -- rule 3, for a job new to the cell: go if the queue is empty and the mode agrees; wait if older than every holder and waiter; else back (01, rule 3)
   unfoldable pub enters : ℕ → ℕ → ℕ → Ask → Move
   enters p c job a =
       pick (nobodyWaits status cell c && agreesAt held c p (needed a)) (Take p (needed a))
       (pick (olderAt held number c p job && oldestOf number status cell c job) (Stay p a) (End p SentBack))
 
-  -- what becomes of a request for a cell: rule 1 where a covering mode is held, else rule 3 or rule 2 (01, rules 1 to 3)
+  -- a request for a cell: rule 1 if a covering mode is held, else rule 3 or rule 2 (01, rules 1 to 3)
   unfoldable pub decided : ℕ → ℕ → ℕ → Ask → Move
   decided p c job a =
       pick (covers (modeAt held c p) (needed a)) Keep
       (pick (isFree (modeAt held c p)) (enters p c job a) (promotes number held p c job a))
 
-  -- read, write, increment and u: 3, 4, 5, 2, else what rules 1 to 3 decide
+  -- read, write, increment and u: refusals 3, 4, 5, 2, else what rules 1 to 3 decide
   unfoldable pub askMove : ℕ → ℕ → Ask → Move
   askMove job c a =
       let f = foundAt number status job in
       ifRuns (standingOf (f .code)) (pick (ltb c cells) (decided (f .place) c job a) (Refuse CellAbove))
 
--- what a request is to do, by its letter: 1 for a letter that is no request's
+-- the move of a request, by its letter; refusal 1 if no request has the letter
 unfoldable pub moveFor : ℕ → List ℕ → List ℕ → List ℕ → List ℕ → ℕ → ℕ → Lettered → Move
 moveFor next number status cell held job c Unknown = Refuse UnknownKind
 moveFor next number status cell held job c (Known no-request) = Refuse UnknownKind

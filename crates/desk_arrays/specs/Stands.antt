@@ -1,4 +1,4 @@
--- The paper's desk as the arrays hold it, by numbers; what it is for arrays to stand for a paper's desk.
+-- The paper's desk as the arrays hold it, by job number; what it means for arrays to stand for a paper's desk.
 use Prim.Native.Nat.{ℕ, _<_, _≤_, _-_, _*_}
 use mathlib.Core.Path.{_≡_}
 use mathlib.Core.List.{List}
@@ -22,11 +22,11 @@ use Rattle.desk_arrays.specs.Codes.{freeCode, waitingCode, sentBackCode,
 use Rattle.desk_arrays.specs.Places.{modeAt}
 use Rattle.desk_arrays.specs.Steps.{noAction}
 
--- what stands at the job's place, and x for 0 and for a number that no place has
+-- the value at the job's place; x, for 0 and for a number at no place
 unfoldable pub byNumber : {A : Type 0} → A → List ℕ → (ℕ → A) → ℕ → A
 byNumber x number f j = pick (isSeated number j) (f (pos number j)) x
 
--- what a status code says, with the cell and what was asked for a waiting job; a code that is none of the others is read as running
+-- the status of a code, with cell and ask for a waiting job; an unused code is read as running
 unfoldable pub statusFor : ℕ → ℕ → Ask → Status
 statusFor code c a =
     pick (eqb code freeCode) closed (pick (eqb code waitingCode) (waiting c a) (pick (eqb code sentBackCode) sentback running))
@@ -35,15 +35,15 @@ statusFor code c a =
 unfoldable pub statusAt : List ℕ → List ℕ → List ℕ → ℕ → Status
 statusAt status cell ask p = statusFor (getD status p 0) (getD cell p 0) (askOf (getD ask p 0))
 
--- what a job is doing: closed for 0 and for a number that no place has
+-- what a job is doing; closed, for 0 and for a number at no place
 unfoldable pub statusBy : Desk → ℕ → Status
 statusBy d = byNumber closed (d .number) (statusAt (d .status) (d .cell) (d .ask))
 
--- the mode that a job holds on a cell: nothing for 0 and for a number that no place has
+-- the mode that a job holds on a cell; none, for 0 and for a number at no place
 unfoldable pub modeBy : Desk → ℕ → ℕ → Mode
 modeBy d c = byNumber Free (d .number) (modeAt (d .held) c)
 
--- arrays of their lengths, in which a free place is marked free and holds nothing
+-- arrays of the right lengths, where a free place is marked free and holds nothing
 pub record Plain (d : Desk) : Type 0 where
   pub numbers : length (d .number) ≡ places
   pub statuses : length (d .status) ≡ places
@@ -53,7 +53,7 @@ pub record Plain (d : Desk) : Type 0 where
   pub free-status : (p : ℕ) → p < places → getD (d .number) p 0 ≡ 0 → getD (d .status) p 0 ≡ freeCode
   pub free-held : (p : ℕ) → p < places → getD (d .number) p 0 ≡ 0 → (c : ℕ) → modeAt (d .held) c p ≡ Free
 
--- the arrays stand for a paper's desk: all but the queues, which the arrays do not keep (a cell's waiters by age are its queue)
+-- the arrays stand for a paper's desk, except for queues, which they do not keep (a cell's waiters by age are its queue)
 pub record Stands (d : Desk) (D : paper.Desk) : Type 0 where
   pub next : d .next ≡ D .next
   pub jobs : d .number ≡ D .jobs
@@ -65,7 +65,7 @@ pub record Stands (d : Desk) (D : paper.Desk) : Type 0 where
 unfoldable pub wakesTold : Said → List Action
 wakesTold s = take (s .count) (s .wakes)
 
--- a step of the arrays is the step of the paper's desk: it leaves arrays that stand for the desk left, gives the answer, and tells the wakes and nothing past them
+-- a step of the arrays matches the paper's step: the arrays left stand for the desk left, the answer is the same, and the wakes told are exactly the paper's
 pub record Tied (o : Outcome) (O : rules.Outcome) : Type 0 where
   pub stands : Stands (o .desk) (O .desk)
   pub answer : o .said .answer ≡ O .said

@@ -1,4 +1,4 @@
--- One step of the desk over its arrays: the move that is decided, carried out; what the contracts cite (01, The desk's rules).
+-- One step of the desk over its arrays: the decided move, carried out. The contracts cite it (01, The desk's rules).
 use Prim.Native.Nat.{ℕ, _+_, _-_, _*_}
 use mathlib.Core.List.{List, [], _++_, map}
 use lib.Dec.{eqb}
@@ -29,15 +29,15 @@ use Rattle.desk_arrays.specs.Places.{spot}
 use Rattle.desk_arrays.specs.Settling.{Settling, droppedBy, settleAll}
 use Rattle.desk_arrays.specs.Moves.{statusOf, moveFor}
 
--- the desk of these fields
+-- the desk with these fields
 abbrev pub deskOf : ℕ → List ℕ → List ℕ → List ℕ → List ℕ → List ℕ → Desk
 deskOf next number status cell ask held = record { next = next; number = number; status = status; cell = cell; ask = ask; held = held }
 
--- the desk with every place free, every cell idle, and the number given next
+-- the desk with every place free, every cell idle, and this next number
 unfoldable pub emptyDesk : ℕ → Desk
 emptyDesk n = deskOf n (replicate places 0) (replicate places freeCode) (replicate places 0) (replicate places 0) (replicate (cells * places) 0)
 
--- started at a first number: 10 for 0, and no desk (01, refusal 10)
+-- a start at a first number: refusal 10 for 0, with no desk (01, refusal 10)
 unfoldable pub startOf : ℕ → Start
 startOf n = pick (eqb n 0) (Refused StartedAtZero) (Ready (emptyDesk n))
 
@@ -45,11 +45,11 @@ startOf n = pick (eqb n 0) (Refused StartedAtZero) (Ready (emptyDesk n))
 abbrev pub withNumbers : Desk → ℕ → List ℕ → Desk
 withNumbers d next number = deskOf next number (d .status) (d .cell) (d .ask) (d .held)
 
--- the desk whose places are doing something else
+-- the desk with other statuses at its places
 abbrev pub withStatus : Desk → List ℕ → Desk
 withStatus d status = deskOf (d .next) (d .number) status (d .cell) (d .ask) (d .held)
 
--- the desk whose places wait for something else
+-- the desk with other waits at its places
 abbrev pub withWaits : Desk → List ℕ → List ℕ → Desk
 withWaits d cell ask = deskOf (d .next) (d .number) (d .status) cell ask (d .held)
 
@@ -57,11 +57,11 @@ withWaits d cell ask = deskOf (d .next) (d .number) (d .status) cell ask (d .hel
 abbrev pub withHeld : Desk → List ℕ → Desk
 withHeld d held = deskOf (d .next) (d .number) (d .status) (d .cell) (d .ask) held
 
--- begin: a number runs at a place, and the one after it is next (01, Jobs and their numbers)
+-- begin: the number runs at the place, and the number after it is next (01, Jobs and their numbers)
 unfoldable pub begun : Desk → ℕ → ℕ → Desk
 begun d p n = withStatus (withNumbers d (n + 1) (set (d .number) p n)) (set (d .status) p runningCode)
 
--- place p has the mode on the cell (01, rules 2 and 3)
+-- place p holds the mode on the cell (01, rules 2 and 3)
 unfoldable pub withMode : Desk → ℕ → ℕ → Mode → Desk
 withMode d p c m = withHeld d (set (d .held) (spot c p) (codeOf m))
 
@@ -73,16 +73,16 @@ waitingFor d p c a = withStatus (withWaits d (set (d .cell) p c) (set (d .ask) p
 unfoldable pub retried : Desk → ℕ → Desk
 retried d p = withStatus d (set (d .status) p runningCode)
 
--- rule 5: a sent back job runs again, holding nothing as before; of any other number nothing comes (01, rule 5)
+-- rule 5: a sent back job runs again, still holding nothing; for any other number nothing changes (01, rule 5)
 unfoldable pub retriedJob : Desk → ℕ → Desk
 retriedJob d job = pick (eqb (statusOf (d .number) (d .status) job) sentBackCode) (retried d (pos (d .number) job)) d
 
--- what a place is once its run has ended: free, or sent back (01, Jobs and their numbers)
+-- the status code of a place after its run has ended: free, or sent back (01, Jobs and their numbers)
 unfoldable pub codeAfter : Ending → ℕ
 codeAfter Closed = freeCode
 codeAfter SentBack = sentBackCode
 
--- the numbers once a run has ended: a job that is closed frees its place, one that is sent back keeps it (01, Jobs and their numbers)
+-- the numbers after a run has ended: a closed job frees its place, a sent back job keeps it (01, Jobs and their numbers)
 unfoldable pub numbersAfter : Ending → List ℕ → ℕ → List ℕ
 numbersAfter Closed number p = set number p 0
 numbersAfter SentBack number p = number
@@ -92,7 +92,7 @@ unfoldable pub answerAfter : Ending → ℕ → Answer
 answerAfter Closed job = Go job
 answerAfter SentBack job = Back job
 
--- the cells settled once place p has dropped its locks and is what it is from now on (01, rule 4)
+-- the cells settled after place p has dropped its locks and has its new status (01, rule 4)
 unfoldable pub settled : Desk → ℕ → ℕ → Settling
 settled d p code =
     settleAll (d .number) (d .cell) (d .ask) cells
@@ -103,7 +103,7 @@ pub record Left : Type 0 where
   pub desk : Desk
   pub woken : List ℕ
 
--- nobody is woken
+-- the desk left, with nobody woken
 abbrev pub quietly : Desk → Left
 quietly d = record { desk = d; woken = [] }
 
@@ -116,7 +116,7 @@ ended d p e =
       woken = s .woken;
     }
 
--- a move carried out; a refusal leaves the desk as it was
+-- a move carried out; a refusal leaves the desk unchanged
 unfoldable pub carried : Desk → ℕ → ℕ → Move → Left
 carried d job c (Refuse why) = quietly d
 carried d job c (Begin p n) = quietly (begun d p n)
@@ -126,7 +126,7 @@ carried d job c (Stay p a) = quietly (waitingFor d p c a)
 carried d job c (End p e) = ended d p e
 carried d job c Retry = quietly (retriedJob d job)
 
--- the answer to a job whose move this is: begin tells the new number (01, The desk's rules)
+-- the answer that goes with a move; begin tells the new number (01, The desk's rules)
 unfoldable pub answerTo : Move → ℕ → Answer
 answerTo (Refuse why) job = No why
 answerTo (Begin p n) job = Go n
@@ -136,19 +136,19 @@ answerTo (Stay p a) job = Wait job
 answerTo (End p e) job = answerAfter e job
 answerTo Retry job = Go job
 
--- what stands in a place of the list of wakes that no wake fills
+-- the filler for unused places in the list of wakes
 unfoldable pub noAction : Action
 noAction = record { kind = Read; job = 0; cell = 0 }
 
--- the action of a place that was woken: it keeps its number, and what it waited for (01, rule 4)
+-- the action of a woken place: the place keeps its number and what it waited for (01, rule 4)
 unfoldable pub wakeAt : List ℕ → List ℕ → List ℕ → ℕ → Action
 wakeAt number cell ask p = record { kind = recorded (askOf (getD ask p 0)); job = getD number p 0; cell = getD cell p 0 }
 
--- the list of 32 that tells these wakes
+-- these wakes in a list of 32 places
 unfoldable pub listed : List Action → List Action
 listed ws = ws ++ replicate (places - length ws) noAction
 
--- an answer, with the wakes of these places
+-- an answer, with these places as its wakes
 unfoldable pub saying : Desk → Answer → List ℕ → Said
 saying d a woken = record { answer = a; wakes = listed (map (wakeAt (d .number) (d .cell) (d .ask)) woken); count = length woken }
 
@@ -158,7 +158,7 @@ performed d job c m =
     let l = carried d job c m in
     record { desk = l .desk; said = saying (l .desk) (answerTo m job) (l .woken) }
 
--- what a request by numbers is to do
+-- the move of a request by numbers
 unfoldable pub moveOf : Desk → ℕ → ℕ → ℕ → Move
 moveOf d kind job c = moveFor (d .next) (d .number) (d .status) (d .cell) (d .held) job c (letterOf kind)
 

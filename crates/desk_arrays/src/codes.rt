@@ -1,4 +1,4 @@
-// The numbers that stand for a status and for what was asked in the desk's arrays.
+// The codes for a status and for what was asked, as the desk's arrays hold them.
 use terms::letters::Ask;
 ghost use mathlib.Core.Path.{_≡_};
 ghost use Rattle.desk_arrays.specs.Codes.{askCode, askOf};
@@ -11,7 +11,7 @@ pub const WAITING: u8 = 2;
 
 pub const SENT_BACK: u8 = 3;
 
-// The number that stands for what was asked.
+// The code of what was asked.
 pub fn ask_code(a: Ask) -> u8
     ensures { λ r. ⌜ r ≡ askCode a ⌝ }
 {
@@ -23,7 +23,7 @@ pub fn ask_code(a: Ask) -> u8
     }
 }
 
-// What was asked, by its number.
+// What was asked, from its code.
 pub fn ask_of(code: u8) -> Ask
     ensures { λ r. ⌜ r ≡ askOf code ⌝ }
 {

@@ -1,4 +1,4 @@
-// What the desk keeps: arrays by places, as a struct by value with its methods, and the step over them as definitions, proved to be the paper's desk.
+// The desk's state (the lock table): arrays by place, in a struct with its methods; and the step over them as definitions, proved to be the paper's desk.
 pub mod codes;
 pub mod moves;
 pub mod state;

@@ -1,4 +1,4 @@
-// What a step is to do, as it is decided before anything changes (01, The desk's rules; 01, Refusals by number).
+// What a step is to do, decided before anything changes (01, The desk's rules; 01, Refusals by number).
 use conflict::modes::Mode;
 use terms::letters::Ask;
 use terms::refusals::Refusal;
@@ -7,18 +7,18 @@ use terms::refusals::Refusal;
 pub enum Ending {
     // by commit or give-up: the place is free
     Closed,
-    // by the desk: the job keeps its number and its place
+    // by the desk: the job is sent back (aborted), and keeps its number and its place
     SentBack,
 }
 
-// What a step is to do: refuse, open a place for a new number, let the job go as it is, give it a mode, let it wait,
+// A step's move: refuse, open a place for a new number, let the job go as it is, give it a mode, let it wait,
 // end the run at a place, or let the job run again.
 pub enum Move {
-    // nothing, and why
+    // change nothing, and tell why
     Refuse(Refusal),
-    // a place gets a number, and runs
+    // a place gets a number, and its job runs
     Begin(usize, u32),
-    // nothing: the job has what it needs
+    // change nothing: the job has what it needs
     Keep,
     // a place gets a mode on the cell
     Take(usize, Mode),
@@ -38,7 +38,7 @@ pub enum Standing {
     Against(Refusal),
 }
 
-// The place of a job, and what the job there is doing.
+// The place of a job, and what the job is doing.
 pub struct Found {
     pub place: usize,
     pub code: u8,

@@ -10,13 +10,13 @@ ghost use mathlib.Core.Path.{_≡_};
 ghost use Rattle.desk_arrays.specs.declared.state.Start.the-variants.{Ready};
 ghost use Rattle.desk_arrays.specs.Steps.{emptyDesk, startOf, retriedJob};
 
-// So many rows of modes: one for each cell.
+// The number of rows of modes, one for each cell.
 pub const ROWS: usize = CELLS as usize;
-// So many modes: of every place on every cell.
+// The number of modes, one for each cell and place.
 pub const SPOTS: usize = ROWS * PLACES;
 
-// The desk: the next number; for each of the places the job's number, 0 where the place is free, what it is doing, and what it waits for;
-// and for each cell and place the mode that is held.
+// The desk: the next number; for each place the job's number (0 if the place is free), what the job is doing and what it waits for;
+// and for each cell and place the mode held.
 pub struct Desk {
     pub next: u64,
     pub number: [u32; PLACES],
@@ -33,28 +33,28 @@ pub struct Said {
     pub count: usize,
 }
 
-// What a step says where the wakes are told as places: the answer, and how many woke.
+// What a step says where the wakes are told as places: the answer, and the number of wakes.
 pub struct Told {
     pub answer: Answer,
     pub count: usize,
 }
 
-// What a step leaves and says.
+// The desk that a step leaves, and what it says.
 pub struct Outcome {
     pub desk: Desk,
     pub said: Said,
 }
 
-// A desk that was started, or why there is none.
+// A started desk, or why there is none.
 pub enum Start {
     // started
     Ready(Desk),
-    // not started: 10
+    // not started: refusal 10
     Refused(Refusal),
 }
 
 impl Desk {
-    // A desk whose places are all free; its next number is the one given.
+    // A desk whose places are all free, with this next number.
     fn empty(first: u32) -> Desk
         ensures { λ r. ⌜ r ≡ emptyDesk first ⌝ }
     {
@@ -68,7 +68,7 @@ impl Desk {
         }
     }
 
-    // The desk started at a first number; 0 is refused, and there is no desk (01, refusal 10).
+    // The desk started at this first number; 0 is refused, with no desk (01, refusal 10).
     pub fn start(first: u32) -> Start
         ensures { λ r. ⌜ r ≡ startOf first ⌝ }
     {
@@ -78,14 +78,14 @@ impl Desk {
         Start::Ready(Desk::empty(first))
     }
 
-    // The desk started at 1, the smallest number that there is: it is always handed out.
+    // The desk started at 1, the smallest first number; this never fails.
     pub fn first() -> Desk
         ensures { λ r. ⌜ Ready r ≡ startOf 1 ⌝ }
     {
         Desk::empty(1)
     }
 
-    // Rule 5: a sent back job runs again, holding nothing as before; for any other number nothing changes.
+    // Rule 5: a sent back job runs again, still holding nothing; for any other number nothing changes.
     pub fn retry(mut self, job: u32) -> Desk
         ensures { λ r. ⌜ r ≡ retriedJob self job ⌝ }
     {

@@ -1,4 +1,4 @@
--- What is answered to whoever asks for a job's chain, by what the job was found doing: which refusal is due, or the chain.
+-- What a request for a job's chain is answered, by what the job is doing: the refusal that is due, or the chain.
 -- Assumes nothing.
 use Prim.Native.Nat.{ℕ, _≤_, _<_}
 use mathlib.Core.Path.{_≡_, refl, ap, _∙_}

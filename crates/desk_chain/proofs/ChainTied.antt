@@ -1,4 +1,4 @@
--- THE CHAIN OVER THE ARRAYS IS THE PAPER'S: of every started desk that runs, for every job and every list lent (02, No. 3).
+-- THE CHAIN OVER THE ARRAYS IS THE PAPER'S, for every started desk that runs, every job and every lent list (02, No. 3).
 -- Assumes nothing.
 use Prim.Native.Nat.{ℕ, zero, suc, _<_, _≤_}
 use mathlib.Core.Path.{_≡_, refl, sym, ap, _∙_}

@@ -1,4 +1,4 @@
--- THE CHAINS OVER THE ARRAYS ARE THE PAPER'S: of every started desk that runs, those of all waiting jobs in ascending order (02, No. 3).
+-- THE CHAINS OVER THE ARRAYS ARE THE PAPER'S, for every started desk that runs: those of all waiting jobs, in ascending order (02, No. 3).
 -- Assumes nothing.
 use Prim.Native.Nat.{ℕ, zero, suc, _<_, _≤_}
 use mathlib.Core.Path.{_≡_, refl, sym, ap, _∙_}

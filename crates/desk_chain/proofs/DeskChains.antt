@@ -1,4 +1,4 @@
--- WHO ASKS A DESK THAT RUNS FOR A CHAIN: refused exactly where that is due, and else told the chain, of every started desk, for every job number and every list (02, No. 3).
+-- A CHAIN ASKED OF A DESK THAT RUNS: refused exactly when a refusal is due, else told, for every started desk, every job number and every list (02, No. 3).
 -- Assumes nothing.
 use Prim.Native.Nat.{ℕ, _≤_}
 use mathlib.Core.Path.{_≡_, sym, subst}

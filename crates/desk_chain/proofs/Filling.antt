@@ -1,4 +1,4 @@
--- A chain goes into a lent list job by job: the first place, and then the rest into the part behind it.
+-- A chain goes into a lent list job by job: one job into the first place, then the rest into the part behind it.
 -- Assumes nothing.
 use Prim.Native.Nat.{ℕ, suc, _+_, _-_, _≤_, _<_}
 use mathlib.Core.Path.{_≡_, refl, sym, ap, subst, _∙_}

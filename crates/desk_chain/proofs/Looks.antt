@@ -1,4 +1,4 @@
--- Each further look along a chain has fewer younger jobs left: so a chain is its first job and the chain of who is next, and is no longer than the younger jobs and one (02, No. 3).
+-- Each further look along a chain has fewer younger jobs left: so a chain is its first job and the chain of the next, and has at most one job more than there are younger jobs (02, No. 3).
 -- Assumes nothing.
 use Prim.Native.Nat.{ℕ, zero, suc, _≤_, _<_}
 use mathlib.Core.Path.{_≡_, refl, ap, _∙_}

@@ -1,4 +1,4 @@
--- Who is next after a waiting place, over the arrays, is the place of who is next after the waiter: the youngest in its way holds its cell and is younger (02, No. 3).
+-- The next place after a waiting place, over the arrays, is the place of the paper's next job: the youngest job in the waiter's way holds its cell and is younger (02, No. 3).
 -- Assumes nothing.
 use Prim.Native.Nat.{ℕ, _<_, _≤_}
 use mathlib.Core.Path.{_≡_, refl, sym, ap, subst, _∙_}

@@ -1,4 +1,4 @@
--- No second result and no second list meets the contract of who asks for a job's chain, and of who asks for the next chain.
+-- No second result and no second list meets the contract of `chain` and of `next_chain`.
 -- Assumes nothing.
 use mathlib.Core.Path.{sym, _∙_}
 use denote.Ref.{now}

@@ -1,4 +1,4 @@
--- The waiting places in ascending order of their numbers: the first above a number is that of the first waiting job above it (02, No. 3).
+-- The waiting places in ascending order of their numbers: the first above a number is the place of the first waiting job above it (02, No. 3).
 -- Assumes nothing.
 use Prim.Native.Nat.{ℕ, suc, _<_, _≤_}
 use mathlib.Core.Path.{_≡_, refl, sym, ap, _∙_}

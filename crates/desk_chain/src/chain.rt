@@ -1,4 +1,4 @@
-// The chain of a job: the youngest that is in its way, the youngest that is in that one's way, and so on until a job that is running (02, No. 3).
+// The chain of a job: the youngest job in its way, the youngest in that one's way, and so on to a running job (02, No. 3).
 use conflict::modes::mode_is_free;
 use conflict::modes::mode_of;
 use desk_arrays::codes::FREE;
@@ -20,7 +20,7 @@ ghost use Rattle.terms.specs.Limits.{cells, places};
 ghost use Rattle.desk_rules.specs.Chain.{youngerThan};
 ghost use Rattle.desk_chain.specs.Chains.{holdsAbove, holderAbove, nextAt, chainFrom, askedOn, waitsWithin, waiterAbove, nextChain};
 
-// Whether a place holds the cell, under a number above the one given.
+// Whether the place holds the cell and its number is above `age`.
 fn holds_above<'a>(
     number: &'a [u32; PLACES],
     held: &'a [u8; SPOTS],
@@ -37,7 +37,7 @@ fn holds_above<'a>(
     age < number[q]
 }
 
-// The place of the youngest that holds the cell, of those younger than the job, or 32; the job's own hold is thereby left out.
+// The place of the youngest holder of the cell that is younger than the job, or 32; this leaves out the job's own hold.
 fn holder_above<'a>(number: &'a [u32; PLACES], held: &'a [u8; SPOTS], c: usize, job: u32) -> usize
     requires { ⌜ (c < cells) × (length (now number) ≡ places) ⌝ }
     ensures { λ r. ⌜ r ≡ holderAbove (now (number .entry)) (now (held .entry)) c job places ⌝ }
@@ -62,7 +62,7 @@ fn wide(byte: u8) -> usize
     byte as usize
 }
 
-// The place of who is next after the job at a place, or 32: nobody where it does not wait for a cell that there is.
+// The place of the next job after the one at this place, or 32 if that one does not wait for a cell from 0 to 63.
 fn next_at<'a>(
     number: &'a [u32; PLACES],
     status: &'a [u8; PLACES],
@@ -83,8 +83,8 @@ fn next_at<'a>(
     PLACES
 }
 
-// Puts the chain of the job at a place into the first places of the list, and tells how many jobs it has. It calls itself for who is next, over the later places:
-// numbers rise along a chain, so each further look has fewer younger jobs left, and so it ends.
+// Puts the chain of the job at a place into the first places of the list, and tells how many jobs it has. It calls itself for the next job, over the later places.
+// It ends because numbers rise along a chain, so each further look has fewer younger jobs left.
 fn follow<'a>(
     number: &'a [u32; PLACES],
     status: &'a [u8; PLACES],
@@ -105,7 +105,7 @@ fn follow<'a>(
     1
 }
 
-// Who asks a desk for the chain of a job, with a list lent for it: 3, then 5, then 18, and the list is as it was;
+// Asks for the chain of a job, with a lent list: refusal 3, then 5, then 18, with the list unchanged;
 // else the chain stands in the list's first places, the answer is how many jobs it has, and the unused places stay.
 pub fn chain(d: Desk, job: u32, list: &mut [u32]) -> Chained
     ensures { λ r. ⌜ (r ≡ askedOn d job (now (list .entry)) .said) × (now (list .exit) ≡ askedOn d job (now (list .entry)) .list) ⌝ }
@@ -123,14 +123,14 @@ pub fn chain(d: Desk, job: u32, list: &mut [u32]) -> Chained
     Chained::Jobs(follow(&d.number, &d.status, &d.cell, &d.held, f.place, list))
 }
 
-// A job's number, beside which there is room for one above all.
+// A job's number with room for one above all.
 fn long(job: u32) -> u64
     ensures { λ r. ⌜ r ≡ job ⌝ }
 {
     job as u64
 }
 
-// Whether a place waits, under a number above `last` and below `least`.
+// Whether the place waits and its number is above `last` and below `least`.
 fn waits_within<'a>(
     number: &'a [u32; PLACES],
     status: &'a [u8; PLACES],
@@ -169,8 +169,8 @@ fn waiter_above<'a>(number: &'a [u32; PLACES], status: &'a [u8; PLACES], last: u
     best
 }
 
-// The chain of the first waiting job with a number above `last` goes into the first places of the list; told is how many jobs it has, 0 where nobody is left.
-// Who begins with 0, and goes on with the first job of the chain told last, gets the chains of all waiting jobs, in ascending order.
+// Puts the chain of the first waiting job with a number above `last` into the first places of the list; tells how many jobs it has, or 0 if no such job waits.
+// Start with 0 and go on with the first job of the last chain told: this gives the chains of all waiting jobs, in ascending order.
 pub fn next_chain(d: Desk, last: u32, list: &mut [u32; PLACES]) -> usize
     ensures { λ r. ⌜ (r ≡ length (nextChain d last)) × (now (list .exit) ≡ filled (nextChain d last) (now (list .entry))) ⌝ }
 {

@@ -1,4 +1,4 @@
--- Rules 1 to 3, way by way: each way of the code, with the tests that lead there, gives the move that the definition decides.
+-- Rules 1 to 3, branch by branch: each branch of the code, with the tests that lead there, gives the move that the definition decides.
 -- Assumes nothing.
 use Prim.Native.Nat.{ℕ}
 use mathlib.Core.Path.{_≡_}

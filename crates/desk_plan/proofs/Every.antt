@@ -1,4 +1,4 @@
--- Laws of a test over all places: a loop that passes place after place, and stops at the first that fails, decides it.
+-- Laws of a test over all places: a loop that goes from place to place and stops at the first failure decides it.
 -- Assumes nothing.
 use Prim.Native.Nat.{ℕ, zero, suc, _+_, _<_}
 use mathlib.Core.Path.{_≡_, refl, sym, ap, _∙_}

@@ -1,4 +1,4 @@
--- How a loop over the places finds the one with the best number: it keeps the best place so far, and that one's number.
+-- How a loop over the places finds the place with the best number: it keeps the best place so far and its number.
 -- Assumes nothing.
 use Prim.Native.Nat.{ℕ, suc, _+_, _<_}
 use mathlib.Core.Path.{_≡_, refl, sym, _∙_}

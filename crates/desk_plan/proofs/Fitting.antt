@@ -1,4 +1,4 @@
--- A plan speaks of places and cells that there are: an open job has a place, and rules 1 to 3 are asked for a cell below 64 alone.
+-- A plan names only places and cells that exist: an open job has a place, and rules 1 to 3 are asked only for a cell below 64.
 -- Assumes nothing.
 use Prim.Native.Nat.{ℕ, _<_}
 use mathlib.Core.Path.{_≡_, refl}

@@ -1,4 +1,4 @@
--- Whom rule 4 grants next, way by way: each way of the code, with the tests that lead there, gives what the definition says.
+-- Rule 4's next grant, branch by branch: each branch of the code, with the tests that lead there, gives what the definition says.
 -- Assumes nothing.
 use Prim.Native.Nat.{ℕ, _≤_, _<_}
 use mathlib.Core.Path.{_≡_}

@@ -1,4 +1,4 @@
--- An open job has a place: what a job is doing tells that its place is below 32.
+-- An open job has a place below 32.
 -- Assumes nothing.
 use Prim.Native.Nat.{ℕ, _≤_, _<_}
 use mathlib.Core.Path.{_≡_, sym, _∙_}

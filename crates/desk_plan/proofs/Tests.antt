@@ -1,4 +1,4 @@
--- Tests joined by &&, taken one after the other as code does.
+-- Tests joined by &&, taken one after the other as the code takes them.
 -- Assumes nothing.
 use mathlib.Core.Path.{_≡_, refl, sym}
 use mathlib.Core.Bool.{Bool, true, false, _&&_}

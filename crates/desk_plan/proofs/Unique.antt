@@ -1,4 +1,4 @@
--- No second result meets the contracts of the plan, of where a job stands, of whether nobody waits, of the cells that somebody waits for and of the next grant.
+-- No second result meets the contract of the plan, of a job's place, of "nobody waits", of the cells with waiters and of the next grant.
 -- Assumes nothing.
 use mathlib.Core.Path.{sym, _∙_}
 use Rattle.laws.specs.Unique.{Unique}

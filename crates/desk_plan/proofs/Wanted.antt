@@ -1,4 +1,4 @@
--- Laws of the cells that somebody waits for: how a loop over the places marks them, and that nobody waits for one that is not marked.
+-- The cells with waiters: how a loop over the places marks them; nobody waits for an unmarked cell.
 -- Assumes nothing.
 use Prim.Native.Nat.{ℕ, zero, suc, _+_, _≤_, _<_}
 use mathlib.Core.Path.{_≡_, refl, sym, ap, _∙_}

@@ -1,4 +1,4 @@
-// What rule 4 has to find out: the cells that somebody waits for, and who is granted next on one (01, rule 4).
+// What rule 4 has to find out: the cells with waiters, and the next grant on a cell (01, rule 4).
 use crate::places::agrees;
 use crate::places::front_of;
 use crate::places::mode_at;
@@ -19,13 +19,13 @@ ghost use Rattle.desk_arrays.specs.Places.{wantsAt};
 ghost use Rattle.desk_plan.specs.Grants.{noneWaits, wanted, nextGrant};
 ghost use Rattle.terms.specs.Limits.{cells, places};
 
-// Who is granted next: nobody, or a place, with the mode that it gets.
+// The next grant: nobody, or a place and the mode that it gets.
 pub enum Grant {
     Nobody,
     To(usize, Mode),
 }
 
-// Whether nobody waits, for whatever cell.
+// Whether nobody waits for any cell.
 pub fn none_waits(status: &[u8; PLACES]) -> bool
     ensures { λ r. ⌜ r ≡ noneWaits (now (status .entry)) ⌝ }
 {
@@ -40,7 +40,7 @@ pub fn none_waits(status: &[u8; PLACES]) -> bool
     none
 }
 
-// The cells that somebody waits for.
+// The cells with waiters.
 pub fn wanted_cells<'a>(status: &'a [u8; PLACES], cell: &'a [u8; PLACES]) -> [bool; ROWS]
     ensures { λ r. ⌜ r ≡ wanted (now (status .entry)) (now (cell .entry)) places ⌝ }
 {
@@ -66,7 +66,7 @@ fn wanted_mode(held: &[u8; SPOTS], c: usize, p: usize, a: Ask) -> Mode
     asked_mode(mode_at(held, c, p), needed_mode(a))
 }
 
-// The front of a cell's queue, if what it asks for agrees with the other holders; nobody where there is no such cell.
+// The front of a cell's queue, if its mode agrees with the other holders; nobody, if there is no such cell.
 pub fn front_grant<'a>(
     number: &'a [u32; PLACES],
     status: &'a [u8; PLACES],

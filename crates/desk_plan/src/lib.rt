@@ -1,4 +1,4 @@
-// What a step of the desk has to find out before anything changes: its plan, and for rule 4 who is granted next.
+// What a step of the desk has to find out before anything changes: its plan, and the next grant of rule 4.
 pub mod grants;
 mod places;
 pub mod plan;

@@ -1,4 +1,4 @@
-// Tests over the places of the desk: who holds a cell beside whom, who is older, who waits (01, rules 2 to 4).
+// Tests over the places of the desk: who holds a cell, who is older, who waits (01, rules 2 to 4).
 use conflict::modes::Mode;
 use conflict::modes::NOTHING;
 use conflict::modes::mode_grants;
@@ -17,7 +17,7 @@ ghost use Rattle.desk_plan.specs.Grants.{noneHolds};
 ghost use Rattle.desk_arrays.specs.Places.{modeAt, agreesAt, olderAt, waitsAt, nobodyWaits, oldestOf, youngest};
 ghost use Rattle.terms.specs.Limits.{cells, places};
 
-// Numbers and statuses of as many places as there are: what a lent array does not say of itself.
+// Called for its contract alone: numbers and statuses have an entry for each place, which a lent array does not say by itself.
 pub fn sized(number: [u32; PLACES], status: [u8; PLACES]) -> bool
     ensures { λ r. ⌜ (length number ≡ places) × (length status ≡ places) ⌝ }
 {
@@ -32,7 +32,7 @@ pub fn mode_at(held: &[u8; SPOTS], c: usize, p: usize) -> Mode
     mode_of(held[c * PLACES + p])
 }
 
-// Whether a place is the job's own, or what it holds on the cell lets the mode be granted.
+// True if the place is the job's own, or its held mode lets the mode be granted.
 fn grants_at(held: &[u8; SPOTS], c: usize, p: usize, m: Mode, q: usize) -> bool
     requires { ⌜ (c < cells) × (q < places) ⌝ }
     ensures { λ r. ⌜ r ≡ (eqb q p || grants (modeAt (now (held .entry)) c q) m) ⌝ }
@@ -43,7 +43,7 @@ fn grants_at(held: &[u8; SPOTS], c: usize, p: usize, m: Mode, q: usize) -> bool
     mode_grants(mode_at(held, c, q), m)
 }
 
-// Whether a mode agrees with what every other place holds on the cell.
+// Whether the mode agrees with what every other place holds on the cell.
 pub fn agrees(held: &[u8; SPOTS], c: usize, p: usize, m: Mode) -> bool
     requires { ⌜ c < cells ⌝ }
     ensures { λ r. ⌜ r ≡ agreesAt (now (held .entry)) c p m ⌝ }
@@ -58,7 +58,7 @@ pub fn agrees(held: &[u8; SPOTS], c: usize, p: usize, m: Mode) -> bool
     true
 }
 
-// Whether nobody holds the cell: every number of its row is that of nothing.
+// Whether nobody holds the cell: every mode in its row is "none".
 fn none_holds(held: &[u8; SPOTS], c: usize) -> bool
     requires { ⌜ c < cells ⌝ }
     ensures { λ r. ⌜ r ≡ noneHolds (now (held .entry)) c ⌝ }
@@ -74,7 +74,7 @@ fn none_holds(held: &[u8; SPOTS], c: usize) -> bool
     none
 }
 
-// The same; mostly nobody holds the cell, and one look over its row tells so.
+// The same, faster: mostly nobody holds the cell, and one look over its row shows it.
 pub fn goes_beside(held: &[u8; SPOTS], c: usize, p: usize, m: Mode) -> bool
     requires { ⌜ c < cells ⌝ }
     ensures { λ r. ⌜ r ≡ agreesAt (now (held .entry)) c p m ⌝ }
@@ -85,7 +85,7 @@ pub fn goes_beside(held: &[u8; SPOTS], c: usize, p: usize, m: Mode) -> bool
     agrees(held, c, p, m)
 }
 
-// Whether a place is the job's own, holds nothing on the cell, or is that of a younger job.
+// True if the place is the job's own, holds nothing on the cell, or its job is younger.
 fn older_at<'a>(
     held: &'a [u8; SPOTS],
     number: &'a [u32; PLACES],
@@ -106,7 +106,7 @@ fn older_at<'a>(
     job < number[q]
 }
 
-// Whether the job, at place p, is older than every other holder of the cell.
+// Whether the job at place p is older than every other holder of the cell.
 pub fn older_than_holders<'a>(
     held: &'a [u8; SPOTS],
     number: &'a [u32; PLACES],
@@ -134,7 +134,7 @@ pub fn wide(byte: u8) -> usize
     byte as usize
 }
 
-// Whether a place waits for the cell; few places have its number, so that is looked at first.
+// Whether the place waits for the cell; the cell is tested first, since few places have it.
 pub fn waits_for<'a>(status: &'a [u8; PLACES], cell: &'a [u8; PLACES], c: usize, q: usize) -> bool
     requires { ⌜ q < places ⌝ }
     ensures { λ r. ⌜ r ≡ waitsAt (now (status .entry)) (now (cell .entry)) c q ⌝ }
@@ -160,7 +160,7 @@ pub fn nobody_waits<'a>(status: &'a [u8; PLACES], cell: &'a [u8; PLACES], c: usi
     nobody
 }
 
-// Whether a place does not wait for the cell, or is that of a younger job.
+// True if the place is not waiting for the cell, or its job is younger.
 fn waits_older<'a>(
     number: &'a [u32; PLACES],
     status: &'a [u8; PLACES],
@@ -198,7 +198,7 @@ pub fn older_than_waiters<'a>(
     true
 }
 
-// Whether a place waits for the cell with a number above the one given.
+// Whether the place waits for the cell and its number is above `age`.
 fn waits_above<'a>(
     number: &'a [u32; PLACES],
     status: &'a [u8; PLACES],
@@ -216,7 +216,7 @@ fn waits_above<'a>(
     false
 }
 
-// The place of the youngest that waits for the cell, or 32: the front of its queue.
+// The place of the youngest job waiting for the cell (the front of its queue), or 32.
 pub fn front_of<'a>(
     number: &'a [u32; PLACES],
     status: &'a [u8; PLACES],

@@ -36,7 +36,7 @@ ghost use Rattle.desk_arrays.specs.Places.{modeAt, nobodyWaits, agreesAt, older
 ghost use Rattle.desk_arrays.specs.Moves.{foundAt, standingOf, beginMove, commitMove, giveUpMove, retryMove, promotes, enters, decided, askMove, moveFor};
 ghost use Rattle.terms.specs.Limits.{cells, places};
 
-// Where a job stands, and what it is doing: nothing for 0, and for a number that no place has.
+// Where a job stands, and what the job is doing; nothing, for 0 and for a number at no place.
 pub fn find<'a>(number: &'a [u32; PLACES], status: &'a [u8; PLACES], job: u32) -> Found
     ensures { λ r. ⌜ r ≡ foundAt (now (number .entry)) (now (status .entry)) job ⌝ }
 {
@@ -54,7 +54,7 @@ pub fn find<'a>(number: &'a [u32; PLACES], status: &'a [u8; PLACES], job: u32) -
     Found { place, code: FREE }
 }
 
-// The tests 3, 4 and 5.
+// Refusals 3, 4 and 5.
 fn standing_of(code: u8) -> Standing
     ensures { λ r. ⌜ r ≡ standingOf code ⌝ }
 {
@@ -70,7 +70,7 @@ fn standing_of(code: u8) -> Standing
     Standing::Runs
 }
 
-// Rule 3, to go: the queue is empty and the mode agrees with every holder.
+// Rule 3, go: the queue is empty and the mode agrees with every holder.
 fn may_take<'a>(
     held: &'a [u8; SPOTS],
     status: &'a [u8; PLACES],
@@ -88,7 +88,7 @@ fn may_take<'a>(
     false
 }
 
-// Rule 3, to wait: the job is older than every holder and every waiter.
+// Rule 3, wait: the job is older than every holder and every waiter.
 fn may_wait<'a>(
     held: &'a [u8; SPOTS],
     number: &'a [u32; PLACES],
@@ -131,7 +131,7 @@ fn enter<'a>(
     Move::End(p, Ending::SentBack)
 }
 
-// Rule 2: a job that holds another mode goes where the mode that it asks for agrees with every other holder.
+// Rule 2: a job that holds another mode goes if its new mode agrees with every other holder.
 fn promote<'a>(
     held: &'a [u8; SPOTS],
     number: &'a [u32; PLACES],
@@ -154,7 +154,7 @@ fn promote<'a>(
     Move::End(p, Ending::SentBack)
 }
 
-// Rules 1 to 3: what becomes of a request for a cell.
+// Rules 1 to 3: the decision on a request for a cell.
 fn decide<'a>(
     held: &'a [u8; SPOTS],
     number: &'a [u32; PLACES],
@@ -178,7 +178,7 @@ fn decide<'a>(
     promote(held, number, p, c, job, a, mine)
 }
 
-// Begin: 7, then 6, else the next number at the first free place.
+// Begin: refusal 7, then 6, else the next number at the first free place.
 fn begin_move(next: u64, number: &[u32; PLACES]) -> Move
     ensures { λ r. ⌜ r ≡ beginMove next (now (number .entry)) ⌝ }
 {
@@ -188,7 +188,7 @@ fn begin_move(next: u64, number: &[u32; PLACES]) -> Move
     }
 }
 
-// Commit: 3, 4, 5, else the run ends.
+// Commit: refusals 3, 4, 5, else the run ends.
 fn commit_move(f: Found) -> Move
     ensures { λ r. ⌜ r ≡ commitMove f ⌝ }
 {
@@ -198,7 +198,7 @@ fn commit_move(f: Found) -> Move
     }
 }
 
-// Give-up: 3, else the run ends.
+// Give-up: refusal 3, else the run ends.
 fn give_up_move(f: Found) -> Move
     ensures { λ r. ⌜ r ≡ giveUpMove f ⌝ }
 {
@@ -208,7 +208,7 @@ fn give_up_move(f: Found) -> Move
     Move::End(f.place, Ending::Closed)
 }
 
-// Retry: 3, 4, 8, else the job runs again.
+// Retry: refusals 3, 4, 8, else the job runs again.
 fn retry_move(f: Found) -> Move
     ensures { λ r. ⌜ r ≡ retryMove f ⌝ }
 {
@@ -224,7 +224,7 @@ fn retry_move(f: Found) -> Move
     Move::Refuse(Refusal::Running)
 }
 
-// Read, write, increment and u: 3, 4, 5, 2, else what the rules decide.
+// Read, write, increment and u: refusals 3, 4, 5, 2, else what the rules decide.
 fn ask_move<'a>(
     held: &'a [u8; SPOTS],
     number: &'a [u32; PLACES],
@@ -249,7 +249,7 @@ fn ask_move<'a>(
     }
 }
 
-// What a request is to do, by its letter.
+// The move of a request, by its letter.
 pub fn plan_for<'a>(
     next: u64,
     number: &'a [u32; PLACES],

@@ -1,4 +1,4 @@
--- From what the scan tells and what is decided to the judgement: a short buffer, a faultless text, a faulty line.
+-- From the scan and the decision to the judgement: a short buffer, a faultless text, a faulty line.
 -- Assumes nothing.
 use Prim.Native.Nat.{ℕ, _+_, _-_, _≤_, _<_}
 use mathlib.Core.Path.{_≡_, refl, sym, ap, _∙_, subst}

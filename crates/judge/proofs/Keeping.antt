@@ -1,4 +1,4 @@
--- A line that is kept: what is kept says what the line says, and the flags say after it who has ended.
+-- A line that is kept: the kept numbers say what the line says, and the flags after it say which jobs have ended.
 -- Assumes nothing.
 use Prim.Native.Nat.{ℕ, _≤_, _<_}
 use mathlib.Core.Path.{_≡_, refl, sym, _∙_}

@@ -1,4 +1,4 @@
--- The arrays that keep a history: one more line put behind those that are kept.
+-- The arrays that keep a history: one more line put behind those kept so far.
 -- Assumes nothing.
 use Prim.Native.Nat.{ℕ, zero, suc, _+_, _≤_, _<_}
 use mathlib.Core.Path.{_≡_, refl}

@@ -1,4 +1,4 @@
--- What is said of the lines that a faultless text leaves in the arrays is the judgement on the text.
+-- The verdict on the lines that a faultless text leaves in the arrays is the judgement on the text.
 -- Assumes nothing.
 use Prim.Native.Nat.{ℕ, _≤_, _<_}
 use mathlib.Core.Path.{_≡_, refl, sym, ap, _∙_, subst}

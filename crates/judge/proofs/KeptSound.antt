@@ -1,4 +1,4 @@
--- A text without a faulty line says a history without one: what the judge has let pass is not refused again.
+-- A text without a faulty line says a history without one: what the judge has accepted is not refused again.
 -- Assumes nothing.
 use Prim.Native.Nat.{ℕ, suc, _≤_}
 use mathlib.Core.Path.{_≡_, refl, sym, ap, _∙_}

@@ -1,4 +1,4 @@
--- Looking at one line: it is refused as the paper says, 11, 9, 12, 2, 13, and else it is kept.
+-- Looking at one line: it is refused as the paper says, with 11, 9, 12, 2 or 13, or else kept.
 -- Assumes nothing.
 use Prim.Native.Nat.{ℕ, _<_}
 use mathlib.Core.Path.{_≡_, refl, sym, ap, _∙_}

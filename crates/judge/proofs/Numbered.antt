@@ -1,4 +1,4 @@
--- A verdict in four numbers: each case has its numbers, and the numbers of a small one fit 32 bits.
+-- A verdict in four numbers: each case has its numbers, and those of a small verdict fit 32 bits.
 -- Assumes nothing.
 use Prim.Native.Nat.{ℕ}
 use mathlib.Core.Path.{_≡_, subst}

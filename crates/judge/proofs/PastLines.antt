@@ -1,4 +1,4 @@
--- Where scanning stands in the text: behind the lines that are kept, and before all others (01, Lines).
+-- Where the scan stands in the text: behind the kept lines, and before all others (01, Lines).
 -- Assumes nothing.
 use Prim.Native.Nat.{ℕ, _+_, _-_}
 use mathlib.Core.Path.{_≡_, refl, sym, ap, _∙_}

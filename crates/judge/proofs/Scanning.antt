@@ -1,4 +1,4 @@
--- Scanning a text line by line: what is left decides as the whole does, and what is kept stands before what is left.
+-- Scanning a text line by line: what is left decides as the whole does, and the kept lines stand before what is left.
 -- Assumes nothing.
 use Prim.Native.Nat.{ℕ, _+_, _-_, _≤_, _<_}
 use mathlib.Core.Path.{_≡_, refl, sym, ap, _∙_}

@@ -1,4 +1,4 @@
--- What the judge finds before it is handed out: the judgement, with the place of the line handed back in the text (01, Lines).
+-- What the judge finds before it is handed out: the judgement, and the place in the text of the line handed back (01, Lines).
 use Prim.Native.Nat.{ℕ, _+_, _^_, _≤_, _<_}
 use mathlib.Core.Path.{_≡_}
 use mathlib.Core.List.{List}
@@ -9,14 +9,14 @@ use Rattle.judge_rules.specs.declared.verdict.Verdict.the-variants.{Orderly, Kn
 use Rattle.judge_rules.specs.Judgement.{judgementOf, lineFrom}
 use Rattle.judge.specs.declared.entry.Judged.{Judged}
 
--- the numbers of a verdict are small enough for four places of 32 bits; reader and writer are bytes already, and so are a refusal's number and field
+-- the numbers of a verdict fit 32 bits each; reader, writer, a refusal's number and its field are bytes already
 abbrev pub Small : Verdict → Type 0
 Small (Orderly n) = n < 2 ^ 32
 Small (Knot n) = n < 2 ^ 32
 Small (Dirty reader writer) = Unit {0}
 Small (No line why) = line < 2 ^ 32
 
--- what is found of a text and a buffer is the judgement, and the line handed back stands in the text
+-- the result for a text and a buffer is the judgement, and the line handed back stands in the text
 pub record JudgedAs (text before after : List ℕ) (r : Judged) : Type 0 where
   pub said-is : r .said ≡ judgementOf text before .said
   pub order-is : after ≡ judgementOf text before .order
@@ -25,6 +25,6 @@ pub record JudgedAs (text before after : List ℕ) (r : Judged) : Type 0 where
   pub starts : r .from ≡ lineFrom text (r .said)
   pub place : part text (r .from) (r .to) ≡ judgementOf text before .line
 
--- where in memory the part handed back starts, by the place of the lent text's first byte: in the same block, and as much further in it as the line stands in the text (01, Lines)
+-- where in memory the part handed back starts: in the lent text's block, as far from its first byte as the line stands in the text (01, Lines)
 abbrev pub linePlace : ℕ × ℕ → List ℕ → List ℕ → ℕ × ℕ
 linePlace place text buffer = (place .0, place .1 + lineFrom text (judgementOf text buffer .said))

@@ -1,4 +1,4 @@
--- What scanning a history text tells: its history as three arrays keep it, or its first faulty line (01, Refusals by number).
+-- What scanning a history text tells: the history as three arrays keep it, or the first faulty line (01, Refusals by number).
 use Prim.Native.Nat.{ℕ, _-_, _≤_, _<_}
 use mathlib.Core.Path.{_≡_}
 use mathlib.Core.List.{List, []}
@@ -16,7 +16,7 @@ use Rattle.judge_rules.specs.Arrays.{historyBy}
 use Rattle.judge.specs.declared.scan.Scanned.{Scanned}
 use Rattle.judge.specs.declared.scan.Scanned.the-variants.{Faultless, Faulty}
 
--- the place after a line's last byte that is no newline, where the line ends before a place
+-- where a line that ends before this place ends without its newline
 unfoldable pub bareEnd : List ℕ → ℕ → ℕ
 bareEnd text to = pick (eqb (getD text (to - 1) 0) newline) (to - 1) to
 
@@ -35,7 +35,7 @@ pub record Spoilt (text : List ℕ) (number : ℕ) (why : Refusal) (from to : �
   pub place : part text from to ≡ bare (lineAt (linesOf text) number)
   pub behind : from ≡ length (joined (linesBefore (linesOf text) number))
 
--- what is told of a text, with the arrays beside it
+-- what is told of a text, with the arrays
 abbrev pub ScannedAs : List ℕ → List ℕ → List ℕ → List ℕ → Scanned → Type 0
 ScannedAs text codes jobs cells (Faultless n) = Clean text codes jobs cells n
 ScannedAs text codes jobs cells (Faulty number why from to) = Spoilt text number why from to

@@ -1,4 +1,4 @@
-// The judge's entries: one tells the verdict, and two the faulty line too, with the verdict in four numbers: as a part of the text, and as its place there (01, The judge's rules; 02, No. 5).
+// The judge's entries. One gives the verdict; two give it in four numbers with the faulty line: as a part of the text, or as its place there (01, The judge's rules; 02, No. 5).
 use crate::scan::Scanned;
 use crate::scan::scan;
 use judge_core::kept::judge_kept;
@@ -14,20 +14,20 @@ ghost use lib.ListN.{length};
 ghost use Rattle.judge_rules.specs.Judgement.{judgementOf, lineFrom, inNumbers};
 ghost use Rattle.judge.specs.Judged.{Small, JudgedAs, linePlace};
 
-// What is said, and where in the text the line handed back stands; at the text's start and empty where no line is.
+// What is said, and where in the text the line handed back stands: at the text's start and empty, if there is none.
 struct Judged {
     said: Verdict,
     from: usize,
     to: usize,
 }
 
-// Where in the text the faulty line stands: the place of its first byte, and how many bytes it has without its newline; 0 and 0 where none is faulty.
+// Where the faulty line stands in the text: the place of its first byte, and its length without the newline; 0 and 0 if no line is faulty.
 pub struct LineAt {
     pub from: usize,
     pub length: usize,
 }
 
-// The verdict on a text, with the place of the faulty line: 14 first, then the lines in order, then what they say.
+// The verdict on a text, with the place of the faulty line: refusal 14 first, then the lines in order, then what they say.
 fn judgement(text: &[u8], order: &mut [u8]) -> Judged
     ensures { λ r. ⌜ JudgedAs (now (text .entry)) (now (order .entry)) (now (order .exit)) r ⌝ }
 {
@@ -66,7 +66,7 @@ fn judgement(text: &[u8], order: &mut [u8]) -> Judged
     }
 }
 
-// A verdict in four numbers; the fourth is the field at fault of refusal 9, and else 0 (02, No. 5).
+// A verdict in four numbers; the fourth is the field at fault for refusal 9, else 0 (02, No. 5).
 fn in_numbers(said: Verdict) -> [u32; 4]
     requires { ⌜ Small said ⌝ }
     ensures { λ r. ⌜ r ≡ inNumbers said ⌝ }
@@ -79,7 +79,7 @@ fn in_numbers(said: Verdict) -> [u32; 4]
     }
 }
 
-// The verdict on a history text. Reader and writer of a dirty read, the order or the knot fill the first places of the buffer, and the rest stay; after a refusal all stay.
+// The verdict on a history text. Reader and writer of a dirty read, the order or the knot fill the buffer's first places; the rest stay, and after a refusal all stay.
 pub fn judge_text(text: &[u8], order: &mut [u8]) -> Verdict
     ensures said { λ r. ⌜ r ≡ judgementOf (now (text .entry)) (now (order .entry)) .said ⌝ }
     ensures order { λ r. ⌜ now (order .exit) ≡ judgementOf (now (text .entry)) (now (order .entry)) .order ⌝ }
@@ -88,7 +88,7 @@ pub fn judge_text(text: &[u8], order: &mut [u8]) -> Verdict
     found.said
 }
 
-// The same with the verdict in four numbers, and the faulty line handed back as it stands in the text, without its newline, behind the lines before it; an empty part at the text's start where none is faulty.
+// The same with the verdict in four numbers. The faulty line is handed back as the part of the text where it stands, without its newline; if none is faulty, an empty part at the text's start.
 pub fn judge<'a>(text: &'a [u8], order: &mut [u8], answer: &mut [u32; 4]) -> &'a [u8]
     ensures line { λ r. ⌜ now r ≡ judgementOf (now (text .entry)) (now (order .entry)) .line ⌝ }
     ensures place { λ r. ⌜ ptr r ≡ linePlace (ptr (text .entry)) (now (text .entry)) (now (order .entry)) ⌝ }
@@ -103,7 +103,7 @@ pub fn judge<'a>(text: &'a [u8], order: &mut [u8], answer: &mut [u32; 4]) -> &'a
     &text[from..to]
 }
 
-// The same for callers to whom no part of a text can be handed back: told is where in the text the faulty line stands.
+// The same for callers that cannot take a part of a text: tells where in the text the faulty line stands.
 pub fn judge_at(text: &[u8], order: &mut [u8], answer: &mut [u32; 4]) -> LineAt
     ensures from { λ r. ⌜ r .from ≡ lineFrom (now (text .entry)) (judgementOf (now (text .entry)) (now (order .entry)) .said) ⌝ }
     ensures length { λ r. ⌜ r .length ≡ length (judgementOf (now (text .entry)) (now (order .entry)) .line) ⌝ }

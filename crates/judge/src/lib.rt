@@ -1,4 +1,4 @@
-// The judge that runs: a history as text is scanned line by line, and what its lines say is decided (01, The judge's rules).
+// The judge that runs: scans a history text line by line, then decides on what its lines say (01, The judge's rules).
 pub mod entry;
 mod scan;
 

@@ -1,4 +1,4 @@
-// The scanning half of the judge: the lines of a history text in order, what each says kept as three numbers, up to the first faulty one (01, Refusals by number).
+// The scanning half of the judge: reads the lines of a history text in order, and keeps each as three numbers, up to the first faulty line (01, Refusals by number).
 use terms::letters::Ask;
 use terms::letters::Letter;
 use terms::limits::CELLS;
@@ -18,13 +18,13 @@ ghost use Rattle.text_rules.specs.Lines.{readLine};
 ghost use Rattle.judge.specs.Looked.{codeOf, endsJob, lookedGood, lookedAt};
 ghost use Rattle.judge.specs.Scanned.{bareEnd, ScannedAs};
 
-// What a line says, as it is kept: a number for read, write, increment, commit, give-up and sent back, the job, and the cell; or why the line is refused.
+// A line as it is kept: a code for read, write, increment, commit, give-up or sent back, the job, and the cell; or why the line is refused.
 pub enum Looked {
     Kept { code: u8, job: u8, cell: u8 },
     Refused(Refusal),
 }
 
-// How many lines are kept of a history without a fault; or the first faulty line: its number, its refusal, and its place in the text without its newline.
+// How many lines are kept of a faultless history; or the first faulty line: its number, its refusal, and its place in the text without its newline.
 pub enum Scanned {
     Faultless(usize),
     Faulty {
@@ -35,7 +35,7 @@ pub enum Scanned {
     },
 }
 
-// The number that is kept for a letter of a history; that of sent back for one that no history has.
+// The code of a history letter; that of sent back, for a letter that no history has.
 fn code_of(l: Letter) -> u8
     ensures { λ r. ⌜ r ≡ codeOf l ⌝ }
 {
@@ -54,14 +54,14 @@ fn code_of(l: Letter) -> u8
     }
 }
 
-// Whether no line of its job may follow: after a commit and a give-up.
+// Whether the job has ended for good: by a commit or a give-up.
 fn ends_job(code: u8) -> bool
     ensures { λ r. ⌜ r ≡ endsJob code ⌝ }
 {
     code == 3 || code == 4
 }
 
-// A good line, given the jobs that have committed or given up: 12, then 2, then 13. A letter without a cell is read with cell 0.
+// A well-formed line, given the jobs that have committed or given up: refusal 12, then 2, then 13. A letter without a cell has cell 0 here.
 fn look_good(ended: &[bool; 256], letter: Letter, job: u32, cell: u32) -> Looked
     ensures { λ r. ⌜ r ≡ lookedGood (now (ended .entry)) letter job cell ⌝ }
 {
@@ -84,7 +84,7 @@ fn look_good(ended: &[bool; 256], letter: Letter, job: u32, cell: u32) -> Looked
     }
 }
 
-// Line n of a history, given the jobs that have committed or given up: 11, then 9 with the field at fault, then what a good line has.
+// Line n of a history, given the jobs that have committed or given up: refusal 11, then 9 with the field at fault, then those of a well-formed line.
 fn look(line: &[u8], n: usize, ended: &[bool; 256]) -> Looked
     ensures { λ r. ⌜ r ≡ lookedAt n (now (ended .entry)) (readLine ofHistories (now (line .entry))) ⌝ }
 {
@@ -97,7 +97,7 @@ fn look(line: &[u8], n: usize, ended: &[bool; 256]) -> Looked
     }
 }
 
-// Where a line that ends before a place has its last byte that is no newline, and one more: the place itself, or the newline's.
+// Where a line that ends before this place ends without its newline: this place, or the newline's.
 fn bare_end(text: &[u8], to: usize) -> usize
     requires { ⌜ (0 < to) × (to ≤ length (now text)) ⌝ }
     ensures { λ r. ⌜ r ≡ bareEnd (now (text .entry)) to ⌝ }
@@ -106,7 +106,7 @@ fn bare_end(text: &[u8], to: usize) -> usize
     if text[last] == NEWLINE { last } else { to }
 }
 
-// The lines of a text in order, what they say put into three lent arrays, up to the first faulty line. That each array has its length is said since a clause sees a list.
+// Scans the lines of a text in order into three lent arrays, up to the first faulty line. The contract names each array's length, since a clause sees only a list.
 pub fn scan(
     text: &[u8],
     codes: &mut [u8; JUDGED_LINES],

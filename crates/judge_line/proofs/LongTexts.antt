@@ -1,4 +1,4 @@
--- One byte more than 65,536 is enough of any text: the verdict's line on it is that on the whole (01, refusal 16).
+-- The first 65,537 bytes of any text are enough: the verdict's line on them is that on the whole (01, refusal 16).
 -- Assumes nothing.
 use Prim.Native.Nat.{ℕ, _+_, _<_}
 use mathlib.Core.Path.{_≡_, sym, ap, _∙_}

@@ -1,4 +1,4 @@
--- A verdict's line by the verdict's cases, the verdict program's line by the text's length, and what is told and left of each.
+-- A verdict's line by the verdict's cases, and the verdict program's line by the text's length; what is told and left in each case.
 -- Assumes nothing.
 use Prim.Native.Nat.{ℕ, _≤_, _<_}
 use mathlib.Core.Path.{_≡_, refl, sym, ap, ap₂, _∙_}

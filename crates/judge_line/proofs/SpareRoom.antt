@@ -1,4 +1,4 @@
--- How much of a room is left after the fields of the first numbers, and whether they fit all.
+-- How much room is left after the fields of the first numbers, and whether all fields fit.
 -- Assumes nothing.
 use Prim.Native.Nat.{ℕ, _+_, _≤_, _<_}
 use mathlib.Core.Path.{_≡_, sym, ap}

@@ -1,4 +1,4 @@
--- Lines of a word and numbers: their parts, how many bytes they have, and whether they fit.
+-- Lines of a word and numbers: their parts, their lengths, and whether they fit.
 -- Assumes nothing.
 use Prim.Native.Nat.{ℕ, _+_, _-_, _^_, _≤_, _<_}
 use mathlib.Core.Path.{_≡_, refl, sym, ap, _∙_}

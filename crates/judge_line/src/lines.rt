@@ -1,4 +1,4 @@
-// Lines of a word and numbers: a line that fits is written whole, from the buffer's first byte on, and of one that does not nothing is written (01, The judge's rules; refusal 15).
+// Lines of a word and numbers: a line that fits is written whole, from the buffer's first byte on; of a line that does not fit nothing is written (01, The judge's rules; refusal 15).
 use terms::Refusal;
 use terms::Word;
 use terms::spelled;
@@ -18,7 +18,7 @@ ghost use Rattle.text_rules.specs.Decimal.{decimal};
 ghost use Rattle.text_rules.specs.Records.{told, left, tabbed, wordLine, given};
 ghost use Rattle.text_rules.specs.Wrote.{Wrote};
 
-// A word that there is room for, and the place after it.
+// Writes a word that fits; returns the place after it.
 fn put_word(out: &mut [u8], at: usize, word: Word) -> usize
     requires { ⌜ at + length (spelt word) ≤ length (now out) ⌝ }
     ensures { λ r. ⌜ Wrote at r (spelt word) (now (out .entry)) (now (out .exit)) ⌝ }
@@ -30,7 +30,7 @@ fn put_word(out: &mut [u8], at: usize, word: Word) -> usize
     }
 }
 
-// A further field that there is room for, and the place after it.
+// Writes a further field that fits; returns the place after it.
 fn put_field(out: &mut [u8], at: usize, n: u64) -> usize
     requires { ⌜ at + length (tab ∷ decimal n) ≤ length (now out) ⌝ }
     ensures { λ r. ⌜ Wrote at r (tab ∷ decimal n) (now (out .entry)) (now (out .exit)) ⌝ }
@@ -42,7 +42,7 @@ fn put_field(out: &mut [u8], at: usize, n: u64) -> usize
     }
 }
 
-// The newline, where there is room for it, and the place after it.
+// Writes the newline, which fits; returns the place after it.
 fn put_end(out: &mut [u8], at: usize) -> usize
     requires { ⌜ at < length (now out) ⌝ }
     ensures { λ r. ⌜ Wrote at r (newline ∷ []) (now (out .entry)) (now (out .exit)) ⌝ }
@@ -54,7 +54,7 @@ fn put_end(out: &mut [u8], at: usize) -> usize
     }
 }
 
-// Whether there is room for a field for each job; no sum is made that could wrap.
+// Whether a field for each job fits; no sum here can wrap.
 fn jobs_fit(jobs: &[u8], room: usize) -> bool
     ensures { λ r. ⌜ r ≡ leb (length (tabbed (now (jobs .entry)))) room ⌝ }
 {
@@ -71,7 +71,7 @@ fn jobs_fit(jobs: &[u8], room: usize) -> bool
     true
 }
 
-// A field for each job, where there is room for them, and the place after the last.
+// Writes a field for each job, all of which fit; returns the place after the last.
 fn put_jobs(out: &mut [u8], at: usize, jobs: &[u8]) -> usize
     requires { ⌜ at + length (tabbed (now jobs)) ≤ length (now out) ⌝ }
     ensures { λ r. ⌜ Wrote at r (tabbed (now (jobs .entry))) (now (out .entry)) (now (out .exit)) ⌝ }
@@ -85,7 +85,7 @@ fn put_jobs(out: &mut [u8], at: usize, jobs: &[u8]) -> usize
     next
 }
 
-// A word and jobs, tab before each.
+// Writes a word and jobs, with a tab before each job.
 pub fn write_jobs(out: &mut [u8], word: Word, jobs: &[u8]) -> Written
     ensures { λ r. ⌜ (r ≡ told (now (out .entry)) 0 (wordLine word (now (jobs .entry)))) × (now (out .exit) ≡ left (now (out .entry)) 0 (wordLine word (now (jobs .entry)))) ⌝ }
 {
@@ -104,14 +104,14 @@ pub fn write_jobs(out: &mut [u8], word: Word, jobs: &[u8]) -> Written
     }
 }
 
-// How many bytes a number has that is written where it is not 0: a tab and its digits, or none.
+// How many bytes an optional number takes: a tab and its digits, or 0 bytes if the number is 0.
 fn given_width(n: u64) -> usize
     ensures { λ r. ⌜ r ≡ length (tabbed (given n)) ⌝ }
 {
     if 0 < n { width(n) + 1 } else { 0 }
 }
 
-// A further field where the number is not 0 and there is room for it, and the place after it.
+// Writes a further field that fits, unless the number is 0; returns the place after it.
 fn put_given(out: &mut [u8], at: usize, n: u64) -> usize
     requires { ⌜ at + length (tabbed (given n)) ≤ length (now out) ⌝ }
     ensures { λ r. ⌜ Wrote at r (tabbed (given n)) (now (out .entry)) (now (out .exit)) ⌝ }
@@ -119,7 +119,7 @@ fn put_given(out: &mut [u8], at: usize, n: u64) -> usize
     if 0 < n { put_field(out, at, n) } else { at }
 }
 
-// The word no and its numbers, tab before each: a line number, a refusal's number, and the field at fault where it is not 0 (02, No. 5).
+// Writes the word no and its numbers, with a tab before each: line number, refusal, and the field at fault if it is not 0 (02, No. 5).
 pub fn write_no(out: &mut [u8], line: u64, number: u64, fault: u64) -> Written
     ensures { λ r. ⌜ (r ≡ told (now (out .entry)) 0 (wordLine No (line ∷ number ∷ given fault))) × (now (out .exit) ≡ left (now (out .entry)) 0 (wordLine No (line ∷ number ∷ given fault))) ⌝ }
 {

@@ -1,4 +1,4 @@
-// The verdict as a line: orderly or knot and the jobs, dirty and reader and writer, or no, line number, refusal, and of refusal 9 the field at fault (01, The judge's rules; 02, No. 2 and No. 5).
+// The verdict as a line: orderly or knot with the jobs; dirty with reader and writer; or no with line number and refusal, and for refusal 9 the field at fault (01, The judge's rules; 02, No. 2 and No. 5).
 use crate::lines::write_jobs;
 use crate::lines::write_no;
 use judge::entry::judge_text;
@@ -15,14 +15,14 @@ ghost use lib.ListN.{take};
 ghost use Rattle.text_rules.specs.Records.{told, left};
 ghost use Rattle.judge_rules.specs.VerdictLine.{sayLine, verdictOf};
 
-// The first n places of the order, or all where there are fewer.
+// The first n places of the order, or all if there are fewer.
 fn first_places(order: &[u8], n: usize) -> &[u8]
     ensures { λ r. ⌜ now r ≡ take n (now (order .entry)) ⌝ }
 {
     if n < order.len() { &order[0..n] } else { order }
 }
 
-// What the judge says of a history, with the jobs that it put into the order.
+// Writes the judge's verdict, with the jobs that it put into the order.
 pub fn write_verdict(said: Verdict, order: &[u8], out: &mut [u8]) -> Written
     ensures { λ r. ⌜ (r ≡ told (now (out .entry)) 0 (sayLine said (now (order .entry)))) × (now (out .exit) ≡ left (now (out .entry)) 0 (sayLine said (now (order .entry)))) ⌝ }
 {
@@ -39,7 +39,7 @@ pub fn write_verdict(said: Verdict, order: &[u8], out: &mut [u8]) -> Written
     }
 }
 
-// The verdict on a history text as a line; a text that is too long is refused before anything else is looked at.
+// Writes the verdict on a history text as a line; a text that is too long is refused before anything else.
 pub fn verdict_line(text: &[u8], out: &mut [u8]) -> Written
     ensures { λ r. ⌜ (r ≡ told (now (out .entry)) 0 (verdictOf (now (text .entry)))) × (now (out .exit) ≡ left (now (out .entry)) 0 (verdictOf (now (text .entry)))) ⌝ }
 {

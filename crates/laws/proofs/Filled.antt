@@ -1,4 +1,4 @@
--- Numbers put into the first places of a lent list: they stand there, the rest stays, and nothing else is like that; one number more, and others put over them.
+-- Numbers put into the first places of a lent list: they stand there, the rest is unchanged, and no other list is like that; one number more, and others put over them.
 -- Assumes nothing.
 use Prim.Native.Nat.{ℕ, suc, _+_, _-_, _≤_, _<_}
 use mathlib.Core.Path.{_≡_, sym, ap, ap₂, _∙_}

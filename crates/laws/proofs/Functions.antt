@@ -1,4 +1,4 @@
--- What a function of numbers is that is changed at one of them.
+-- The values of a function of numbers that is changed at one number.
 -- Assumes nothing.
 use Prim.Native.Nat.{ℕ}
 use mathlib.Core.Path.{_≡_, refl, sym, subst}

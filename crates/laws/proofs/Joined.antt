@@ -1,4 +1,4 @@
--- Lists joined: what an equation of two says of their parts, and of jobs who is in the whole.
+-- Joined lists: what an equation of two says of their parts, and which jobs are in the whole.
 -- Assumes nothing.
 use Prim.Native.Nat.{ℕ}
 use mathlib.Core.Path.{_≡_, refl, sym, ap, _∙_}

@@ -1,4 +1,4 @@
--- Laws of lists of numbers, such as jobs: who is in one, whether it names each once, where one stands in it, and one more in front.
+-- Laws of lists of numbers, such as jobs: membership, no repeats, positions, and one more in front.
 -- Assumes nothing.
 use Prim.Native.Nat.{ℕ, zero, suc, _<_}
 use mathlib.Core.Path.{_≡_, refl, sym, ap, subst, _∙_}

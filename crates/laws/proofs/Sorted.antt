@@ -1,4 +1,4 @@
--- Jobs put in ascending order: the same jobs, each once, and there is no other such list; of two of them the smaller stands ahead.
+-- Sorting jobs keeps the same jobs, each once, and no other ascending list has them; of two jobs, the smaller stands ahead.
 -- Assumes nothing.
 use Prim.Native.Nat.{ℕ, _≤_, _<_}
 use mathlib.Core.Path.{_≡_, refl, sym, ap, ap₂, _∙_}

@@ -1,4 +1,4 @@
--- Laws of what stands in a list: in none, in one more, in two put together.
+-- Laws of standing in a list: nothing stands in the empty list; one element more; two lists joined.
 -- Assumes nothing.
 use mathlib.Core.Path.{_≡_, refl, subst}
 use mathlib.Core.List.{List, [], _∷_, _++_}

@@ -1,4 +1,4 @@
--- What walks by hand of functions share: the locals at their blocks, and a test of the machine's as a Bool.
+-- Shared by proofs that walk a function by hand: the locals at each block, and a machine test as a Bool.
 -- Assumes nothing.
 use Prim.Native.Nat.{ℕ}
 use mathlib.Core.Path.{_≡_, refl}

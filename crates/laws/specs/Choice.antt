@@ -1,31 +1,31 @@
--- Choosing by a test: `pick`, the laws that close a branch of code against it, and the few facts on Bool that proofs use again and again.
+-- Choosing by a test: `pick`, the laws that prove a branch of code against it, and the few facts on Bool that proofs use again and again.
 -- Assumes nothing.
 use mathlib.Core.Path.{_≡_, refl, sym, _∙_, subst}
 use mathlib.Core.Bool.{Bool, true, false}
 use borrow.Author.Tests.{eq-eqb, ne-eqb, lt-ltb, le-ltb, le-leb, lt-leb}
 
--- the first where the test holds, else the second
+-- the first value if the test holds, else the second
 abbrev pub pick : {A : Type 0} → Bool → A → A → A
 pick true x y = x
 pick false x y = y
 
--- a result is the first way of a choice whose test holds
+-- if the test holds, a result equal to the first value is the choice
 pub pick-then : {A : Type 0} (b : Bool) (r x y : A) → b ≡ true → r ≡ x → r ≡ pick b x y
 pick-then b r x y e h = simp e h
 
--- a result is the second way of a choice whose test fails
+-- if the test fails, a result equal to the second value is the choice
 pub pick-else : {A : Type 0} (b : Bool) (r x y : A) → b ≡ false → r ≡ y → r ≡ pick b x y
 pick-else b r x y e h = simp e h
 
--- a test that was computed elsewhere, and held
+-- a test holds if one computed elsewhere equals it and holds
 pub was-true : {a : Bool} (b : Bool) → a ≡ b → a ≡ true → b ≡ true
 was-true b e h = sym e ∙ h
 
--- a test that was computed elsewhere, and failed
+-- a test fails if one computed elsewhere equals it and fails
 pub was-false : {a : Bool} (b : Bool) → a ≡ b → a ≡ false → b ≡ false
 was-false b e h = sym e ∙ h
 
--- what closes a return of code that branches as its definition does
+-- the rules that prove a return of code that branches as its definition does
 pub ruleset cases = (pick-then, pick-else, was-true, was-false, eq-eqb, ne-eqb, lt-ltb, le-ltb, le-leb, lt-leb)
 
 -- a proof by the two values of a test

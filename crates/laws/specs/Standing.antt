@@ -1,4 +1,4 @@
--- What it is to stand in a list.
+-- What it means to stand in a list.
 -- Nothing here is of the paper; the definition is open to every crate.
 use mathlib.Core.List.{List, _∷_}
 

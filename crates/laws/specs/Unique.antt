@@ -1,4 +1,4 @@
--- No second result meets a contract: what that says of a function, over the contract that Rattle itself reads off the source.
+-- "No second result meets the contract": what that says of a function, over the contract that Rattle itself reads off the source.
 -- Assumes nothing.
 use Prim.Native.Nat.{ℕ}
 use mathlib.Core.Path.{_≡_}
@@ -17,8 +17,8 @@ abbrev pub UniqueLent : {n : ℕ} (ps : List (PK n)) (r : RK n) → Out n ps r �
 UniqueLent {n} ps r post lent =
     (κs : Lfts n) (a : Dens κs ps) (x y : resT r κs .Denot) (e f : AtExit (endedOf n ps r) κs) → post κs a x e → post κs a y f → (x ≡ y) × (lent κs e ≡ lent κs f)
 
--- the same where a part of an argument is handed back and two buffers are lent: any two parts hold the same, and so does each buffer at the exit;
--- `held` reads a part, as `λ κs x. now x`, and `first` and `second` the buffers
+-- the same where the function hands back a part of an argument and borrows two buffers: any two parts hold the same, and so does each buffer at the exit;
+-- `held` reads a part, as `λ κs x. now x`; `first` and `second` read the buffers
 abbrev pub UniquePart : {n : ℕ} (ps : List (PK n)) (r : RK n) → Out n ps r → {A B C : Type 0} → ((κs : Lfts n) → resT r κs .Denot → A) →
     ((κs : Lfts n) → AtExit (endedOf n ps r) κs → B) → ((κs : Lfts n) → AtExit (endedOf n ps r) κs → C) → Type 0
 UniquePart {n} ps r post held first second =

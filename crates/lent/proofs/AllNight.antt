@@ -1,4 +1,4 @@
--- A function that keeps one desk and lends it in every turn of a loop is safe and ends, whatever the desk and the requests are, where every turn leaves fewer requests to be made: the walk of its MIR up to the loop, and what it comes to.
+-- A function that keeps one desk and lends it in every turn of a loop is safe and ends, for any desk and requests, if every turn leaves fewer requests: the walk of its MIR up to the loop, and its result.
 -- Assumes nothing.
 use mathlib.Core.Path.{_≡_, refl, ap, subst}
 use Prim.Native.Nat.{ℕ, _-_}

@@ -1,4 +1,4 @@
--- The request that a loop makes next of the desk that it keeps, as the walk of the loop takes it: any struct that says how many requests are left and what this one asks, with its machine value and the laws of it.
+-- The next request of such a loop, as the walk takes it: any struct that says how many requests are left and what this one asks, with its machine value and its laws.
 -- Assumes nothing.
 use mathlib.Core.Path.{_≡_}
 use Prim.Native.Nat.{ℕ}

@@ -1,4 +1,4 @@
--- The two desks that are lent, what each answers, and what the step by value of each returns, as the walks take them.
+-- The two lent desks, what each answers, and what each one's step by value returns, as the walks take them.
 -- Assumes nothing.
 use mathlib.Core.Path.{refl}
 use Rattle.desks.proofs.Answer as Answer

@@ -1,4 +1,4 @@
--- A thin entry over a desk that is lent meets its contract, whatever the desk and its answers are: a walk of its MIR, by hand. The borrow is opened, the desk is copied out and passed to the step by value, of which the proof knows only that it meets its contract, and the borrow is closed at the desk that the step returned.
+-- A thin entry over a lent desk meets its contract, for any desk and answers: its MIR is walked by hand. The borrow is opened, the desk is copied out and passed to the step, and the borrow is closed at the desk returned; of the step only its contract is known.
 -- Assumes nothing.
 use mathlib.Core.Path.{_≡_, refl, ap, _∙_}
 use Prim.Native.Nat.{ℕ, _<_, _^_}

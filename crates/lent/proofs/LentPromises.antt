@@ -1,4 +1,4 @@
--- EVERY PROMISE, OF A DESK THAT IS LENT ALL NIGHT: after any list of calls on one started desk the answers, the wakes, the desk and the history are those of the steps by value, and every promise of the desk's rules holds (02, No. 7).
+-- EVERY PROMISE HOLDS OF A DESK LENT ALL NIGHT: after any calls on one started desk, answers, wakes, desk and history are those of the steps by value, and every promise of the desk's rules holds (02, No. 7).
 -- Assumes nothing.
 use Prim.Native.Nat.{ℕ, _<_, _≤_}
 use mathlib.Core.Path.{_≡_, refl, ap, _∙_}

@@ -1,4 +1,4 @@
--- The loop that keeps one desk and lends it in every turn, as code and as contracts: the MIR of such a function, whatever the desk and the requests are, and what is said of the four functions that it calls.
+-- The loop that keeps one desk and lends it in every turn, as code and as contracts: the MIR of such a function, for any desk and requests, and what is known of the four functions that it calls.
 -- Assumes nothing.
 use Prim.Native.Nat.{ℕ, _-_, _≤_}
 use mathlib.Core.List.{List, [], _∷_}

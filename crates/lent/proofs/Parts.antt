@@ -1,4 +1,4 @@
--- The types that walks over a lent desk go by, whatever they are: a desk, what it answers, and a struct of the two, each with its machine value and the laws of it.
+-- The types used by walks over a lent desk: a desk, what it answers, and a struct of the two, each with its machine value and its laws.
 -- Assumes nothing.
 use mathlib.Core.Path.{_≡_}
 use mathlib.Core.List.{[], _∷_, List}

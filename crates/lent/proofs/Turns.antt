@@ -1,4 +1,4 @@
--- A turn of the loop that keeps one desk, and the loop: the desk's slot is lent anew in each turn, for a lifetime that ends with the call, and is whole again after it; fewer requests are left, so the loop ends. Walks of the MIR, by hand.
+-- The loop that keeps one desk, and one turn of it. Each turn lends the desk's slot for a lifetime that ends with the call; fewer requests are left after it, so the loop ends. The MIR is walked by hand.
 -- Assumes nothing.
 use mathlib.Core.Path.{_≡_, refl, ap, subst}
 use mathlib.Core.Bool.{Bool}

@@ -1,4 +1,4 @@
--- Calls on one desk that is lent, whatever desk it is: each finds the desk as the one before it left it (02, No. 7).
+-- Calls on one lent desk of either kind: each call finds the desk as the call before left it (02, No. 7).
 use mathlib.Core.Path.{_≡_}
 use mathlib.Core.List.{List, [], _∷_, _++_}
 use Rattle.conflict.specs.History.{History}
@@ -8,33 +8,33 @@ use Rattle.desks.specs.Records.{recordsOf}
 use Rattle.desks.specs.Requests.{writes}
 use Rattle.desks.specs.Told.{Said, stepTold, answersOf}
 
--- the calls, one after another: `call d r o` says that a call that finds the desk d and is asked r may come to o, and the next one finds what that leaves
+-- the calls, one after another: `call d r o` says that a call that finds desk d and request r may give o; the next call finds the desk that o leaves
 pub data Lent {S O : Type 0} (leaves : O → S) (call : S → Request → O → Type 0) : S → List Request → List O → Type 0 where
   over : (d : S) → Lent leaves call d [] []
   next : {d : S} {r : Request} {o : O} {rs : List Request} {os : List O} → call d r o → Lent leaves call (leaves o) rs os → Lent leaves call d (r ∷ rs) (o ∷ os)
 
--- the desk in the end, by what each call left
+-- the desk after all calls, from what each call left
 unfoldable pub leftBy : {S : Type 0} → S → List (Stepped S) → S
 leftBy d [] = d
 leftBy d (o ∷ os) = leftBy (o .desk) os
 
--- the answers, each with its wakes behind it, by what each call told
+-- the answers, each with its wakes behind it, from what each call told
 unfoldable pub answersBy : {S : Type 0} → List (Stepped S) → List Said
 answersBy [] = []
 answersBy (o ∷ os) = stepTold (o .said) (o .wakes) ++ answersBy os
 
--- the history, by what each call was asked and told (01, Lines)
+-- the history, from what each call was asked and told (01, Lines)
 unfoldable pub wroteBy : {S : Type 0} → List Request → List (Stepped S) → History
 wroteBy [] os = []
 wroteBy (r ∷ rs) [] = []
 wroteBy (r ∷ rs) (o ∷ os) = recordsOf r (o .said) (o .wakes) ++ wroteBy rs os
 
--- what the steps of a desk leave and tell to requests, one after another
+-- what a desk's steps leave and tell for these requests, one after another
 unfoldable pub stepsOf : {S : Type 0} → Stepping S → S → List Request → List (Stepped S)
 stepsOf step d [] = []
 stepsOf step d (r ∷ rs) = step d r ∷ stepsOf step (step d r .desk) rs
 
--- what it is for calls to come to all that the steps come to, given the same requests: each call leaves, answers and wakes the same; and so the desk, the answers and the history are the same
+-- the calls come to what the steps come to, for the same requests: each call leaves, answers and wakes the same, and so desk, answers and history are the same
 pub record AsSteps {S : Type 0} (step : Stepping S) (d : S) (rs : List Request) (os : List (Stepped S)) : Type 0 where
   pub each : os ≡ stepsOf step d rs
   pub desk : leftBy d os ≡ through step d rs

@@ -1,4 +1,4 @@
--- What a call on a lent desk leaves there and answers, put together as the step by value gives it; and such a call, as the entries' contracts have it (02, No. 7).
+-- The desk that a call on a lent desk leaves, and its answer, joined as the step by value gives them; and such a call, as the entries' contracts have it (02, No. 7).
 use mathlib.Core.Path.{_≡_}
 use mathlib.Core.List.{[]}
 use Rattle.desks.specs.declared.Answer.{Answer}
@@ -21,18 +21,18 @@ leaving d s = record { desk = d; said = s }
 abbrev pub stamping : Stamps → Answer → Stamped
 stamping d a = record { stamps = d; answer = a }
 
--- a call on the lock desk: what it leaves and says equals the step by value on the desk that it finds
+-- a call on the lock desk: what it leaves and says equals the step by value on the desk found
 abbrev pub OnLocks : Desk → Request → Outcome → Type 0
 OnLocks d r o = leaving (o .desk) (o .said) ≡ locks.stepOf d (r .kind) (r .job) (r .cell)
 
--- a call on the timestamp desk likewise
+-- a call on the timestamp desk, likewise
 abbrev pub OnStamps : Stamps → Request → Stamped → Type 0
 OnStamps d r o = stamping (o .stamps) (o .answer) ≡ stamps.stepOf d (r .kind) (r .job) (r .cell)
 
--- what a call leaves and says, in the words of every desk: the desk, the answer, and the wakes
+-- what a call leaves and says, in terms common to all desks: the desk, the answer and the wakes
 abbrev pub locksTold : Outcome → Stepped Desk
 locksTold o = record { desk = o .desk; said = o .said .answer; wakes = wakesTold (o .said) }
 
--- likewise of the timestamp desk, where nobody wakes
+-- the same for the timestamp desk, where nobody wakes
 abbrev pub stampsTold : Stamped → Stepped Stamps
 stampsTold o = record { desk = o .stamps; said = o .answer; wakes = [] }

@@ -6,7 +6,7 @@ ghost use mathlib.Core.Path.{_≡_};
 ghost use Rattle.desk_arrays.specs.Steps.{stepOf};
 ghost use Rattle.lent.specs.Entries.{leaving};
 
-// One request to the lock desk that is lent: what it answers, and the desk that it leaves there, are those of the step by value.
+// One request to a lent lock desk: the answer, and the desk left there, are those of the step by value.
 pub fn step_lent(d: &mut Desk, kind: u8, job: u32, cell: u32) -> Said
     ensures { λ r. ⌜ leaving (now (d .exit)) r ≡ stepOf (now (d .entry)) kind job cell ⌝ }
 {

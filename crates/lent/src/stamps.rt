@@ -6,7 +6,7 @@ ghost use mathlib.Core.Path.{_≡_};
 ghost use Rattle.stamp_arrays.specs.Steps.{stepOf};
 ghost use Rattle.lent.specs.Entries.{stamping};
 
-// One request to the timestamp desk that is lent: what it answers, and the desk that it leaves there, are those of the step by value.
+// One request to a lent timestamp desk: the answer, and the desk left there, are those of the step by value.
 pub fn step_lent(d: &mut Stamps, kind: u8, job: u32, cell: u32) -> Answer
     ensures { λ r. ⌜ stamping (now (d .exit)) r ≡ stepOf (now (d .entry)) kind job cell ⌝ }
 {

@@ -1,4 +1,4 @@
--- A refused step leaves the arrays exactly as they were: only a move that refuses answers with a refusal (02, No. 6; 01, Refusals by number).
+-- A refused step leaves the arrays exactly as they were: only a refusing move answers with a refusal (02, No. 6; 01, Refusals by number).
 -- Assumes nothing.
 use Prim.Native.Nat.{ℕ}
 use mathlib.Core.Path.{_≡_, refl}

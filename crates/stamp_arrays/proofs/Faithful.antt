@@ -1,4 +1,4 @@
--- THE TIMESTAMP DESK THAT RUNS DOES AS THE REQUEST'S DESK DOES: what is seen in new arrays is a fresh desk, and each step of started ones is the step of the desk that is seen in them (02, No. 6).
+-- THE TIMESTAMP DESK THAT RUNS DOES AS THE REQUEST'S DESK DOES: new arrays show a fresh desk, and each step of started arrays is the step of the desk that they show (02, No. 6).
 -- Assumes nothing.
 use Prim.Native.Nat.{ℕ}
 use mathlib.Core.Path.{_≡_, refl, sym, subst, _∙_, fun-ext}

@@ -1,4 +1,4 @@
--- THE TIMESTAMP DESK THAT RUNS KEEPS EVERY PROMISE of the request's desk; the foremost are written out, each by the promise that it is (02, No. 6).
+-- THE TIMESTAMP DESK THAT RUNS KEEPS EVERY PROMISE of the request's desk; the main ones are written out, each from its promise (02, No. 6).
 -- Assumes nothing.
 use Prim.Native.Nat.{ℕ, _<_, _≤_}
 use mathlib.Core.Path.{_≡_}

@@ -1,4 +1,4 @@
--- A timestamp desk is started at every number but 0, where there is refusal 10 and no desk (01, refusal 10; 02, No. 6).
+-- A timestamp desk can be started at every number but 0; at 0 there is refusal 10 and no desk (01, refusal 10; 02, No. 6).
 -- Assumes nothing.
 use Prim.Native.Nat.{ℕ, _≤_}
 use mathlib.Core.Path.{_≡_, refl, sym, ap, _∙_}

@@ -1,4 +1,4 @@
--- What a start is to the machine: its locals at their blocks, its two variants, and what each holds; for the walks of the functions that make a start or take one apart.
+-- A start as the machine has it: its locals at each block, its two variants and what each holds; for the walks of functions that make a start or take one apart.
 -- Assumes nothing.
 use mathlib.Core.Path.{_≡_, refl, subst}
 use mathlib.Core.List.{[], _∷_, head-eq-of-cons-eq}

@@ -1,4 +1,4 @@
--- One step over the arrays is the step of the request's desk that is seen in them, letter by letter (02, No. 6).
+-- One step over the arrays is the step of the request's desk that they show, letter by letter (02, No. 6).
 -- Assumes nothing.
 use Prim.Native.Nat.{ℕ, _<_}
 use mathlib.Core.Path.{_≡_, refl, sym, ap, _∙_, fun-ext}

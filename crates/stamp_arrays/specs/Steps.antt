@@ -1,4 +1,4 @@
--- One step of the timestamp desk over its arrays: the move that is decided, carried out; what the contracts cite (02, No. 6).
+-- One step of the timestamp desk over its arrays: the decided move, carried out. The contracts cite it (02, No. 6).
 use Prim.Native.Nat.{ℕ, _+_}
 use mathlib.Core.Bool.{Bool}
 use mathlib.Core.List.{List, []}
@@ -30,56 +30,56 @@ use Rattle.stamp_arrays.specs.declared.moves.Found.the-variants.{At as s
 use Rattle.stamp_arrays.specs.declared.moves.Move.{Move}
 use Rattle.stamp_arrays.specs.declared.moves.Move.the-variants.{Refuse, Begin, Close, SendBack, Act}
 
--- the desk of these fields
+-- the desk with these fields
 abbrev pub stampsOf : ℕ → List ℕ → List ℕ → List ℕ → Stamps
 stampsOf next number reader writer = record { next = next; number = number; reader = reader; writer = writer }
 
--- the desk with every place free, every cell's numbers 0, and the number given next
+-- the desk with every place free, every cell's numbers 0, and this next number
 unfoldable pub emptyStamps : ℕ → Stamps
 emptyStamps n = stampsOf n (replicate places 0) (replicate cells 0) (replicate cells 0)
 
--- started at a first number: 10 for 0, and no desk (01, refusal 10)
+-- a start at a first number: refusal 10 for 0, with no desk (01, refusal 10)
 unfoldable pub startOf : ℕ → Start
 startOf n = pick (eqb n 0) (Refused StartedAtZero) (Ready (emptyStamps n))
 
--- late at a cell with these two numbers (02, No. 6)
+-- whether a job is late at a cell with these two numbers (02, No. 6)
 unfoldable pub lateWith : ℕ → ℕ → ℕ → Ask → Bool
 lateWith reader writer job a = late (record { next = 0; jobs = []; reader = λ c. reader; writer = λ c. writer }) job 0 a
 
--- begin, by where a new job is opened
+-- begin, given where the new job is opened
 unfoldable pub opened : Opening → Move
 opened (At p n) = Begin p n
 opened (not-opened why) = Refuse why
 
--- begin: 7, then 6, else the next number at the first free place (01, Refusals by number)
+-- begin: refusal 7, then 6, else the next number at the first free place (01, Refusals by number)
 unfoldable pub beginMove : ℕ → List ℕ → Move
 beginMove next number = opened (openingOf next number)
 
--- where a job stands: nowhere for 0, and for a number that no place has
+-- where a job stands; nowhere, for 0 and for a number at no place
 unfoldable pub foundAt : List ℕ → ℕ → Found
 foundAt number job = pick (eqb job 0) Nowhere (pick (ltb (pos number job) places) (stands (pos number job)) Nowhere)
 
--- commit and give-up: 3, else the job is closed
+-- commit and give-up: refusal 3, else the job is closed
 unfoldable pub closeMove : Found → Move
 closeMove (stands p) = Close p
 closeMove Nowhere = Refuse NotOpen
 
--- retry: 3, else 19 (02, No. 6)
+-- retry: refusal 3, else 19 (02, No. 6)
 unfoldable pub retryMove : Found → Move
 retryMove (stands p) = Refuse NoRetry
 retryMove Nowhere = Refuse NotOpen
 
--- read, write, increment and u of an open job at a place: 2, then sent back where it is late, else it acts (02, No. 6)
+-- read, write, increment and u of an open job: refusal 2, then sent back if late, else the job acts (02, No. 6)
 unfoldable pub actMove : List ℕ → List ℕ → ℕ → ℕ → ℕ → Ask → Move
 actMove reader writer p job c a =
     pick (ltb c cells) (pick (lateWith (getD reader c 0) (getD writer c 0) job a) (SendBack p) (Act a)) (Refuse CellAbove)
 
--- read, write, increment and u: 3, then as an open job may
+-- read, write, increment and u: refusal 3, then what an open job gets
 unfoldable pub askMove : List ℕ → List ℕ → Found → ℕ → ℕ → Ask → Move
 askMove reader writer (stands p) job c a = actMove reader writer p job c a
 askMove reader writer Nowhere job c a = Refuse NotOpen
 
--- what a request is to do, by its letter: 1 for a letter that is no request's
+-- the move of a request, by its letter; refusal 1 if no request has the letter
 unfoldable pub moveFor : ℕ → List ℕ → List ℕ → List ℕ → ℕ → ℕ → Lettered → Move
 moveFor next number reader writer job c Unknown = Refuse UnknownKind
 moveFor next number reader writer job c (Known no-request) = Refuse UnknownKind
@@ -89,21 +89,21 @@ moveFor next number reader writer job c (Known GiveUp) = closeMove (foundAt numb
 moveFor next number reader writer job c (Known Retry) = retryMove (foundAt number job)
 moveFor next number reader writer job c (Known (Asks a)) = askMove reader writer (foundAt number job) job c a
 
--- the reader numbers once a job has acted on a cell: a read, an increment and u read it (02, No. 6)
+-- the reader numbers after a job has acted on a cell: r, i and u read it (02, No. 6)
 unfoldable pub readersAfter : List ℕ → ℕ → ℕ → Ask → List ℕ
 readersAfter reader c job Read = set reader c (larger (getD reader c 0) job)
 readersAfter reader c job Write = reader
 readersAfter reader c job Increment = set reader c (larger (getD reader c 0) job)
 readersAfter reader c job Update = set reader c (larger (getD reader c 0) job)
 
--- the writer numbers: a write and an increment write it (02, No. 6)
+-- the writer numbers after that: w and i write the cell (02, No. 6)
 unfoldable pub writersAfter : List ℕ → ℕ → ℕ → Ask → List ℕ
 writersAfter writer c job Read = writer
 writersAfter writer c job Write = set writer c job
 writersAfter writer c job Increment = set writer c job
 writersAfter writer c job Update = writer
 
--- a move carried out; a refusal leaves the desk as it was
+-- a move carried out; a refusal leaves the desk unchanged
 unfoldable pub carried : Stamps → ℕ → ℕ → Move → Stamps
 carried d job c (Refuse why) = d
 carried d job c (Begin p n) = stampsOf (n + 1) (set (d .number) p n) (d .reader) (d .writer)
@@ -111,7 +111,7 @@ carried d job c (Close p) = stampsOf (d .next) (set (d .number) p 0) (d .reader)
 carried d job c (SendBack p) = stampsOf (d .next) (set (d .number) p 0) (d .reader) (d .writer)
 carried d job c (Act a) = stampsOf (d .next) (d .number) (readersAfter (d .reader) c job a) (writersAfter (d .writer) c job a)
 
--- the answer to a job whose move this is: begin tells the new number
+-- the answer that goes with a move; begin tells the new number
 unfoldable pub answerTo : Move → ℕ → Answer
 answerTo (Refuse why) job = No why
 answerTo (Begin p n) job = Go n
@@ -119,7 +119,7 @@ answerTo (Close p) job = Go job
 answerTo (SendBack p) job = Back job
 answerTo (Act a) job = Go job
 
--- what a request by numbers is to do
+-- the move of a request by numbers
 unfoldable pub moveOf : Stamps → ℕ → ℕ → ℕ → Move
 moveOf d kind job c = moveFor (d .next) (d .number) (d .reader) (d .writer) job c (letterOf kind)
 

@@ -7,10 +7,10 @@ ghost use mathlib.Core.Path.{_≡_};
 ghost use Rattle.stamp_arrays.specs.declared.state.Start.the-variants.{Ready};
 ghost use Rattle.stamp_arrays.specs.Steps.{emptyStamps, startOf};
 
-// So many numbers of each kind: one for each cell.
+// How many numbers of each kind there are: one for each cell.
 pub const ROWS: usize = CELLS as usize;
 
-// The timestamp desk: the next number; for each of the places the job's number, 0 where the place is free;
+// The timestamp desk: the next number; for each place the job's number, 0 if the place is free;
 // and for each cell the largest number that read it and the largest that wrote it.
 pub struct Stamps {
     pub next: u64,
@@ -19,22 +19,22 @@ pub struct Stamps {
     pub writer: [u32; ROWS],
 }
 
-// What a step leaves and says. There are no wakes: nobody waits here.
+// The desk that a step leaves, and its answer. There are no wakes: nobody waits here.
 pub struct Stamped {
     pub stamps: Stamps,
     pub answer: Answer,
 }
 
-// A timestamp desk that was started, or why there is none.
+// A started timestamp desk, or why there is none.
 pub enum Start {
     // started
     Ready(Stamps),
-    // not started: 10
+    // not started: refusal 10
     Refused(Refusal),
 }
 
 impl Stamps {
-    // A desk whose places are all free and whose cells' numbers are 0; its next number is the one given.
+    // A desk whose places are all free and whose cells' numbers are 0, with this next number.
     fn empty(first: u32) -> Stamps
         ensures { λ r. ⌜ r ≡ emptyStamps first ⌝ }
     {
@@ -46,7 +46,7 @@ impl Stamps {
         }
     }
 
-    // The desk started at a first number; 0 is refused, and there is no desk (01, refusal 10).
+    // The desk started at this first number; 0 is refused, with no desk (01, refusal 10).
     pub fn start(first: u32) -> Start
         ensures { λ r. ⌜ r ≡ startOf first ⌝ }
     {
@@ -56,7 +56,7 @@ impl Stamps {
         Start::Ready(Stamps::empty(first))
     }
 
-    // The desk started at 1, the smallest number that there is: it is always handed out.
+    // The desk started at 1, the smallest first number; this never fails.
     pub fn first() -> Stamps
         ensures { λ r. ⌜ Ready r ≡ startOf 1 ⌝ }
     {

@@ -1,4 +1,4 @@
--- When a write and an increment are late, by the cell's two numbers: an increment exactly where a write is (02, No. 6).
+-- When a write or an increment is late, by the cell's two numbers: an increment exactly when a write is (02, No. 6).
 -- Assumes nothing.
 use Prim.Native.Nat.{ℕ}
 use mathlib.Core.Path.{_≡_, refl}

@@ -1,4 +1,4 @@
--- A plan carried out on the fields where they stand is the step; and a plan speaks of places and cells that there are.
+-- A plan carried out on the fields in place is the step; a plan names only places and cells that exist.
 -- Assumes nothing.
 use Prim.Native.Nat.{ℕ, _+_, _<_}
 use mathlib.Core.Path.{_≡_, refl, sym, ap, subst, _∙_}

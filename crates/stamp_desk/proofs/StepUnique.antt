@@ -1,4 +1,4 @@
--- No second result, and no second content of a field, meets the contracts of the step in place, by letter and by byte; no second result that of the step by value and of the plan.
+-- No second result, and no second content of a field, meets the contract of a step in place, by letter or by byte; no second result meets that of the step by value or of the plan.
 -- Assumes nothing.
 use mathlib.Core.Path.{sym, _∙_}
 use denote.Ref.{now}

@@ -16,7 +16,7 @@ ghost use lib.Dec.{ltb};
 ghost use Rattle.terms.specs.declared.letters.Lettered.the-variants.{Known};
 ghost use Rattle.stamp_arrays.specs.Steps.{lateWith, beginMove, foundAt, closeMove, retryMove, actMove, askMove, moveFor};
 
-// Whether a job is late to write, by the cell's two numbers: it is smaller than either.
+// Whether a job is too late to write: its number is smaller than one of the cell's two numbers.
 fn late_to_write(reader: u32, writer: u32, job: u32) -> bool
     ensures { λ r. ⌜ r ≡ (ltb job reader || ltb job writer) ⌝ }
 {
@@ -26,7 +26,7 @@ fn late_to_write(reader: u32, writer: u32, job: u32) -> bool
     job < writer
 }
 
-// Whether a job that asks is late, by the cell's two numbers: equal numbers go. An increment is late where a write is.
+// Whether a job's request is too late, by the cell's two numbers; equal numbers go. An increment is late exactly when a write is.
 fn is_late(reader: u32, writer: u32, job: u32, a: Ask) -> bool
     ensures { λ r. ⌜ r ≡ lateWith reader writer job a ⌝ }
 {
@@ -38,7 +38,7 @@ fn is_late(reader: u32, writer: u32, job: u32, a: Ask) -> bool
     }
 }
 
-// Begin: 7, then 6, else the next number at the first free place.
+// Begin: refusal 7, then 6, else the next number at the first free place.
 fn begin_move(next: u64, number: &[u32; PLACES]) -> Move
     ensures { λ r. ⌜ r ≡ beginMove next (now (number .entry)) ⌝ }
 {
@@ -48,7 +48,7 @@ fn begin_move(next: u64, number: &[u32; PLACES]) -> Move
     }
 }
 
-// Where a job stands: nowhere for 0, and for a number that no place has.
+// Where a job stands; nowhere, for 0 and for a number at no place.
 fn find(number: &[u32; PLACES], job: u32) -> Found
     ensures { λ r. ⌜ r ≡ foundAt (now (number .entry)) job ⌝ }
 {
@@ -62,7 +62,7 @@ fn find(number: &[u32; PLACES], job: u32) -> Found
     Found::Nowhere
 }
 
-// Commit and give-up: 3, else the job is closed.
+// Commit and give-up: refusal 3, else the job is closed.
 fn close_move(f: Found) -> Move
     ensures { λ r. ⌜ r ≡ closeMove f ⌝ }
 {
@@ -72,7 +72,7 @@ fn close_move(f: Found) -> Move
     }
 }
 
-// Retry: 3, else 19.
+// Retry: refusal 3, else 19.
 fn retry_move(f: Found) -> Move
     ensures { λ r. ⌜ r ≡ retryMove f ⌝ }
 {
@@ -82,7 +82,7 @@ fn retry_move(f: Found) -> Move
     }
 }
 
-// Read, write, increment and u of an open job at a place: 2, then sent back where it is late, else it acts.
+// Read, write, increment and u of an open job: refusal 2, then sent back if late, else the job acts.
 fn act_move<'a>(
     reader: &'a [u32; ROWS],
     writer: &'a [u32; ROWS],
@@ -103,7 +103,7 @@ fn act_move<'a>(
     Move::Act(a)
 }
 
-// Read, write, increment and u: 3, then as an open job may.
+// Read, write, increment and u: refusal 3, then what an open job gets.
 fn ask_move<'a>(
     reader: &'a [u32; ROWS],
     writer: &'a [u32; ROWS],
@@ -120,7 +120,7 @@ fn ask_move<'a>(
     }
 }
 
-// What a request is to do, by its letter.
+// The move of a request, by its letter.
 pub fn plan_for<'a>(
     next: u64,
     number: &'a [u32; PLACES],

@@ -1,4 +1,4 @@
-// One step of the timestamp desk: what the plan says is carried out on the desk where it stands (02, No. 6).
+// One step of the timestamp desk: carries out the plan on the desk, in place (02, No. 6).
 use crate::plan::plan_for;
 use desks::Answer;
 use stamp_arrays::moves::Move;
@@ -20,7 +20,7 @@ ghost use Rattle.terms.specs.Limits.{cells, places};
 ghost use Rattle.stamp_arrays.specs.Steps.{stampsOf, readersAfter, writersAfter, stepOf};
 ghost use Rattle.stamp_desk.specs.InPlace.{StepsTo};
 
-// As many numbers as there are places and cells: what a lent array does not say of itself.
+// Called for its contract alone: each array has an entry for each place or cell, which a lent array does not say by itself.
 fn sized(number: [u32; PLACES], reader: [u32; ROWS], writer: [u32; ROWS]) -> bool
     ensures { λ r. ⌜ (length number ≡ places) × (length reader ≡ cells) × (length writer ≡ cells) ⌝ }
 {
@@ -37,7 +37,7 @@ fn larger_of(m: u32, n: u32) -> u32
     m
 }
 
-// A job has read the cell.
+// Records that a job has read the cell.
 fn mark_read(reader: &mut [u32; ROWS], c: usize, job: u32)
     requires { ⌜ c < cells ⌝ }
     ensures { λ r. ⌜ now (reader .exit) ≡ set (now (reader .entry)) c (larger (getD (now (reader .entry)) c 0) job) ⌝ }
@@ -45,7 +45,7 @@ fn mark_read(reader: &mut [u32; ROWS], c: usize, job: u32)
     reader[c] = larger_of(reader[c], job);
 }
 
-// The reader numbers once a job has acted on the cell.
+// Updates the reader numbers after a job has acted on the cell.
 fn mark_reader(reader: &mut [u32; ROWS], c: usize, job: u32, a: Ask)
     requires { ⌜ c < cells ⌝ }
     ensures { λ r. ⌜ now (reader .exit) ≡ readersAfter (now (reader .entry)) c job a ⌝ }
@@ -58,7 +58,7 @@ fn mark_reader(reader: &mut [u32; ROWS], c: usize, job: u32, a: Ask)
     }
 }
 
-// The writer numbers once a job has acted on the cell.
+// Updates the writer numbers after a job has acted on the cell.
 fn mark_writer(writer: &mut [u32; ROWS], c: usize, job: u32, a: Ask)
     requires { ⌜ c < cells ⌝ }
     ensures { λ r. ⌜ now (writer .exit) ≡ writersAfter (now (writer .entry)) c job a ⌝ }
@@ -75,7 +75,7 @@ fn mark_writer(writer: &mut [u32; ROWS], c: usize, job: u32, a: Ask)
     }
 }
 
-// One step by its letter, the job and the cell, on the desk's fields, each lent and changed where it stands.
+// One step by letter, job and cell, on the desk's fields, each lent and changed in place.
 pub fn step_for(
     next: &mut u64,
     number: &mut [u32; PLACES],
@@ -113,7 +113,7 @@ pub fn step_for(
     }
 }
 
-// The same by a byte, which may be no letter's and is refused then.
+// The same by a byte; a byte of no letter is refused.
 pub fn step_on(
     next: &mut u64,
     number: &mut [u32; PLACES],
@@ -131,7 +131,7 @@ pub fn step_on(
     }
 }
 
-// The same by value: the desk comes in, and what it has become and the answer go out.
+// The same by value: takes the desk, and returns the new desk and the answer.
 pub fn step(d: Stamps, kind: u8, job: u32, cell: u32) -> Stamped
     ensures { λ r. ⌜ r ≡ stepOf d kind job cell ⌝ }
 {

@@ -1,4 +1,4 @@
--- A letter and its byte name each other: no two letters share a byte, and no byte has two letters.
+-- A letter and its byte determine each other: no two letters share a byte, and no byte has two letters.
 -- Assumes nothing.
 use Prim.Native.Nat.{ℕ}
 use mathlib.Core.Path.{_≡_, refl, sym}

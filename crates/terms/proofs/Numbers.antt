@@ -1,4 +1,4 @@
--- No two refusals share number and field, and each number is from 1 to 19; 17 is none's.
+-- No two refusals share both number and field. Each number is from 1 to 19, and no refusal has 17.
 -- Assumes nothing.
 use Prim.Native.Nat.{ℕ, _≤_}
 use mathlib.Core.Path.{_≡_, refl, sym, ap₂, _∙_}

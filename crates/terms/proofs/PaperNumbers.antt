@@ -1,4 +1,4 @@
--- The paper's bytes and limits, computed: beside each name stands the number that the paper has for it (01, Lines; 01, Refusals by number; 01, What is delivered).
+-- The paper's bytes and limits, computed: beside each name stands the paper's number (01, Lines; 01, Refusals by number; 01, What is delivered).
 -- Assumes nothing.
 use Prim.Native.Nat.{ℕ}
 use mathlib.Core.Path.{_≡_, refl}

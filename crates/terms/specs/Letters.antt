@@ -17,7 +17,7 @@ askByte Write = 119
 askByte Increment = 105
 askByte Update = 117
 
--- the bytes of b, c, a, t and k, and of what is asked
+-- the bytes of b, c, a, t and k, and of the letters that ask for a cell
 abbrev pub byteOf : Letter → ℕ
 byteOf Begin = 98
 byteOf Commit = 99
@@ -26,11 +26,11 @@ byteOf Retry = 116
 byteOf Back = 107
 byteOf (Asks a) = askByte a
 
--- this letter where the byte is its byte, and else whatever the rest of the alphabet says
+-- this letter if the byte is its byte, else what the rest of the alphabet says
 abbrev pub orElse : Letter → ℕ → Lettered → Lettered
 orElse l b rest = pick (eqb b (byteOf l)) (Known l) rest
 
--- the letter whose byte this is, looked up in the one table of bytes
+-- the letter with this byte, looked up in the one table of bytes
 abbrev pub letterOf : ℕ → Lettered
 letterOf b =
     orElse Begin b

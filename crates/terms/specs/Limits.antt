@@ -1,4 +1,4 @@
--- The limits of the paper as the definitions have them.
+-- The limits of the paper, as the definitions have them.
 use Prim.Native.Nat.{ℕ}
 use Rattle.terms.specs.declared.limits.Limits.{Limits}
 
@@ -10,7 +10,7 @@ cells = 64
 abbrev pub places : ℕ
 places = 32
 
--- the largest number a job can have (01, Jobs and their numbers)
+-- the largest number that a job can have (01, Jobs and their numbers)
 abbrev pub lastNumber : ℕ
 lastNumber = 4_294_967_295
 
@@ -18,18 +18,18 @@ lastNumber = 4_294_967_295
 abbrev pub judgedJobs : ℕ
 judgedJobs = 255
 
--- the lines of a history (01, refusal 11)
+-- the most lines that a history may have (01, refusal 11)
 abbrev pub judgedLines : ℕ
 judgedLines = 4_096
 
--- the bytes of a history text (01, refusal 16)
+-- the most bytes that a history text may have (01, refusal 16)
 abbrev pub judgedBytes : ℕ
 judgedBytes = 65_536
 
--- the lines that the desk programs read (01, Lines)
+-- the most lines that the desk programs read (01, Lines)
 abbrev pub requestLines : ℕ
 requestLines = 1_000_000
 
--- all of them, as the code has them
+-- all limits in one record, as the code has them
 abbrev pub limitsOf : Limits
 limitsOf = record { cells = cells; places = places; last = lastNumber; jobs = judgedJobs; lines = judgedLines; bytes = judgedBytes; requests = requestLines }

@@ -1,4 +1,4 @@
--- The refusals with their numbers, the one table of them, and the field that a bad line's refusal tells (01, Refusals by number; 02, No. 5).
+-- The one table of refusals and their numbers, and the field that a bad line's refusal names (01, Refusals by number; 02, No. 5).
 use Prim.Native.Nat.{ℕ}
 use Rattle.terms.specs.declared.refusals.Field.{Field}
 use Rattle.terms.specs.declared.refusals.Field.the-variants.{First, Second, Third, Fourth}
@@ -51,7 +51,7 @@ fieldNumber Second = 2
 fieldNumber Third = 3
 fieldNumber Fourth = 4
 
--- the field beside a refusal's number: a bad line's, and 0 of any other refusal (02, No. 5)
+-- the field at fault of a bad line; 0 for any other refusal (02, No. 5)
 abbrev pub fieldOf : Refusal → ℕ
 fieldOf UnknownKind = 0
 fieldOf CellAbove = 0

@@ -1,4 +1,4 @@
--- The words of answer records and verdict lines, letter by letter, and the two bytes that part fields and end lines (01, Lines).
+-- The words of answer records and verdict lines, letter by letter; the bytes that separate fields and end lines (01, Lines).
 use Prim.Native.Nat.{ℕ, _-_}
 use mathlib.Core.List.{List, [], _∷_, _++_}
 use lib.ListN.{length, replicate}
@@ -6,7 +6,7 @@ use Rattle.terms.specs.declared.words.Spelling.{Spelling}
 use Rattle.terms.specs.declared.words.Word.{Word}
 use Rattle.terms.specs.declared.words.Word.the-variants.{Go, Wait, Back, No, Wake, Orderly, Knot, Dirty}
 
--- one tab parts fields (01, Lines)
+-- one tab separates fields (01, Lines)
 abbrev pub tab : ℕ
 tab = 9
 

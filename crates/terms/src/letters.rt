@@ -22,19 +22,19 @@ pub enum Letter {
     Commit,
     // a: give up
     GiveUp,
-    // t: retry, in requests alone
+    // t: retry (requests only)
     Retry,
-    // k: sent back, in histories alone
+    // k: sent back, aborted (histories only)
     Back,
     // r, w, i and u: read, write or increment a cell, or read it with intent to write
     Asks(Ask),
 }
 
-// A byte is one of the letters, or it is none.
+// A byte read as a letter, or as no letter.
 pub enum Lettered {
-    // the letter that has this byte
+    // this letter's byte
     Known(Letter),
-    // no letter has it
+    // the byte of no letter
     Unknown,
 }
 

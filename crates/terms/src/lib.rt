@@ -1,4 +1,4 @@
-// The paper's words and numbers, each in this one place. Every other crate takes them from here.
+// The paper's words and numbers. Each stands here once, and every other crate takes it from here.
 pub mod letters;
 pub mod limits;
 pub mod refusals;

@@ -92,7 +92,7 @@ pub fn field_number(f: Field) -> u8
     }
 }
 
-// The field beside a refusal's number: that of a bad line, and 0 of any other.
+// The field at fault, for a bad line; 0 for any other refusal.
 pub fn field_of(r: Refusal) -> u8
     ensures { λ n. ⌜ n ≡ fieldOf r ⌝ }
 {

@@ -18,17 +18,17 @@ pub enum Word {
     Orderly,
     // a verdict: there is a cycle of conflicts
     Knot,
-    // a verdict: what was read was taken back
+    // a verdict: a committed job read what was later taken back
     Dirty,
 }
 
-// What parts fields.
+// Fields are separated by a tab.
 pub const TAB: u8 = b'\t';
 
-// What ends a line.
+// A line ends in a newline.
 pub const NEWLINE: u8 = b'\n';
 
-// A word's bytes from the first place on, and how many they are.
+// A word's bytes, from the first place on, and how many there are.
 pub struct Spelling {
     pub bytes: [u8; 7],
     pub len: usize,

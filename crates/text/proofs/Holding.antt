@@ -1,4 +1,4 @@
--- What is asked of the line that the splitter holds is asked of the bytes that are kept of it, whatever length the splitter says.
+-- A question about the line that the splitter holds is answered from the bytes that are kept of it, whatever length the splitter reports.
 -- Assumes nothing.
 use Prim.Native.Nat.{ℕ, _-_, _≤_}
 use mathlib.Core.Path.{_≡_, sym, ap, _∙_}

@@ -1,4 +1,4 @@
--- A line goes part by part as the code does: by its first letter, then by the job and the cell found at their places.
+-- A line is read part by part, as the code reads it: its first letter, then the job and the cell found at their places.
 -- Assumes nothing.
 use Prim.Native.Nat.{ℕ}
 use mathlib.Core.Path.{_≡_, refl, sym, ap, _∙_}

@@ -1,4 +1,4 @@
--- A line that lacks its newline goes part by part as the code does: what is at fault of it is the first part that is not right, or else its end.
+-- A line without its newline is read part by part, as the code reads it: the field at fault is the first bad part, else the end.
 -- Assumes nothing.
 use Prim.Native.Nat.{ℕ}
 use mathlib.Core.Path.{_≡_, refl, sym, ap, _∙_}

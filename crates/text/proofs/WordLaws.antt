@@ -1,4 +1,4 @@
--- A word's spelling, and how it is copied, byte by byte.
+-- How a word is spelled, and how it is copied byte by byte.
 -- Assumes nothing.
 use Prim.Native.Nat.{ℕ, _+_, _-_, _≤_, _<_}
 use mathlib.Core.Path.{_≡_, refl, sym, ap, ap₂, _∙_}

@@ -1,4 +1,4 @@
--- No second result and no second buffer meets the contract of the record writer's functions.
+-- No second result and no second buffer meets the contract of a function of the record writer.
 -- Assumes nothing.
 use mathlib.Core.Path.{sym, _∙_}
 use denote.Ref.{now}

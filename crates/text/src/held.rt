@@ -1,4 +1,4 @@
-// The request line that the splitter holds, whatever length the splitter gives: what the line says, and its field at fault where it lacks its newline (01, Lines).
+// The request line that the splitter holds, whatever length the splitter reports: what the line says, or its field at fault if it lacks its newline (01, Lines).
 use crate::reader::read_request;
 use crate::reader::torn_request;
 use terms::Field;
@@ -23,7 +23,7 @@ pub fn read_held(s: Splitter) -> Reading
     read_request(&kept)
 }
 
-// The field at fault of the line in the splitter, which lacks its newline.
+// The field at fault of the line in the splitter, which has no newline.
 pub fn torn_held(s: Splitter) -> Field
     ensures { λ r. ⌜ r ≡ lacking (readLine ofRequests (foundAt s .bytes)) ⌝ }
 {

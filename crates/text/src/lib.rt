@@ -1,4 +1,4 @@
-// The lines that come in and the records that go out: line reader and record writer (01, Lines).
+// The line reader and the record writer: lines that come in, records that go out (01, Lines).
 pub mod held;
 pub mod reader;
 pub mod writer;

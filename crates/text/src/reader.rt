@@ -28,14 +28,14 @@ fn is_digit(byte: u8) -> bool
     b'0' <= byte && byte <= b'9'
 }
 
-// Whether a field ends before a byte: a tab or a newline.
+// Whether the byte ends a field: a tab or a newline.
 fn ends_field(byte: u8) -> bool
     ensures { λ r. ⌜ r ≡ parts byte ⌝ }
 {
     byte == TAB || byte == NEWLINE
 }
 
-// Whether a field ends before a place of a line: a tab or a newline stands there, or nothing.
+// Whether a field ends just before this place: a tab, a newline or the end of the line is there.
 fn end_ahead(line: &[u8], at: usize) -> bool
     ensures { λ r. ⌜ r ≡ endAhead (drop at (now (line .entry))) ⌝ }
 {
@@ -46,7 +46,7 @@ fn end_ahead(line: &[u8], at: usize) -> bool
     }
 }
 
-// Whether a digit stands at a place of a line.
+// Whether there is a digit at this place.
 fn digit_ahead(line: &[u8], at: usize) -> bool
     ensures { λ r. ⌜ r ≡ digitAhead (drop at (now (line .entry))) ⌝ }
 {
@@ -57,7 +57,7 @@ fn digit_ahead(line: &[u8], at: usize) -> bool
     }
 }
 
-// Whether the digits from a place on have no leading zero except the single 0, and there is one.
+// Whether there is a digit at this place, and no leading zero except the single 0.
 fn shortest_at(line: &[u8], from: usize) -> bool
     ensures { λ r. ⌜ r ≡ shortest (digitsOf (drop from (now (line .entry)))) ⌝ }
 {
@@ -73,7 +73,7 @@ fn shortest_at(line: &[u8], from: usize) -> bool
     false
 }
 
-// The number of the digits from a place on, which are all of their field, read no further than it can still be small enough.
+// The number that the digits from this place on spell, if they fill their field; stops as soon as the number is above `most`.
 fn digits_at(line: &[u8], from: usize, most: u32) -> Numeral
     ensures { λ r. ⌜ r ≡ digitsAt most 0 from (drop from (now (line .entry))) ⌝ }
 {
@@ -97,7 +97,7 @@ fn digits_at(line: &[u8], from: usize, most: u32) -> Numeral
     Numeral::Is { value, next }
 }
 
-// The number field at a place of a line: a tab and the digits of a number that is at most so large, and nothing else.
+// The number field at this place: a tab, then digits of a number up to `most`, and nothing else.
 fn number_at(line: &[u8], from: usize, most: u32) -> Numeral
     ensures { λ r. ⌜ r ≡ numberAt most from (drop from (now (line .entry))) ⌝ }
 {
@@ -112,7 +112,7 @@ fn number_at(line: &[u8], from: usize, most: u32) -> Numeral
     Numeral::Missing
 }
 
-// What is good where one newline and nothing else is left of the line.
+// The reading `good`, if exactly one newline is left of the line.
 fn ending_at(line: &[u8], from: usize, good: Reading) -> Reading
     ensures { λ r. ⌜ r ≡ ending (drop from (now (line .entry))) good ⌝ }
 {
@@ -128,7 +128,7 @@ fn ending_at(line: &[u8], from: usize, good: Reading) -> Reading
     Reading::Bad(Field::Fourth)
 }
 
-// The rest of a line from a place on, after letter and job: the cell, where the letter has one, and the end.
+// The rest of a line after letter and job: the cell, if the letter has one, and the end.
 fn cell_part(line: &[u8], from: usize, letter: Letter, job: u32) -> Reading
     ensures { λ r. ⌜ r ≡ cellPart letter job (drop from (now (line .entry))) ⌝ }
 {
@@ -158,7 +158,7 @@ fn cell_part(line: &[u8], from: usize, letter: Letter, job: u32) -> Reading
     }
 }
 
-// The rest of a line after its letter: the job, where the letter has one, and what follows.
+// The rest of a line after its letter: the job, if the letter has one, and what follows.
 fn job_part(line: &[u8], letter: Letter) -> Reading
     ensures { λ r. ⌜ r ≡ jobPart letter (drop 1 (now (line .entry))) ⌝ }
 {
@@ -172,7 +172,7 @@ fn job_part(line: &[u8], letter: Letter) -> Reading
     }
 }
 
-// The letter that a line begins with, where its first field ends after it.
+// The line's first letter, if its field ends right after it.
 fn first_letter(line: &[u8]) -> Lettered
     ensures { λ r. ⌜ r ≡ firstLetter (now (line .entry)) ⌝ }
 {
@@ -184,7 +184,7 @@ fn first_letter(line: &[u8]) -> Lettered
     Lettered::Unknown
 }
 
-// What a line of requests says.
+// What a request line says.
 pub fn read_request(line: &[u8]) -> Reading
     ensures { λ r. ⌜ r ≡ readLine ofRequests (now (line .entry)) ⌝ }
 {
@@ -200,7 +200,7 @@ pub fn read_request(line: &[u8]) -> Reading
     }
 }
 
-// What a line of a history says.
+// What a history line says.
 pub fn read_history(line: &[u8]) -> Reading
     ensures { λ r. ⌜ r ≡ readLine ofHistories (now (line .entry)) ⌝ }
 {
@@ -216,7 +216,7 @@ pub fn read_history(line: &[u8]) -> Reading
     }
 }
 
-// The field at fault of a line that lacks its newline, after letter and job: the cell, where the letter has one and it is not right, or else the end.
+// The field at fault after letter and job, for a line without its newline: the cell, if the letter has one and it is bad, else the end.
 fn torn_cell(line: &[u8], from: usize, letter: Letter) -> Field
     ensures { λ r. ⌜ r ≡ lacking (cellPart letter 0 (drop from (now (line .entry)))) ⌝ }
 {
@@ -230,7 +230,7 @@ fn torn_cell(line: &[u8], from: usize, letter: Letter) -> Field
     }
 }
 
-// The same after its letter: the job, where the letter has one and it is not right, or else what follows.
+// The same after the letter: the job, if the letter has one and it is bad, else what follows.
 fn torn_job(line: &[u8], letter: Letter) -> Field
     ensures { λ r. ⌜ r ≡ lacking (jobPart letter (drop 1 (now (line .entry)))) ⌝ }
 {
@@ -244,7 +244,7 @@ fn torn_job(line: &[u8], letter: Letter) -> Field
     }
 }
 
-// The field at fault of a request that lacks its newline.
+// The field at fault of a request line that has no newline.
 pub fn torn_request(line: &[u8]) -> Field
     ensures { λ r. ⌜ r ≡ lacking (readLine ofRequests (now (line .entry))) ⌝ }
 {

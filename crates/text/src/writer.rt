@@ -1,5 +1,5 @@
-// The record writer: one record into a lent buffer, from the place given and not before it (01, Lines).
-// The buffer's part from that place on is lent, and within it the later part to one field writer after another; each writes from its part's first byte on.
+// The record writer: puts one record into a lent buffer, from the place given and not before it (01, Lines).
+// The buffer's part from that place on is lent, and its later part to one field writer after another; each writes from the first byte of its part.
 use terms::Letter;
 use terms::Refusal;
 use terms::Word;
@@ -22,7 +22,7 @@ ghost use Rattle.text_rules.specs.Decimal.{decimal};
 ghost use Rattle.text_rules.specs.Wrote.{Wrote};
 ghost use Rattle.text_rules.specs.Records.{field, answerRecord, lineRecord, told, left};
 
-// How many digits a number has in shortest decimal: four at a time, and then the few that are left.
+// How many digits a number has in shortest decimal: four at a time, then the few that are left.
 pub fn width(n: u64) -> usize
     ensures { λ r. ⌜ r ≡ length (decimal n) ⌝ }
 {
@@ -44,21 +44,21 @@ pub fn width(n: u64) -> usize
     w + 3
 }
 
-// How many bytes a further field has: a tab and the number, where there is one.
+// How many bytes a further field takes: a tab and the number, if the field is there.
 fn field_width(there: bool, n: u64) -> usize
     ensures { λ r. ⌜ r ≡ length (field there n) ⌝ }
 {
     if there { width(n) + 1 } else { 0 }
 }
 
-// Whether so many bytes fit from a place on; no sum is made that could wrap.
+// Whether `len` bytes fit from place `at` on; no sum here can wrap.
 pub fn has_room(room: usize, at: usize, len: usize) -> bool
     ensures { λ r. ⌜ r ≡ leb (at + len) room ⌝ }
 {
     if at <= room { len <= room - at } else { false }
 }
 
-// One byte.
+// Writes one byte.
 fn put_byte(part: &mut [u8], byte: u8) -> usize
     requires { ⌜ 1 ≤ length (now part) ⌝ }
     ensures { λ r. ⌜ Wrote 0 r (byte ∷ []) (now (part .entry)) (now (part .exit)) ⌝ }
@@ -67,7 +67,7 @@ fn put_byte(part: &mut [u8], byte: u8) -> usize
     1
 }
 
-// A number of so many digits, from its last digit to its first.
+// Writes a number of this many digits, from its last digit to its first.
 fn put_number(part: &mut [u8], n: u64, digits: usize) -> usize
     requires { ⌜ (digits ≡ length (decimal n)) × (digits ≤ length (now part)) ⌝ }
     ensures { λ r. ⌜ Wrote 0 r (decimal n) (now (part .entry)) (now (part .exit)) ⌝ }
@@ -82,7 +82,7 @@ fn put_number(part: &mut [u8], n: u64, digits: usize) -> usize
     digits
 }
 
-// A further field: a tab and the number, where there is one; it has so many bytes.
+// Writes a further field, `len` bytes long: a tab and the number, if the field is there.
 fn put_field(part: &mut [u8], there: bool, n: u64, len: usize) -> usize
     requires { ⌜ (len ≡ length (field there n)) × (len ≤ length (now part)) ⌝ }
     ensures { λ r. ⌜ Wrote 0 r (field there n) (now (part .entry)) (now (part .exit)) ⌝ }
@@ -95,7 +95,7 @@ fn put_field(part: &mut [u8], there: bool, n: u64, len: usize) -> usize
     }
 }
 
-// A word.
+// Writes a word.
 fn put_word(part: &mut [u8], word: Word) -> usize
     requires { ⌜ length (spelt word) ≤ length (now part) ⌝ }
     ensures { λ r. ⌜ Wrote 0 r (spelt word) (now (part .entry)) (now (part .exit)) ⌝ }
@@ -111,7 +111,7 @@ fn put_word(part: &mut [u8], word: Word) -> usize
     i
 }
 
-// A word as a further field: a tab and the word.
+// Writes a word as a further field: a tab and the word.
 fn put_second(part: &mut [u8], word: Word) -> usize
     requires { ⌜ length (spelt word) < length (now part) ⌝ }
     ensures { λ r. ⌜ Wrote 0 r (tab ∷ spelt word) (now (part .entry)) (now (part .exit)) ⌝ }
@@ -120,7 +120,7 @@ fn put_second(part: &mut [u8], word: Word) -> usize
     a + put_word(&mut part[a..], word)
 }
 
-// The last field, where there is one, and the newline that ends the record.
+// Writes the last field, if it is there, and the newline that ends the record.
 fn put_last(part: &mut [u8], there: bool, n: u64, len: usize) -> usize
     requires { ⌜ (len ≡ length (field there n)) × (len < length (now part)) ⌝ }
     ensures { λ r. ⌜ Wrote 0 r (field there n ++ newline ∷ []) (now (part .entry)) (now (part .exit)) ⌝ }
@@ -130,7 +130,7 @@ fn put_last(part: &mut [u8], there: bool, n: u64, len: usize) -> usize
     end + 1
 }
 
-// An answer record, of whose first, third and fourth field the lengths are known: each field is written into the part after the one before.
+// Writes an answer record whose first, third and fourth fields have known lengths: each field goes into the part after the one before.
 fn put_answer(
     part: &mut [u8],
     line: u64,
@@ -150,7 +150,7 @@ fn put_answer(
     c + put_last(&mut part[c..], 0 < fault, fault, fourth)
 }
 
-// The line of a letter, of whose second and third field the lengths are known: each field is written into the part after the one before.
+// Writes the line of a letter whose second and third fields have known lengths: each field goes into the part after the one before.
 fn put_line(
     part: &mut [u8],
     letter: Letter,
@@ -167,7 +167,7 @@ fn put_line(
     b + put_last(&mut part[b..], has_cell(letter), cell, third)
 }
 
-// An answer record: request line number, word, number, and one field more where the fourth number is not 0.
+// Writes an answer record: request line number, word, number, and one field more if the fourth number is not 0.
 pub fn write_answer(
     buf: &mut [u8],
     at: usize,
@@ -201,7 +201,7 @@ pub fn write_answer(
     }
 }
 
-// The line of a letter with the fields that it has: a history record, or a request.
+// Writes the line of a letter with the fields that it has: a history record, or a request.
 pub fn write_line(buf: &mut [u8], at: usize, letter: Letter, job: u64, cell: u64) -> Written
     ensures { λ r. ⌜ (r ≡ told (now (buf .entry)) at (lineRecord letter job cell)) × (now (buf .exit) ≡ left (now (buf .entry)) at (lineRecord letter job cell)) ⌝ }
 {
@@ -216,7 +216,7 @@ pub fn write_line(buf: &mut [u8], at: usize, letter: Letter, job: u64, cell: u64
     }
 }
 
-// A word alone: what a verdict line begins with.
+// Writes a word alone: the start of a verdict line.
 pub fn write_word(buf: &mut [u8], at: usize, word: Word) -> Written
     ensures { λ r. ⌜ (r ≡ told (now (buf .entry)) at (spelt word)) × (now (buf .exit) ≡ left (now (buf .entry)) at (spelt word)) ⌝ }
 {
@@ -231,7 +231,7 @@ pub fn write_word(buf: &mut [u8], at: usize, word: Word) -> Written
     }
 }
 
-// A number alone, in shortest decimal: what a line of jobs begins with.
+// Writes a number alone, in shortest decimal: the start of a line of jobs.
 pub fn write_number(buf: &mut [u8], at: usize, n: u64) -> Written
     ensures { λ r. ⌜ (r ≡ told (now (buf .entry)) at (decimal n)) × (now (buf .exit) ≡ left (now (buf .entry)) at (decimal n)) ⌝ }
 {
@@ -245,7 +245,7 @@ pub fn write_number(buf: &mut [u8], at: usize, n: u64) -> Written
     }
 }
 
-// A further field alone: a tab and the number.
+// Writes a further field alone: a tab and the number.
 pub fn write_field(buf: &mut [u8], at: usize, n: u64) -> Written
     ensures { λ r. ⌜ (r ≡ told (now (buf .entry)) at (tab ∷ decimal n)) × (now (buf .exit) ≡ left (now (buf .entry)) at (tab ∷ decimal n)) ⌝ }
 {
@@ -259,7 +259,7 @@ pub fn write_field(buf: &mut [u8], at: usize, n: u64) -> Written
     }
 }
 
-// The newline alone that ends a line.
+// Writes the newline that ends a line.
 pub fn write_end(buf: &mut [u8], at: usize) -> Written
     ensures { λ r. ⌜ (r ≡ told (now (buf .entry)) at (newline ∷ [])) × (now (buf .exit) ≡ left (now (buf .entry)) at (newline ∷ [])) ⌝ }
 {

@@ -1,4 +1,4 @@
--- `desk::settling::drop_locks` meets its contract. The loop's invariant: the locks on the cells passed are dropped; the measure is what is left of 64.
+-- `desk::settling::drop_locks` meets its contract. The loop's invariant: the locks on the cells passed are dropped; the measure: the cells left of 64.
 -- Assumes nothing.
 use Prim.Native.Nat.{_≤_, _-_}
 use mathlib.Core.Path.{_≡_, refl, ap, _∙_}

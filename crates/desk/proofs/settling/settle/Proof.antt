@@ -1,4 +1,4 @@
--- `desk::settling::settle` meets its contract: where nobody waits nothing changes, else every cell is settled.
+-- `desk::settling::settle` meets its contract: if nobody waits, nothing changes; else every cell is settled.
 -- Assumes nothing.
 use borrow.Author.Needs.{needs}
 use mathlib.Core.Path.{refl, sym}

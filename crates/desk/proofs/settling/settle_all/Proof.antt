@@ -1,4 +1,4 @@
--- `desk::settling::settle_all` meets its contract. The loop's invariant: the cells passed are settled; the measure is what is left of 64.
+-- `desk::settling::settle_all` meets its contract. The loop's invariant: the cells passed are settled; the measure: the cells left of 64.
 -- Assumes nothing.
 use Prim.Native.Nat.{ℕ, _≤_, _-_}
 use mathlib.Core.Path.{_≡_, refl, ap}

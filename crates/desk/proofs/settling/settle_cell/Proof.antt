@@ -1,4 +1,4 @@
--- `desk::settling::settle_cell` meets its contract. The loop's invariant: so many grants have been made; the measure is what is left of 32. Where it stops early, further grants change nothing.
+-- `desk::settling::settle_cell` meets its contract. The loop's invariant: `n` grants have been tried; the measure: the rounds left of 32. Once it stops early, further grants change nothing.
 -- Assumes nothing.
 use borrow.Author.Needs.{needs}
 use Prim.Native.Nat.{_≤_, _-_}

@@ -1,4 +1,4 @@
--- `desk::step::answer_to` meets its contract: the move is put for the argument.
+-- `desk::step::answer_to` meets its contract: for each move the definition computes.
 -- Assumes nothing.
 use borrow.Author.Needs.{needs}
 use Rattle.desk_arrays.specs.Steps.{answerTo}

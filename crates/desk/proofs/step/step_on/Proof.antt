@@ -1,4 +1,4 @@
--- `desk::step::step_on` meets its contract: the step by the byte's letter, and a byte that has none is refused.
+-- `desk::step::step_on` meets its contract: the step by the byte's letter; a byte of no letter is refused.
 -- Assumes nothing.
 use borrow.Author.Needs.{needs}
 use mathlib.Core.Path.{sym, _∙_}

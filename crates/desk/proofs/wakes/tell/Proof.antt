@@ -1,4 +1,4 @@
--- `desk::wakes::tell` meets its contract. The loop's invariant: the wakes of the places passed are listed; the measure is what is left of 32.
+-- `desk::wakes::tell` meets its contract. The loop's invariant: the wakes of the places passed are listed; the measure: the places left of 32.
 -- Assumes nothing.
 use borrow.Author.Needs.{needs}
 use Prim.Native.Nat.{_≤_, _-_}

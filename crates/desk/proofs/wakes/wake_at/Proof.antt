@@ -1,4 +1,4 @@
--- `desk::wakes::wake_at` meets its contract: the arrays are read at the place, and past them nothing stands.
+-- `desk::wakes::wake_at` meets its contract: the arrays are read at the place; past their end there is nothing.
 -- Assumes nothing.
 use borrow.Author.Needs.{needs}
 use mathlib.Core.Path.{_∙_, ap}

@@ -1,4 +1,4 @@
--- `desk_arrays::codes::ask_of` meets its contract: a matched code is put for the argument, and any other differs from each.
+-- `desk_arrays::codes::ask_of` meets its contract: for each matched code the definition computes; any other code differs from each.
 -- Assumes nothing.
 use borrow.Author.Tests.{ne-eqb}
 use Rattle.desk_arrays.proofs.codes.ask_of.Statement.{statement}

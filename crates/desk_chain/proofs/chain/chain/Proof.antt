@@ -1,4 +1,4 @@
--- `desk_chain::chain::chain` meets its contract: 3, 5 and 18 leave the list, and else the chain stands in it.
+-- `desk_chain::chain::chain` meets its contract: refusals 3, 5 and 18 leave the list unchanged; else the chain stands in it.
 -- Assumes nothing.
 use mathlib.Core.Path.{_≡_}
 use borrow.Author.Needs.{needs}

@@ -1,4 +1,4 @@
--- `desk_chain::chain::holder_above` meets its contract. The loop's invariant: the youngest holder of the places passed, with its number; the measure is what is left of 32.
+-- `desk_chain::chain::holder_above` meets its contract. The loop's invariant: the youngest holder among the places passed, with its number; the measure: the places left of 32.
 -- Assumes nothing.
 use Prim.Native.Nat.{_≤_, _-_}
 use mathlib.Core.Path.{ap, _∙_}

@@ -1,4 +1,4 @@
--- `desk_chain::chain::next_at` meets its contract: the place does not wait, or waits for a cell that there is, or for none.
+-- `desk_chain::chain::next_at` meets its contract: the place does not wait, or waits for a cell from 0 to 63, or for a number that is no cell.
 -- Assumes nothing.
 use Prim.Native.Nat.{ℕ, _≤_, _<_}
 use mathlib.Core.Path.{_≡_}

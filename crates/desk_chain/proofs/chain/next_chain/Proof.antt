@@ -1,4 +1,4 @@
--- `desk_chain::chain::next_chain` meets its contract: the chain of the waiter that was found, or none.
+-- `desk_chain::chain::next_chain` meets its contract: the chain of the waiter found, or none.
 -- Assumes nothing.
 use native.Mathlib.Omega.{arith}
 use mathlib.Core.Path.{_≡_}

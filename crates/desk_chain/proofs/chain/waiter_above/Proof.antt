@@ -1,4 +1,4 @@
--- `desk_chain::chain::waiter_above` meets its contract. The loop's invariant: the waiter with the smallest number of the places passed, with that number; the measure is what is left of 32.
+-- `desk_chain::chain::waiter_above` meets its contract. The loop's invariant: the waiter with the smallest number among the places passed, with that number; the measure: the places left of 32.
 -- Assumes nothing.
 use Prim.Native.Nat.{suc, _≤_, _-_}
 use mathlib.Core.Path.{ap, _∙_}

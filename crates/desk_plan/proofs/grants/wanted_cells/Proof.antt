@@ -1,4 +1,4 @@
--- `desk_plan::grants::wanted_cells` meets its contract. The loop's invariant: the cells of the places passed are marked; the measure is what is left of 32.
+-- `desk_plan::grants::wanted_cells` meets its contract. The loop's invariant: the cells of the places passed are marked; the measure: the places left of 32.
 -- Assumes nothing.
 use Prim.Native.Nat.{_≤_, _-_}
 use mathlib.Core.Path.{_≡_, refl, ap, _∙_}

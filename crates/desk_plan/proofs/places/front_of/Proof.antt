@@ -1,4 +1,4 @@
--- `desk_plan::places::front_of` meets its contract. The loop's invariant: the youngest waiter of the places passed, with its number; the measure is what is left of 32.
+-- `desk_plan::places::front_of` meets its contract. The loop's invariant: the youngest waiter among the places passed, with its number; the measure: the places left of 32.
 -- Assumes nothing.
 use Prim.Native.Nat.{ℕ, _≤_, _-_}
 use mathlib.Core.Path.{ap, _∙_}

@@ -1,4 +1,4 @@
--- `desk_plan::places::goes_beside` meets its contract: where nobody holds the cell every mode agrees.
+-- `desk_plan::places::goes_beside` meets its contract: if nobody holds the cell, every mode agrees.
 -- Assumes nothing.
 use borrow.Author.Needs.{needs}
 use mathlib.Core.Path.{sym}

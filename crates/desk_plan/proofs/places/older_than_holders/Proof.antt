@@ -1,4 +1,4 @@
--- `desk_plan::places::older_than_holders` meets its contract. The loop's invariant: the test holds of every place passed; the measure is what is left of 32.
+-- `desk_plan::places::older_than_holders` meets its contract. The loop's invariant: the test holds of every place passed; the measure: the places left of 32.
 -- Assumes nothing.
 use Prim.Native.Nat.{_≤_, _-_}
 use mathlib.Core.Path.{_≡_, sym}

@@ -1,4 +1,4 @@
--- `desk_plan::plan::begin_move` meets its contract: where a new job is opened decides.
+-- `desk_plan::plan::begin_move` meets its contract: the place of the new job decides.
 -- Assumes nothing.
 use borrow.Author.Needs.{needs}
 use mathlib.Core.Path.{sym, _∙_}

@@ -1,4 +1,4 @@
--- `desk_plan::plan::enter` meets its contract: each way is the definition's.
+-- `desk_plan::plan::enter` meets its contract: each branch gives what the definition gives.
 -- Assumes nothing.
 use borrow.Author.Needs.{needs}
 use Rattle.desk_plan.proofs.Decides.{takes, waits, leaves}

@@ -1,4 +1,4 @@
--- `desk_plan::plan::find` meets its contract: the number 0, a place that there is, and none.
+-- `desk_plan::plan::find` meets its contract: number 0, a job at a place, a job at no place.
 -- Assumes nothing.
 use borrow.Author.Needs.{needs}
 use Prim.Native.Nat.{_≤_}

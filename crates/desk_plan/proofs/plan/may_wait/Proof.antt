@@ -1,4 +1,4 @@
--- `desk_plan::plan::may_wait` meets its contract: the second test is asked where the first holds.
+-- `desk_plan::plan::may_wait` meets its contract: the second test counts only if the first holds.
 -- Assumes nothing.
 use borrow.Author.Needs.{needs}
 use Rattle.laws.specs.Choice.{was-true, was-false}

@@ -1,4 +1,4 @@
--- `judge::entry::judge` meets its contract: the line's place is the judgement's, and the numbers are those of what is said.
+-- `judge::entry::judge` meets its contract: the line's place is the judgement's, and the numbers are the verdict's.
 -- Assumes nothing.
 use Rattle.judge.proofs.Handing.{judged-small, part-starts}
 use mathlib.Core.Path.{ap, _∙_}

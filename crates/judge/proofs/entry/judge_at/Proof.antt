@@ -1,4 +1,4 @@
--- `judge::entry::judge_at` meets its contract: the line's place and length are those of the judgement's line, and the numbers are those of what is said.
+-- `judge::entry::judge_at` meets its contract: place and length are those of the judgement's line, and the numbers are the verdict's.
 -- Assumes nothing.
 use borrow.Author.Needs.{needs}
 use mathlib.Core.Path.{ap, _∙_}

@@ -1,4 +1,4 @@
--- `judge::scan::bare_end` meets its contract: both look at the last byte.
+-- `judge::scan::bare_end` meets its contract: code and definition look at the last byte.
 -- Assumes nothing.
 use Rattle.judge.specs.Scanned.{bareEnd}
 use Rattle.laws.specs.Choice.{cases}

@@ -1,4 +1,4 @@
--- `judge::scan::ends_job` meets its contract: both test for a commit and then for a give-up.
+-- `judge::scan::ends_job` meets its contract: code and definition test for a commit, then for a give-up.
 -- Assumes nothing.
 use Rattle.judge.specs.Looked.{endsJob}
 use Rattle.laws.specs.Choice.{cases}

@@ -1,4 +1,4 @@
--- `judge::scan::look` meets its contract: 11 first, then as the line reads.
+-- `judge::scan::look` meets its contract: refusal 11 first, then by how the line reads.
 -- Assumes nothing.
 use Rattle.judge.proofs.Looking.{look-good, look-bad}
 use Rattle.judge.specs.Looked.{lookedAt, lookedRead}

@@ -1,4 +1,4 @@
--- `judge::scan::look_good` meets its contract: both go by the same tests, 12, then 2, then 13.
+-- `judge::scan::look_good` meets its contract: code and definition make the same tests, 12, then 2, then 13.
 -- Assumes nothing.
 use Rattle.judge.specs.Looked.{lookedGood}
 use Rattle.laws.specs.Choice.{cases}

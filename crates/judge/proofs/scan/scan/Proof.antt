@@ -1,4 +1,4 @@
--- `judge::scan::scan` meets its contract. The loop's invariant: what is left decides as the whole does, and what is kept stands before what is left.
+-- `judge::scan::scan` meets its contract. The loop's invariant: what is left decides as the whole does, and the kept lines stand before what is left.
 -- The measure is what is left of the text. Assumes nothing.
 use Prim.Native.Nat.{_-_}
 use lib.ListN.{length}

@@ -1,4 +1,4 @@
--- `judge_line::lines::given_width` meets its contract: a tab and the digits where the number is not 0, and nothing for 0.
+-- `judge_line::lines::given_width` meets its contract: a tab and the digits, or nothing for 0.
 -- Assumes nothing.
 use mathlib.Core.Path.{sym, ap}
 use native.Mathlib.Omega.{arith}

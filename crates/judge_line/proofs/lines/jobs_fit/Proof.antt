@@ -1,4 +1,4 @@
--- `judge_line::lines::jobs_fit` meets its contract. The loop's invariant: the spare room and the fields of the jobs passed make the room.
+-- `judge_line::lines::jobs_fit` meets its contract. The loop's invariant: the spare room and the fields of the jobs passed make the whole room.
 -- Assumes nothing.
 use Prim.Native.Nat.{_-_}
 use native.Mathlib.Omega.{arith}

@@ -1,4 +1,4 @@
--- `judge_line::lines::put_end` meets its contract: where there is room, the writer does not refuse.
+-- `judge_line::lines::put_end` meets its contract: there is room, so the writer does not refuse.
 -- Assumes nothing.
 use native.Mathlib.Omega.{arith}
 use borrow.Author.Needs.{needs}

@@ -1,4 +1,4 @@
--- `judge_line::lines::put_given` meets its contract: the field is written where the number is not 0, and else nothing is.
+-- `judge_line::lines::put_given` meets its contract: the field is written unless the number is 0.
 -- Assumes nothing.
 use mathlib.Core.Path.{sym, ap}
 use native.Mathlib.Omega.{arith}

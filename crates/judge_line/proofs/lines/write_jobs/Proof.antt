@@ -1,4 +1,4 @@
--- `judge_line::lines::write_jobs` meets its contract: a line that fits is written part by part, and one that does not is refused.
+-- `judge_line::lines::write_jobs` meets its contract: a line that fits is written part by part; a line that does not is refused.
 -- Assumes nothing.
 use Prim.Native.Nat.{_+_, _≤_}
 use mathlib.Core.Path.{_≡_}

@@ -1,4 +1,4 @@
--- `judge_line::lines::write_no` meets its contract: a line that fits is written field by field, and one that does not is refused.
+-- `judge_line::lines::write_no` meets its contract: a line that fits is written field by field; a line that does not is refused.
 -- Assumes nothing.
 use native.Mathlib.Omega.{arith}
 use borrow.Author.Needs.{needs}

@@ -1,4 +1,4 @@
--- `judge_line::verdict::verdict_line` meets its contract: a text that is too long is refused, and any other is judged with an order of 255 places.
+-- `judge_line::verdict::verdict_line` meets its contract: a text that is too long is refused; any other is judged with an order of 255 places.
 -- Assumes nothing.
 use borrow.Author.Needs.{needs}
 use Rattle.judge_line.proofs.Saying.{says-too-long, says-judged}

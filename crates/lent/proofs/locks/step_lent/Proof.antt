@@ -1,4 +1,4 @@
--- `lent::locks::step_lent` meets its contract: it is `Entry.antt`'s entry, at the lock desk.
+-- `lent::locks::step_lent` meets its contract: it is the entry of `Entry.antt`, for the lock desk.
 -- Assumes nothing.
 use Rattle.desk_arrays.specs.Steps.{stepOf}
 use Rattle.desk.proofs.step.step.Symbol as step-def

@@ -1,4 +1,4 @@
--- `lent::stamps::step_lent` meets its contract: it is `Entry.antt`'s entry, at the timestamp desk.
+-- `lent::stamps::step_lent` meets its contract: it is the entry of `Entry.antt`, for the timestamp desk.
 -- Assumes nothing.
 use Rattle.stamp_arrays.specs.Steps.{stepOf}
 use Rattle.stamp_desk.proofs.step.step.Symbol as step-def

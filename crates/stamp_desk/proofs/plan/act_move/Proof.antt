@@ -1,4 +1,4 @@
--- `stamp_desk::plan::act_move` meets its contract: the cell, and then whether the job is late.
+-- `stamp_desk::plan::act_move` meets its contract: the cell decides, then whether the job is late.
 -- Assumes nothing.
 use mathlib.Core.Path.{sym, _∙_}
 use borrow.Author.Tests.{lt-ltb, le-ltb}

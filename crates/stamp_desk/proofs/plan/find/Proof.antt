@@ -1,4 +1,4 @@
--- `stamp_desk::plan::find` meets its contract: the place is looked for, and 0 stands nowhere.
+-- `stamp_desk::plan::find` meets its contract: the place is searched for; 0 stands nowhere.
 -- Assumes nothing.
 use borrow.Author.Tests.{eq-eqb, ne-eqb, lt-ltb, le-ltb}
 use Rattle.stamp_arrays.specs.Steps.{foundAt}

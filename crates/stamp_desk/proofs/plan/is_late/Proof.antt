@@ -1,4 +1,4 @@
--- `stamp_desk::plan::is_late` meets its contract: what is asked decides which numbers are looked at.
+-- `stamp_desk::plan::is_late` meets its contract: the ask decides which numbers count.
 -- Assumes nothing.
 use mathlib.Core.Path.{sym, _∙_}
 use Rattle.stamp_rules.specs.Rules.{lateToRead, late}

@@ -1,4 +1,4 @@
--- `stamp_desk::step::mark_reader` meets its contract: a read, an increment and u read the cell.
+-- `stamp_desk::step::mark_reader` meets its contract: r, i and u read the cell.
 -- Assumes nothing.
 use Rattle.stamp_arrays.specs.Steps.{readersAfter}
 use borrow.Author.Needs.{needs}

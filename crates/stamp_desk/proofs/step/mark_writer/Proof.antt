@@ -1,4 +1,4 @@
--- `stamp_desk::step::mark_writer` meets its contract: a write and an increment write the cell.
+-- `stamp_desk::step::mark_writer` meets its contract: w and i write the cell.
 -- Assumes nothing.
 use Rattle.stamp_arrays.specs.Steps.{writersAfter}
 use borrow.Author.Needs.{needs}

@@ -1,4 +1,4 @@
--- `stamp_desk::step::step` meets its contract: what the fields hold after the step in place, put together again.
+-- `stamp_desk::step::step` meets its contract: the fields after the step in place, put back into a desk.
 -- Assumes nothing.
 use Rattle.stamp_desk.proofs.Performed.{step-whole}
 use borrow.Author.Needs.{needs}

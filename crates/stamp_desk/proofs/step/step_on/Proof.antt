@@ -1,4 +1,4 @@
--- `stamp_desk::step::step_on` meets its contract: the step by the byte's letter, and a byte that has none is refused.
+-- `stamp_desk::step::step_on` meets its contract: the step by the byte's letter; a byte of no letter is refused.
 -- Assumes nothing.
 use mathlib.Core.Path.{sym, _∙_}
 use Rattle.stamp_arrays.specs.Steps.{stampsOf}

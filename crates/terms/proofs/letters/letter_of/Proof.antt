@@ -1,4 +1,4 @@
--- `terms::letters::letter_of` meets its contract: a matched byte is put for the argument, and the lookup computes; an unmatched one differs from each.
+-- `terms::letters::letter_of` meets its contract: for a matched byte the lookup computes; an unmatched byte differs from every letter's.
 -- Assumes nothing.
 use borrow.Author.Tests.{ne-eqb}
 use Rattle.terms.proofs.letters.letter_of.Statement.{statement}

@@ -1,4 +1,4 @@
--- `terms::refusals::field_of` meets its contract: with the matched refusal put for the argument the definition computes.
+-- `terms::refusals::field_of` meets its contract: for each matched refusal the definition computes.
 -- Assumes nothing.
 use mathlib.Core.Path.{_∙_}
 use borrow.Author.Needs.{needs}

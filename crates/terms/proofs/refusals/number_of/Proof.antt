@@ -1,4 +1,4 @@
--- `terms::refusals::number_of` meets its contract: with the matched refusal put for the argument the definition computes.
+-- `terms::refusals::number_of` meets its contract: for each matched refusal the definition computes.
 -- Assumes nothing.
 use borrow.Author.Needs.{needs}
 use Rattle.terms.proofs.refusals.number_of.Statement.{statement}

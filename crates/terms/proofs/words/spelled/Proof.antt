@@ -1,4 +1,4 @@
--- `terms::words::spelled` meets its contract: with the matched word put for the argument the definition computes.
+-- `terms::words::spelled` meets its contract: for each matched word the definition computes.
 -- Assumes nothing.
 use borrow.Author.Needs.{needs}
 use Rattle.terms.proofs.words.spelled.Statement.{statement}

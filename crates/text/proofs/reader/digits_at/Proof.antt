@@ -1,4 +1,4 @@
--- `text::reader::digits_at` meets its contract. The invariant: what is left of the digits decides as the whole does. The measure is what is left of the line.
+-- `text::reader::digits_at` meets its contract. The invariant: the digits left decide as the whole does. The measure: the bytes left of the line.
 -- Assumes nothing.
 use Prim.Native.Nat.{_≤_, _-_}
 use mathlib.Core.Path.{_≡_, sym, _∙_}

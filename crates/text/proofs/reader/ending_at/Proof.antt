@@ -1,4 +1,4 @@
--- `text::reader::ending_at` meets its contract: both go by the byte at the place and whether it is the last.
+-- `text::reader::ending_at` meets its contract: code and definition branch on the byte at the place and whether it is the last.
 -- Assumes nothing.
 use borrow.Author.Needs.{needs}
 use Rattle.laws.specs.Choice.{cases}

@@ -1,4 +1,4 @@
--- `text::reader::ends_field` meets its contract: both test for a tab and then for a newline.
+-- `text::reader::ends_field` meets its contract: code and definition test for a tab, then for a newline.
 -- Assumes nothing.
 use Rattle.laws.specs.Choice.{cases}
 use Rattle.text_rules.specs.Lines.{parts}

@@ -1,4 +1,4 @@
--- `text::reader::first_letter` meets its contract: both go by whether the line has a byte, and its field ends after it.
+-- `text::reader::first_letter` meets its contract: code and definition branch on whether the line has a byte, and its field ends after it.
 -- Assumes nothing.
 use borrow.Author.Needs.{needs}
 use Rattle.laws.specs.Choice.{cases}

@@ -1,4 +1,4 @@
--- `text::reader::is_digit` meets its contract: the flag is the second test where the first holds.
+-- `text::reader::is_digit` meets its contract: if the first test holds, the flag is the second test.
 -- Assumes nothing.
 use borrow.Author.Tests.{le-leb, lt-leb}
 use Rattle.text_rules.specs.Lines.{isDigit}

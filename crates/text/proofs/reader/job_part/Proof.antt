@@ -1,4 +1,4 @@
--- `text::reader::job_part` meets its contract: both go by the job found after the letter.
+-- `text::reader::job_part` meets its contract: code and definition branch on the job found after the letter.
 -- Assumes nothing.
 use borrow.Author.Needs.{needs}
 use Rattle.laws.specs.Choice.{cases}

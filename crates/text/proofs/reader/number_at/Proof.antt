@@ -1,4 +1,4 @@
--- `text::reader::number_at` meets its contract: both go by the byte at the place and the digits after it.
+-- `text::reader::number_at` meets its contract: code and definition branch on the byte at the place and the digits after it.
 -- Assumes nothing.
 use borrow.Author.Needs.{needs}
 use Rattle.laws.specs.Choice.{cases}

@@ -1,4 +1,4 @@
--- `text::reader::read_request` meets its contract: both go by the first letter.
+-- `text::reader::read_request` meets its contract: code and definition branch on the first letter.
 -- Assumes nothing.
 use borrow.Author.Needs.{needs}
 use Rattle.laws.specs.Choice.{cases}

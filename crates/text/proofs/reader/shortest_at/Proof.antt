@@ -1,4 +1,4 @@
--- `text::reader::shortest_at` meets its contract: both go by the byte at the place and the next.
+-- `text::reader::shortest_at` meets its contract: code and definition branch on the byte at the place and the next.
 -- Assumes nothing.
 use borrow.Author.Needs.{needs}
 use Rattle.laws.specs.Choice.{cases}

@@ -1,4 +1,4 @@
--- `text::reader::torn_cell` meets its contract: both go by the cell found at the place.
+-- `text::reader::torn_cell` meets its contract: code and definition branch on the cell found at the place.
 -- Assumes nothing.
 use borrow.Author.Needs.{needs}
 use Rattle.laws.specs.Choice.{cases}

@@ -1,4 +1,4 @@
--- `text::reader::torn_job` meets its contract: both go by the job found after the letter.
+-- `text::reader::torn_job` meets its contract: code and definition branch on the job found after the letter.
 -- Assumes nothing.
 use borrow.Author.Needs.{needs}
 use Rattle.laws.specs.Choice.{cases}

@@ -1,4 +1,4 @@
--- `text::writer::put_byte` meets its contract: a byte that is written at the first place stands in front of the rest.
+-- `text::writer::put_byte` meets its contract: a byte written at the first place stands in front of the rest.
 -- Assumes nothing.
 use borrow.Author.Needs.{needs}
 use Rattle.text_rules.proofs.WroteLaws.{wrote-none, wrote-byte}

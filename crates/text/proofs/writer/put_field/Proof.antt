@@ -1,4 +1,4 @@
--- `text::writer::put_field` meets its contract: the tab, and then the number in the part after it.
+-- `text::writer::put_field` meets its contract: the tab, then the number in the part after it.
 -- Assumes nothing.
 use Prim.Native.Nat.{ℕ, _+_, _-_, _≤_}
 use mathlib.Core.Path.{_≡_}

@@ -1,4 +1,4 @@
--- `text::writer::put_last` meets its contract: the field, and then the newline at the place that was reached.
+-- `text::writer::put_last` meets its contract: the field, then the newline at the place reached.
 -- Assumes nothing.
 use native.Mathlib.Omega.{arith}
 use borrow.Author.Needs.{needs}

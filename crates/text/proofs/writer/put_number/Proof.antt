@@ -1,4 +1,4 @@
--- `text::writer::put_number` meets its contract. The loop's invariant: the digits that are still to be written, and what stands from there on, make the whole.
+-- `text::writer::put_number` meets its contract. The loop's invariant: the digits still to be written and the bytes already written make the whole.
 -- Assumes nothing.
 use Prim.Native.Nat.{_≤_}
 use mathlib.Core.Path.{_≡_}

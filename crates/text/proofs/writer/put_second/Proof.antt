@@ -1,4 +1,4 @@
--- `text::writer::put_second` meets its contract: the tab, and then the word in the part after it.
+-- `text::writer::put_second` meets its contract: the tab, then the word in the part after it.
 -- Assumes nothing.
 use borrow.Author.Needs.{needs}
 use Rattle.text_rules.proofs.WroteLaws.{wrote-more}

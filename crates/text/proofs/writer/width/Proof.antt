@@ -1,4 +1,4 @@
--- `text::writer::width` meets its contract. The loop's invariant: so many digits are counted, and the digits of `rest` are left, of which the last counts as one.
+-- `text::writer::width` meets its contract. The loop's invariant: `w` plus the digits of `rest`, less one, is the width of `n`.
 -- Assumes nothing.
 use native.Mathlib.Omega.{arith}
 use Rattle.text_rules.proofs.DigitLaws.{Counting, counting-first, counting-next, counting-two, counting-three, counting-four, counting-last}

@@ -1,4 +1,4 @@
--- `desk_arrays::state::Desk::first` meets its contract: started at 1, the empty desk is handed out.
+-- `desk_arrays::state::Desk::first` meets its contract: a start at 1 gives the empty desk.
 -- Assumes nothing.
 use mathlib.Core.Path.{ap}
 use borrow.Author.Needs.{needs}

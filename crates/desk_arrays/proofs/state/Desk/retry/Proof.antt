@@ -1,4 +1,4 @@
--- `desk_arrays::state::Desk::retry` meets its contract. The loop's invariant: the desk is as it was, and the job's place is that in the numbers not yet passed, further on by those passed; the measure is what is left of 32.
+-- `desk_arrays::state::Desk::retry` meets its contract. The loop's invariant: the desk is unchanged, and the search among the places not yet passed finds the job's place; the measure: the places left of 32.
 -- Assumes nothing.
 use Prim.Native.Nat.{_+_, _≤_, _-_}
 use mathlib.Core.Path.{_≡_, refl, ap, _∙_}

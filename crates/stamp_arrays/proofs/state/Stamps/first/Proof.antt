@@ -1,4 +1,4 @@
--- `stamp_arrays::state::Stamps::first` meets its contract: started at 1, the empty desk is handed out.
+-- `stamp_arrays::state::Stamps::first` meets its contract: a start at 1 gives the empty desk.
 -- Assumes nothing.
 use mathlib.Core.Path.{ap}
 use borrow.Author.Needs.{needs}

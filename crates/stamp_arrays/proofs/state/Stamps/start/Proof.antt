@@ -1,5 +1,5 @@
--- `stamp_arrays::state::Stamps::start` meets its contract: a walk of its MIR, by hand, since an enum that holds arrays gets none.
--- All that it knows of `empty` is that it meets its contract.
+-- `stamp_arrays::state::Stamps::start` meets its contract: its MIR is walked by hand, since Rattle makes no walk for an enum that holds arrays.
+-- The walk knows of `empty` only that it meets its contract.
 -- Assumes nothing.
 use mathlib.Core.Path.{_≡_, refl, ap}
 use mathlib.Core.Bool.{not}
