@@ -1,4 +1,4 @@
--- A record for which there is room is written, and has at most so many bytes; records written one after another.
+-- A record that fits is written, and its length is bounded; records written one after another.
 -- Assumes nothing.
 use Prim.Native.Nat.{ℕ, _+_, _≤_}
 use mathlib.Core.Path.{_≡_, subst}

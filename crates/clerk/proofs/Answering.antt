@@ -1,4 +1,4 @@
--- One line answered on a desk's fields where they stand is a turn of the work: what the step of the method's desk leaves, and the records of what it says.
+-- One line answered on a desk's fields in place is a turn of the work: the desk that the step of the method's desk leaves, and the records of what it says.
 -- Assumes nothing.
 use Prim.Native.Nat.{ℕ, zero, suc}
 use mathlib.Core.Path.{_≡_, refl, sym, ap, _∙_}

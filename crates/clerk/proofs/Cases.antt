@@ -1,4 +1,4 @@
--- Each branch of the code against the definition by cases that it follows.
+-- Each branch of the code, against the case of the definition that it follows.
 -- Assumes nothing.
 use Prim.Native.Nat.{ℕ}
 use mathlib.Core.Path.{_≡_, sym, ap, _∙_}

@@ -1,4 +1,4 @@
--- The chains of all who wait, one after another as the code writes them, each in the first places of a list.
+-- The chains of all waiting jobs, one after another as the code writes them, each in the first places of a list.
 -- Assumes nothing.
 use Prim.Native.Nat.{ℕ, zero, suc, _+_, _-_, _*_, _≤_, _<_}
 use mathlib.Core.Path.{_≡_, refl, sym, ap, subst, _∙_}

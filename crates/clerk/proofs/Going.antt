@@ -1,4 +1,4 @@
--- The loop of the work: what is left to do from here decides as the whole work does.
+-- The loop of the work: the work left from here decides as the whole does.
 -- Assumes nothing.
 use Prim.Native.Nat.{ℕ, _+_, _≤_, _<_}
 use mathlib.Core.Path.{_≡_, refl, sym, ap, _∙_, subst}

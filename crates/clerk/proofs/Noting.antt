@@ -1,4 +1,4 @@
--- What the history notes of a request, by its letter and by its answer, is what the paper's desk records of it (01, Lines).
+-- What the history notes of a request, by its letter and its answer, is what the paper's desk records of it (01, Lines).
 -- Assumes nothing.
 use Prim.Native.Nat.{ℕ}
 use mathlib.Core.Path.{_≡_, sym, ap, _∙_}

@@ -1,4 +1,4 @@
--- The records of one line as the code writes them, one after another: the first, if there is one, and then one for each wake (01, Lines).
+-- The records of one line as the code writes them, one after another: the first, if there is one, then one for each wake (01, Lines).
 use Prim.Native.Nat.{ℕ, _≤_, _<_}
 use mathlib.Core.Path.{_≡_}
 use mathlib.Core.List.{List, [], _∷_, _++_}
@@ -24,16 +24,16 @@ use Rattle.program_rules.specs.Work.{viewed}
 use Rattle.clerk.specs.declared.records.Noted.{Noted}
 use Rattle.clerk.specs.declared.records.Noted.the-variants.{Nothing, Line}
 
--- so many bytes at most were written: they stand from one place up to another, and all other bytes stay
+-- at most `most` bytes were written: they stand from one place up to another, and all other bytes are unchanged
 pub record Added (most at to : ℕ) (bytes before after : List ℕ) : Type 0 where
   pub wrote : Wrote at to bytes before after
   pub few : length bytes ≤ most
 
--- the number and the field of an answer record that is short enough: a number of 32 bits, and beside a field one of two digits
+-- the number and the field of a short enough answer record: the number has 32 bits, and at most two digits if there is a field
 abbrev pub Besides : ℕ → ℕ → Type 0
 Besides number fault = (number ≤ lastNumber) × (fault ≤ 9) × (0 < fault → number ≤ 99)
 
--- the request of a good line, as far as its history records go: these do not name the job that asked, but the one answered
+-- the request of a good line, as far as its history records need it: they name the job answered, not the job that asked
 abbrev pub asking : Letter → ℕ → Request
 asking l cell = record { kind = byteOf l; job = 0; cell = cell }
 
@@ -54,7 +54,7 @@ wakeRecord Answers line a = answerRecord line Wake (a .job) 0
 wakeRecord History line a = eventLine (Does a)
 wakeRecord Chains line a = []
 
--- one for each wake
+-- the records of all wakes in a view
 unfoldable pub wakeRecords : View → ℕ → List Action → List ℕ
 wakeRecords view line [] = []
 wakeRecords view line (a ∷ rest) = wakeRecord view line a ++ wakeRecords view line rest
@@ -63,7 +63,7 @@ wakeRecords view line (a ∷ rest) = wakeRecord view line a ++ wakeRecords view 
 unfoldable pub lineRecords : View → ℕ → Letter → ℕ → Answer → List Action → List ℕ
 lineRecords view line l cell a wakes = firstRecord view line l cell a ++ wakeRecords view line wakes
 
--- a request answered on a desk, whichever it is: the desk is what the step leaves, and the records of what the step says are written
+-- a request answered on a desk of either kind: the desk is what the step leaves, and the records of what the step says are written
 pub record Answered {S : Type 0} (does : Stepping S) (view : View) (line : ℕ) (r : Request) (d e : S) (at to : ℕ) (before after : List ℕ) : Type 0 where
   pub desk : e ≡ does d r .desk
   pub records : Wrote at to (viewed view (toldBy line r (does d r))) before after

@@ -1,4 +1,4 @@
-// What is written once the last line has been answered: the chains of those who wait, a line each (02, No. 3).
+// What is written after the last line has been answered: the chains of the waiting jobs, one line each (02, No. 3).
 use desk_arrays::state::Desk;
 use desk_chain::chain::next_chain;
 use program_rules::Clerk;
@@ -25,12 +25,12 @@ ghost use Rattle.program_rules.specs.Chains.{chainText};
 ghost use Rattle.program_rules.specs.Closing.{jobRoom, chainsRoom, chainsBy, closingRoom, closeOf};
 ghost use Rattle.clerk.specs.Parts.{Added};
 
-// No job of a chain has more bytes: ten digits, and the tab or the newline behind them.
+// The most bytes that a job takes in a chain: ten digits, and the tab or the newline behind them.
 const JOB_ROOM: usize = 11;
-// No more bytes of chains: no more jobs wait than there are places, and no chain has more jobs.
+// The most bytes of all chains: at most as many jobs wait as there are places, and no chain has more jobs than that.
 const CHAINS_ROOM: usize = PLACES * PLACES * JOB_ROOM;
 
-// A job that there is room for, and the place after it.
+// Writes a job that fits; returns the place after it.
 fn put_number(out: &mut [u8], at: usize, job: u32) -> usize
     requires { ⌜ at + 10 ≤ length (now out) ⌝ }
     ensures { λ r. ⌜ Added 10 at r (decimal job) (now (out .entry)) (now (out .exit)) ⌝ }
@@ -41,7 +41,7 @@ fn put_number(out: &mut [u8], at: usize, job: u32) -> usize
     }
 }
 
-// A tab and a job that there is room for, and the place after it.
+// Writes a tab and a job that fit; returns the place after them.
 fn put_field(out: &mut [u8], at: usize, job: u32) -> usize
     requires { ⌜ at + jobRoom ≤ length (now out) ⌝ }
     ensures { λ r. ⌜ Added jobRoom at r (tab ∷ decimal job) (now (out .entry)) (now (out .exit)) ⌝ }
@@ -52,7 +52,7 @@ fn put_field(out: &mut [u8], at: usize, job: u32) -> usize
     }
 }
 
-// The newline, where there is room for it, and the place after it.
+// Writes the newline, which fits; returns the place after it.
 fn put_end(out: &mut [u8], at: usize) -> usize
     requires { ⌜ at < length (now out) ⌝ }
     ensures { λ r. ⌜ Added 1 at r (newline ∷ []) (now (out .entry)) (now (out .exit)) ⌝ }
@@ -63,7 +63,7 @@ fn put_end(out: &mut [u8], at: usize) -> usize
     }
 }
 
-// The line of a chain, for which there is room, and the place after it.
+// Writes the line of a chain, which fits; returns the place after it.
 fn put_chain(out: &mut [u8], at: usize, jobs: &[u32]) -> usize
     requires { ⌜ (0 < length (now jobs)) × (at + jobRoom * length (now jobs) ≤ length (now out)) ⌝ }
     ensures { λ r. ⌜ Added (jobRoom * length (now (jobs .entry))) at r (jobsLine (now (jobs .entry))) (now (out .entry)) (now (out .exit)) ⌝ }
@@ -77,7 +77,7 @@ fn put_chain(out: &mut [u8], at: usize, jobs: &[u32]) -> usize
     put_end(out, next)
 }
 
-// The chains of all who wait, in ascending order, a line each, for which there is room, and the place after them.
+// Writes the chains of all waiting jobs, in ascending order, one line each; they fit. Returns the place after them.
 fn put_chains(out: &mut [u8], at: usize, d: Desk) -> usize
     requires { ⌜ at + chainsRoom ≤ length (now out) ⌝ }
     ensures { λ r. ⌜ Wrote at r (chainText (chainsOn d)) (now (out .entry)) (now (out .exit)) ⌝ }
@@ -98,7 +98,7 @@ fn put_chains(out: &mut [u8], at: usize, d: Desk) -> usize
     next
 }
 
-// The chains of those who wait, by the method: on the timestamp desk nobody does.
+// Writes the chains of the waiting jobs, by the method: on the timestamp desk nobody waits.
 fn put_waiting(out: &mut [u8], at: usize, d: Desks) -> usize
     requires { ⌜ at + chainsRoom ≤ length (now out) ⌝ }
     ensures { λ r. ⌜ Wrote at r (chainsBy (d .method) d) (now (out .entry)) (now (out .exit)) ⌝ }
@@ -110,7 +110,7 @@ fn put_waiting(out: &mut [u8], at: usize, d: Desks) -> usize
     }
 }
 
-// How much room is asked for what is written at the end.
+// The room required for what is written at the end.
 fn closing_room(view: View) -> usize
     ensures { λ r. ⌜ r ≡ closingRoom view ⌝ }
 {
@@ -121,7 +121,7 @@ fn closing_room(view: View) -> usize
     }
 }
 
-// What a program writes last, behind the records of its lines: the chains of those who wait, and of answers and history nothing. Where there is no room for that, the buffer is to be written out first.
+// Writes what a program writes last, behind the records of its lines: the chains of the waiting jobs, and nothing for answers and history. If it does not fit, the buffer must be written out first.
 pub fn close(view: View, c: Clerk, out: &mut [u8], at: usize) -> Finished
     ensures { λ r. ⌜ (r ≡ closeOf view c (now (out .entry)) at .finished) × (now (out .exit) ≡ closeOf view c (now (out .entry)) at .out) ⌝ }
 {

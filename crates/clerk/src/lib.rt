@@ -1,4 +1,4 @@
-// The clerk at work: chunks of request lines in, records and at the end the chains out, whatever the lines and however large the buffers.
+// The clerk at work: takes chunks of request lines, gives records and at the end the chains, for any lines and any size of buffers.
 pub mod chains;
 mod records;
 pub mod work;

@@ -1,4 +1,4 @@
-// The records of one line in each view: the answer or what the history notes of it, and then the wakes; for the chains none (01, Lines; 02, No. 3).
+// The records of one line in each view: the answer, or what the history notes of it, then the wakes; none for the chains (01, Lines; 02, No. 3).
 use conflict::action::Action;
 use conflict::action::Kind;
 use conflict::modes::recorded_kind;
@@ -33,7 +33,7 @@ ghost use Rattle.terms.specs.declared.letters.Lettered.the-variants.{Known};
 ghost use Rattle.program_rules.specs.Work.{viewed, toldBad, wakesRoom, lineRoom};
 ghost use Rattle.clerk.specs.Parts.{Added, Besides, asking, notedBytes, firstRecord, wakeRecord, wakeRecords, lineRecords};
 
-// What the history notes of a request, beside the wakes: one line of a letter, or nothing.
+// What the history notes of a request, apart from wakes: one line of a letter, or nothing.
 enum Noted {
     Nothing,
     Line { letter: Letter, job: u32, cell: u32 },
@@ -51,7 +51,7 @@ fn word_of(a: Answer) -> Word
     }
 }
 
-// The number beside it: the job, or the refusal's number.
+// The number after the word: the job, or the refusal's number.
 fn number_beside(a: Answer) -> u64
     ensures { λ r. ⌜ (r ≡ numberBeside a) × (r ≤ lastNumber) ⌝ }
 {
@@ -63,7 +63,7 @@ fn number_beside(a: Answer) -> u64
     }
 }
 
-// The field beside that: the field at fault of a bad line, and 0 where there is none.
+// The field after the number: the field at fault of a bad line, or 0 if there is none.
 fn field_beside(a: Answer) -> u64
     ensures { λ r. ⌜ r ≡ fieldBeside a ⌝ }
 {
@@ -75,7 +75,7 @@ fn field_beside(a: Answer) -> u64
     }
 }
 
-// The letter r, w or i, by the kind that is recorded.
+// The letter r, w or i, by the recorded kind.
 fn ask_by(k: Kind) -> Ask
     ensures { λ r. ⌜ r ≡ askBy k ⌝ }
 {
@@ -86,7 +86,7 @@ fn ask_by(k: Kind) -> Ask
     }
 }
 
-// What the history notes of a request that goes: of u it notes r.
+// What the history notes of a request that goes; u is noted as r.
 fn noted_go(letter: Letter, job: u32, cell: u32) -> Noted
     ensures { λ r. ⌜ notedBytes r ≡ textOf (wentBy (asking letter cell) job (Known letter)) ⌝ }
 {
@@ -128,7 +128,7 @@ fn noted_of(letter: Letter, cell: u32, a: Answer) -> Noted
     }
 }
 
-// An answer record, for which there is room.
+// Writes an answer record, which fits.
 fn put_answer(out: &mut [u8], at: usize, line: u64, word: Word, number: u64, fault: u64) -> usize
     requires { ⌜ (line ≤ requestLines) × (ofAnswers word ≡ true) × Besides number fault × (at + longestRecord ≤ length (now out)) ⌝ }
     ensures { λ r. ⌜ Added longestRecord at r (answerRecord line word number fault) (now (out .entry)) (now (out .exit)) ⌝ }
@@ -139,7 +139,7 @@ fn put_answer(out: &mut [u8], at: usize, line: u64, word: Word, number: u64, fau
     }
 }
 
-// The line of a letter, for which there is room.
+// Writes the line of a letter, which fits.
 fn put_line(out: &mut [u8], at: usize, letter: Letter, job: u32, cell: u32) -> usize
     requires { ⌜ at + longestRecord ≤ length (now out) ⌝ }
     ensures { λ r. ⌜ Added longestRecord at r (lineRecord letter job cell) (now (out .entry)) (now (out .exit)) ⌝ }
@@ -150,7 +150,7 @@ fn put_line(out: &mut [u8], at: usize, letter: Letter, job: u32, cell: u32) -> u
     }
 }
 
-// What the history notes, if it notes anything.
+// Writes what the history notes, if anything.
 fn put_noted(out: &mut [u8], at: usize, n: Noted) -> usize
     requires { ⌜ at + longestRecord ≤ length (now out) ⌝ }
     ensures { λ r. ⌜ Added longestRecord at r (notedBytes n) (now (out .entry)) (now (out .exit)) ⌝ }
@@ -161,7 +161,7 @@ fn put_noted(out: &mut [u8], at: usize, n: Noted) -> usize
     }
 }
 
-// The first record of a line; where nobody can wake, it is all of them.
+// Writes the first record of a line; on a desk without wakes it is the only one.
 pub fn put_first(
     view: View,
     out: &mut [u8],
@@ -181,7 +181,7 @@ pub fn put_first(
     }
 }
 
-// The record of a wake.
+// Writes the record of a wake.
 fn put_wake(view: View, out: &mut [u8], at: usize, line: u64, a: Action) -> usize
     requires { ⌜ (line ≤ requestLines) × (at + longestRecord ≤ length (now out)) ⌝ }
     ensures { λ r. ⌜ Added longestRecord at r (wakeRecord view line a) (now (out .entry)) (now (out .exit)) ⌝ }
@@ -196,7 +196,7 @@ fn put_wake(view: View, out: &mut [u8], at: usize, line: u64, a: Action) -> usiz
     }
 }
 
-// One record for each of the places woken, so many, with its number and what it waited for read off the desk's arrays.
+// Writes one record for each of the `count` woken places; number and request are read off the desk's arrays.
 fn put_wakes<'a>(
     view: View,
     out: &mut [u8],
@@ -224,7 +224,7 @@ fn put_wakes<'a>(
     next
 }
 
-// All records of a line whose request is good. Most steps wake nobody.
+// Writes all records of a line with a good request. Most steps wake nobody.
 pub fn put_records<'a>(
     view: View,
     out: &mut [u8],
@@ -249,7 +249,7 @@ pub fn put_records<'a>(
     put_wakes(view, out, next, line, number, cells, ask, woken, count)
 }
 
-// The record of a bad line: refusal 9 and the field at fault among the answers, and none in the history and for the chains.
+// Writes the record of a bad line: refusal 9 and the field at fault among the answers; none in the history or for the chains.
 pub fn put_bad(view: View, out: &mut [u8], at: usize, line: u64, field: Field) -> usize
     requires { ⌜ (line ≤ requestLines) × (at + lineRoom ≤ length (now out)) ⌝ }
     ensures { λ r. ⌜ Wrote at r (viewed view (toldBad line field)) (now (out .entry)) (now (out .exit)) ⌝ }

@@ -1,4 +1,4 @@
-// Line after line of a chunk: cut, read, step the desk that the method says, write the records (01, Lines; 02, No. 6).
+// Line after line of a chunk: cut it, read it, step the desk that the method names, write the records (01, Lines; 02, No. 6).
 use crate::records::put_bad;
 use crate::records::put_first;
 use crate::records::put_records;
@@ -37,9 +37,9 @@ ghost use Rattle.program_rules.specs.Desks.{desksOf};
 ghost use Rattle.clerk.specs.Parts.{Answered};
 ghost use Rattle.program_rules.specs.Work.{viewed, unended, lineRoom, due, turning, owing, workOf, finishOf};
 
-// The longest record has so many bytes.
+// The bytes of the longest record.
 const LONGEST_RECORD: usize = 24;
-// No line has more bytes of records: its own record, and one for each wake.
+// The most bytes of a line's records: its own record, and one for each wake.
 pub const LINE_ROOM: usize = LONGEST_RECORD + LONGEST_RECORD * PLACES;
 
 // Whether the line in the splitter is to be answered.
@@ -52,7 +52,7 @@ fn is_due(s: Splitter) -> bool
     false
 }
 
-// Whether a line is under way that is to be answered although it lacks its newline.
+// Whether a line is under way that must be answered although it lacks its newline.
 fn is_owing(s: Splitter) -> bool
     ensures { λ r. ⌜ r ≡ owing s ⌝ }
 {
@@ -62,7 +62,7 @@ fn is_owing(s: Splitter) -> bool
     s.line <= REQUEST_LINES
 }
 
-// A good line is answered on the lock desk's fields where they stand, and its records are put into the buffer.
+// Answers a good line on the lock desk's fields, in place, and puts its records into the buffer.
 fn answer_by_locks(
     view: View,
     next: &mut u64,
@@ -111,7 +111,7 @@ fn answer_by_locks(
     )
 }
 
-// A good line is answered on the timestamp desk's fields where they stand, and its one record is put into the buffer: nobody waits there.
+// Answers a good line on the timestamp desk's fields, in place, and puts its one record into the buffer: nobody waits there.
 fn answer_by_stamps(
     view: View,
     next: &mut u64,
@@ -132,7 +132,7 @@ fn answer_by_stamps(
     put_first(view, out, at, line, letter, cell, answer)
 }
 
-// The line in the splitter is answered on the fields of the desk that the method says, and its records are put into the buffer.
+// Answers the line in the splitter on the fields of the desk that the method names, and puts its records into the buffer.
 fn answer_line(
     view: View,
     method: Method,
@@ -190,9 +190,9 @@ fn answer_line(
     }
 }
 
-// From a place of a chunk on, every line that ends is answered and its records stand in the buffer from a place on, as long as a byte is left and there is
-// room for the records of any line; where there is not, the work is full and stops before the next cut, and goes on from there once the buffer is written out.
-// The desks' fields are taken out once and put back at the end.
+// Answers every line that ends in the chunk, from a place on, and puts its records into the buffer from a place on, while bytes are left and any line's records would fit.
+// If they might not fit, the work is full: it stops before the next cut, and goes on from there once the buffer is written out.
+// The desks' fields are taken out once, and put back at the end.
 pub fn work(view: View, c: Clerk, chunk: &[u8], from: usize, out: &mut [u8], at: usize) -> Worked
     ensures { λ r. ⌜ (r ≡ workOf view c (now (chunk .entry)) from (now (out .entry)) at .worked) × (now (out .exit) ≡ workOf view c (now (chunk .entry)) from (now (out .entry)) at .out) ⌝ }
 {
@@ -272,7 +272,7 @@ pub fn work(view: View, c: Clerk, chunk: &[u8], from: usize, out: &mut [u8], at:
     }
 }
 
-// The record of the line in the splitter, where the input has ended before its newline.
+// Writes the record of the line in the splitter, if the input ended before its newline.
 fn put_unended(view: View, out: &mut [u8], at: usize, s: Splitter) -> usize
     requires { ⌜ (s .line ≤ requestLines) × (at + lineRoom ≤ length (now out)) ⌝ }
     ensures { λ r. ⌜ Wrote at r (viewed view (unended s)) (now (out .entry)) (now (out .exit)) ⌝ }
@@ -280,7 +280,7 @@ fn put_unended(view: View, out: &mut [u8], at: usize, s: Splitter) -> usize
     put_bad(view, out, at, s.line, torn_held(s))
 }
 
-// The end of the input: a line that lacks its newline is answered by refusal 9, with the field at fault. Where there is no room for that, the buffer is to be written out first.
+// The end of the input: a line without its newline gets refusal 9, with the field at fault. If that does not fit, the buffer must be written out first.
 pub fn finish(view: View, c: Clerk, out: &mut [u8], at: usize) -> Finished
     ensures { λ r. ⌜ (r ≡ finishOf view c (now (out .entry)) at .finished) × (now (out .exit) ≡ finishOf view c (now (out .entry)) at .out) ⌝ }
 {

@@ -1,4 +1,4 @@
--- The action on a line from the three numbers that are kept of it.
+-- The action on a line, from the three numbers kept for it.
 -- Assumes nothing.
 use Prim.Native.Nat.{ℕ}
 use mathlib.Core.Path.{_≡_}

@@ -1,4 +1,4 @@
--- The edges from the passes that lead to them: who has a c, which lines count, and the lines grouped by job; and what they say of the jobs.
+-- The edges from the passes that lead to them: which jobs have a c, which lines count, and the lines grouped by job; and what the edges say of the jobs.
 -- Assumes nothing.
 use Prim.Native.Nat.{ℕ, _≤_, _<_}
 use mathlib.Core.Path.{_≡_, refl, sym, ap, _∙_, subst}

@@ -1,4 +1,4 @@
--- An edge between two jobs by their parts of the lines: one job, two that meet on no cell, and two that may.
+-- An edge between two jobs by their parts of the lines: the same job twice, two jobs that meet on no cell, and two that may.
 -- Assumes nothing.
 use Prim.Native.Nat.{ℕ, _<_}
 use mathlib.Core.Path.{_≡_, ap, ap₂, _∙_}

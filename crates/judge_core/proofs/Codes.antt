@@ -1,4 +1,4 @@
--- What one line says, by the number that is kept for it: an action below 3, a c, an a, and a k above 4.
+-- What one line says, by its code: an action below 3, a c, an a, and a k above 4.
 -- Assumes nothing.
 use Prim.Native.Nat.{ℕ, _<_, _≤_}
 use mathlib.Core.Path.{_≡_, refl, sym, ap, _∙_}

@@ -1,4 +1,4 @@
--- The first line that is a dirty read by the ends of runs, with the last line that makes it so, is the first dirty read of the history (02, No. 2).
+-- The first line that is a dirty read by the run ends, with the last line that makes it dirty, is the first dirty read of the history (02, No. 2).
 -- Assumes nothing.
 use Prim.Native.Nat.{ℕ, zero, suc, _≤_, _<_}
 use mathlib.Core.Path.{_≡_, refl, sym, _∙_}

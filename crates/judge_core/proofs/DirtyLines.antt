@@ -1,4 +1,4 @@
--- The dirty reads of a history kept in arrays, by the places of their two lines and the ends of the runs that these are in (02, No. 2).
+-- The dirty reads of a history kept in arrays, by the places of their two lines and the ends of these lines' runs (02, No. 2).
 -- Assumes nothing.
 use Prim.Native.Nat.{ℕ, suc, _+_, _-_, _<_}
 use mathlib.Core.Path.{_≡_, refl, sym, ap, _∙_}

@@ -1,4 +1,4 @@
--- The tables of the passes that look for the first dirty read, one line at a time: where runs end, and the latest end of those that have changed each cell.
+-- The tables of the passes that look for the first dirty read, one line at a time: where runs end, and for each cell the latest end of the runs that changed it.
 -- Assumes nothing.
 use Prim.Native.Nat.{ℕ, suc, _+_, _-_, _≤_, _<_}
 use mathlib.Core.Path.{_≡_, refl, sym, ap, _∙_}

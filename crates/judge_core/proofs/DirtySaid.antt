@@ -1,4 +1,4 @@
--- The verdict on lines without a fault: a dirty read with its jobs, which fill the buffer's first two places, and else the order or the knot (02, No. 2).
+-- The verdict on faultless lines: a dirty read, whose two jobs fill the buffer's first two places, else the order or the knot (02, No. 2).
 -- Assumes nothing.
 use Prim.Native.Nat.{ℕ}
 use mathlib.Core.Path.{_≡_, refl, sym, _∙_}

@@ -1,4 +1,4 @@
--- Lines without a fault: what the table leaves of a line, test by test, and of all lines where none is faulty.
+-- Faultless lines: what the table leaves of a line, test by test, and of all lines if none is faulty.
 -- Assumes nothing.
 use Prim.Native.Nat.{ℕ, zero, suc, _+_, _-_, _≤_, _<_}
 use mathlib.Core.Path.{_≡_, refl, sym, ap, _∙_, subst}

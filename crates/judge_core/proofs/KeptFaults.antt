@@ -1,4 +1,4 @@
--- The fault of one kept line, from what the code looks at, and the flags of the jobs that have committed or given up, one line more.
+-- The fault of one kept line, from what the code tests, and the flags of ended jobs after one line more.
 -- Assumes nothing.
 use Prim.Native.Nat.{ℕ, suc, _+_, _≤_, _<_}
 use mathlib.Core.Path.{_≡_, refl, sym, ap, _∙_}

@@ -1,4 +1,4 @@
--- The judge on lines kept as numbers: a short buffer, then the first faulty line, and else the verdict.
+-- The judge on lines kept as numbers: a short buffer, then the first faulty line, else the verdict.
 -- Assumes nothing.
 use Prim.Native.Nat.{ℕ, _≤_, _<_}
 use mathlib.Core.Path.{_≡_, refl, sym, ap, _∙_}

@@ -1,4 +1,4 @@
--- The numbers that pass a test: one more at the end, who is among them, and that they ascend.
+-- The numbers that pass a test: one more at the end, membership, and ascending order.
 -- Assumes nothing.
 use Prim.Native.Nat.{ℕ, zero, suc, _+_, _≤_, _<_}
 use mathlib.Core.Path.{_≡_, refl, sym, ap, ap₂, _∙_}

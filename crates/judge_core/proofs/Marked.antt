@@ -1,4 +1,4 @@
--- The marks of a history kept in arrays: who has a c, and from where on no k of a job follows.
+-- The marks of a history kept in arrays: which jobs have a c, and from where on no k of a job follows.
 -- Assumes nothing.
 use Prim.Native.Nat.{ℕ, zero, suc, _+_, _≤_}
 use mathlib.Core.Path.{_≡_, refl, sym, ap, _∙_}

@@ -1,4 +1,4 @@
--- Tables of jobs and lines as a pass over the lines makes them, one line at a time: who has a c, from where on each job's actions count, and whose each line is.
+-- Tables that a pass makes line by line: which jobs have a c, from where on each job's actions count, and who owns each line.
 -- Assumes nothing.
 use Prim.Native.Nat.{ℕ, suc, _+_, _≤_, _<_}
 use mathlib.Core.Path.{_≡_, refl, sym, _∙_}

@@ -1,4 +1,4 @@
--- An edge between two jobs, said of their lines: a line of the one stands before a line of the other that it conflicts with.
+-- An edge between two jobs, by their lines: a line of the first stands before a line of the second that it conflicts with.
 -- Assumes nothing.
 use Prim.Native.Nat.{ℕ, zero, suc, _≤_, _<_}
 use mathlib.Core.Path.{_≡_, refl, sym, ap, ap₂, _∙_}

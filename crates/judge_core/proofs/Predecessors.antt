@@ -1,4 +1,4 @@
--- Each job's smallest predecessor that is left: kept while jobs are taken away, looked on for, and known of the jobs passed.
+-- Each job's smallest remaining predecessor: kept while jobs are taken away, searched further, and known for the jobs passed.
 -- Assumes nothing.
 use Prim.Native.Nat.{ℕ, _+_, _≤_, _<_}
 use mathlib.Core.Path.{_≡_, sym, ap, _∙_, subst}

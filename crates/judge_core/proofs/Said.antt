@@ -1,4 +1,4 @@
--- The verdict said: an order where no job remains, else the knot, with the jobs that fill the buffer.
+-- The verdict: an order if no job remains, else the knot, with the jobs that fill the buffer.
 -- Assumes nothing.
 use Prim.Native.Nat.{ℕ, _+_, _-_, _≤_, _<_, min}
 use mathlib.Core.Path.{_≡_, refl, sym, ap, _∙_, subst}

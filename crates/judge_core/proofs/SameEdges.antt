@@ -1,4 +1,4 @@
--- Edges that say the same of the jobs that are left lead to the same order, leave the same jobs, and have the same predecessors among them.
+-- Edges that agree on the remaining jobs give the same order, leave the same jobs, and have the same predecessors among them.
 -- Assumes nothing.
 use Prim.Native.Nat.{ℕ, zero, suc}
 use mathlib.Core.Path.{_≡_, refl, ap, ap₂}

@@ -1,4 +1,4 @@
--- The search for a conflict between two jobs' lines, one line of the one at a time, from the last back; and what stands where in lines that ascend.
+-- The search for a conflict between two jobs' lines, one line of the first job at a time, from the last back; and positions in ascending lines.
 -- Assumes nothing.
 use Prim.Native.Nat.{ℕ, zero, suc, _-_, _≤_, _<_}
 use mathlib.Core.Path.{_≡_, refl, sym, ap, _∙_}

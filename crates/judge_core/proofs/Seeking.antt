@@ -1,4 +1,4 @@
--- The smallest job that is left and passes a test, looked for from the smallest number on.
+-- The smallest remaining job that passes a test, searched from the smallest number on.
 -- Assumes nothing.
 use Prim.Native.Nat.{ℕ, zero, suc, _+_, _-_, _≤_, _<_}
 use mathlib.Core.Path.{_≡_, refl, sym, ap, _∙_, subst}

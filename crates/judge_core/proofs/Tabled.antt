@@ -1,4 +1,4 @@
--- A table of values: how long it is, what stands at each place, and what one store makes of it.
+-- A table of values: its length, its entries, and the effect of one store.
 -- Assumes nothing.
 use Prim.Native.Nat.{ℕ, zero, suc, _<_}
 use mathlib.Core.Path.{_≡_, refl, sym, _∙_}

@@ -1,4 +1,4 @@
--- Jobs taken away one at a time, their flags struck and their numbers put down in order, come to the judge's order and to what remains.
+-- Taking jobs away one at a time, clearing their flags and writing their numbers in order, gives the judge's order and the jobs that remain.
 -- Assumes nothing.
 use Prim.Native.Nat.{ℕ, suc, _+_, _-_, _≤_, _<_}
 use mathlib.Core.Path.{_≡_, refl, sym, ap, _∙_}

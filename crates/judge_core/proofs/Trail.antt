@@ -1,4 +1,4 @@
--- The walk back along smallest predecessors, its jobs put down from the end of a trail to its front.
+-- The walk back along smallest predecessors, with its jobs written from the end of a trail to its front.
 -- Assumes nothing.
 use Prim.Native.Nat.{ℕ, zero, suc, _+_, _-_, _≤_, _<_}
 use mathlib.Core.Path.{_≡_, refl, sym, ap, _∙_, subst}

@@ -1,4 +1,4 @@
--- What the edges are worked out from, as the passes over the lines leave it.
+-- Everything from which the edges are worked out, as the passes over the lines leave it.
 -- Assumes nothing.
 use Prim.Native.Nat.{ℕ, _-_, _≤_, _<_}
 use mathlib.Core.Path.{_≡_, sym, _∙_, subst}

@@ -1,4 +1,4 @@
--- What of a history's lines counts, said of the arrays that keep it: which jobs have a c, from which line on each job's actions count, and whose action each line is (01, The judge's rules).
+-- Which lines count, over the arrays that keep a history: which jobs have a c, from which line on each job's actions count, and who owns each line (01, The judge's rules).
 use Prim.Native.Nat.{ℕ, zero, suc, _<_}
 use mathlib.Core.Path.{_≡_}
 use mathlib.Core.Bool.{Bool, false, _&&_, _||_}
@@ -13,16 +13,16 @@ unfoldable pub hasCommit : List ℕ → List ℕ → ℕ → ℕ → Bool
 hasCommit codes jobs zero j = false
 hasCommit codes jobs (suc p) j = (eqb (getD jobs p 0) j && eqb (getD codes p 0) 3) || hasCommit codes jobs p j
 
--- the line from which job j's actions count: the one after its last k among the first n lines, or the first
+-- the line from which job j's actions count: the line after its last k among the first n lines, or the first line
 unfoldable pub countedFrom : List ℕ → List ℕ → ℕ → ℕ → ℕ
 countedFrom codes jobs zero j = 0
 countedFrom codes jobs (suc p) j = pick (eqb (getD jobs p 0) j && ltb 4 (getD codes p 0)) (suc p) (countedFrom codes jobs p j)
 
--- the job whose action line p is, if it is an action and stands where that job's count, and else 0
+-- the owner of line p: its job, if the line is an action that counts, else 0
 unfoldable pub ownerAt : List ℕ → List ℕ → List ℕ → ℕ → ℕ
 ownerAt codes jobs since p = pick (ltb (getD codes p 0) 3) (pick (leb (getD since (getD jobs p 0) 0) p) (getD jobs p 0) 0) 0
 
--- the owners of the first n lines; those behind have none
+-- the owner of a line among the first n; 0 for later lines
 unfoldable pub ownersBy : List ℕ → List ℕ → List ℕ → ℕ → ℕ → ℕ
 ownersBy codes jobs since n p = pick (ltb p n) (ownerAt codes jobs since p) 0
 

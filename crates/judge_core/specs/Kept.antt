@@ -1,4 +1,4 @@
--- The judge on lines that are kept as numbers, whatever they are: what the table says of the buffer and of the lines in order, and else the verdict (01, Refusals by number).
+-- The judge on any lines kept as numbers: what the table says of the buffer, then of the lines in order, else the verdict (01, Refusals by number).
 use Prim.Native.Nat.{ℕ, suc, _<_}
 use mathlib.Core.Path.{_≡_}
 use mathlib.Core.Bool.{Bool, false, not, _&&_}
@@ -29,35 +29,35 @@ unfoldable pub jobOf : Event → ℕ
 jobOf (Does a) = a .job
 jobOf (Ends m j) = j
 
--- the line has a cell above 63; actions alone have a cell (01, refusal 2)
+-- whether the line has a cell above 63; only actions have a cell (01, refusal 2)
 unfoldable pub above : Event → Bool
 above (Does a) = leb cells (a .cell)
 above (Ends m j) = false
 
--- a mark that ends its job for good: a commit or a give-up (01, refusal 13)
+-- whether the mark ends its job for good: a commit or a give-up (01, refusal 13)
 unfoldable pub endsJob : Mark → Bool
 endsJob m = not (isBack m)
 
--- the fault of line n, by the lines before it: 11, then 12, 2, 13; 9 cannot be, since any three numbers are a line (01, Refusals by number)
+-- the fault of line n, given the lines before it: 11, then 12, 2, 13; 9 cannot occur, since any three numbers are a line (01, Refusals by number)
 unfoldable pub eventFault : ℕ → History → Event → Option Refusal
 eventFault n before e =
     pick (ltb judgedLines n) (some TooManyLines)
     (pick (not (leb 1 (jobOf e) && leb (jobOf e) judgedJobs)) (some JobOutside)
     (pick (above e) (some CellAbove) (pick (marked endsJob (jobOf e) before) (some Ended) none)))
 
--- this line's fault with its number where it has one, else what is found of the lines after it
+-- this line's fault with its number, if it has one, else what is found in the lines after it
 unfoldable pub orLater : Option Refusal → ℕ → Found → Found
 orLater none n later = later
 orLater (some why) n later = Faulty n why
 
--- lines in order, from line n on, and the first faulty one decides (01, Refusals by number)
+-- the lines in order, from line n on; the first faulty line decides (01, Refusals by number)
 unfoldable pub firstFault : ℕ → History → History → Found
 firstFault n before [] = Faultless
 firstFault n before (e ∷ h) =
     let later = firstFault (suc n) (before ++ e ∷ []) h in
     orLater (eventFault n before e) n later
 
--- a refusal with its line number; the buffer stays
+-- a refusal with its line number; the buffer is unchanged
 unfoldable pub refusedAt : List ℕ → ℕ → Refusal → Judgement
 refusedAt buffer line why = record { said = No line why; order = buffer; line = [] }
 
@@ -66,7 +66,7 @@ unfoldable pub sayFound : List ℕ → History → Found → Judgement
 sayFound buffer h Faultless = sayHistory buffer h (dirtyOf h)
 sayFound buffer h (Faulty line why) = refusedAt buffer line why
 
--- the first n lines: 14 first, with line number 0; then the lines in order
+-- the judgement on the first n lines: 14 first, with line number 0; then the lines in order
 unfoldable pub keptJudgement : List ℕ → List ℕ → List ℕ → List ℕ → ℕ → Judgement
 keptJudgement codes jobs cells buffer n =
     pick (ltb (length buffer) judgedJobs) (refusedAt buffer 0 ShortOrder)
@@ -76,12 +76,12 @@ keptJudgement codes jobs cells buffer n =
 unfoldable pub eventAt : List ℕ → List ℕ → List ℕ → ℕ → Event
 eventAt codes jobs cells p = eventBy (getD codes p 0) (getD jobs p 0) (getD cells p 0)
 
--- a fault, as one that may not be there
+-- a fault as an optional refusal
 abbrev pub dueOf : Fault → Option Refusal
 dueOf Nothing = none
 dueOf (Due why) = some why
 
--- flags of jobs 0 to 255 say which have committed or given up
+-- the flags of jobs 0 to 255 say which have committed or given up
 pub record Flagged (flags : List Bool) (h : History) : Type 0 where
   pub wide : length flags ≡ slots
   pub says : (j : ℕ) → j < slots → getD flags j false ≡ marked endsJob j h

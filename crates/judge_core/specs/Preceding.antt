@@ -1,4 +1,4 @@
--- Each job's smallest predecessor that is left, kept while jobs are taken away, and the walk back along them (01, The judge's rules: Orderly, Knot).
+-- Each job's smallest remaining predecessor, kept while jobs are taken away, and the walk back along them (01, The judge's rules: Orderly, Knot).
 use Prim.Native.Nat.{ℕ, zero, suc, _≤_, _<_}
 use mathlib.Core.Path.{_≡_}
 use mathlib.Core.Bool.{Bool, true, false}
@@ -12,22 +12,22 @@ use Rattle.judge_rules.specs.Knot.{predecessor, upTo}
 use Rattle.judge_core.specs.Left.{leftOf, leftFrom, orNobody}
 use Rattle.judge_core.specs.Sizes.{slots}
 
--- the smallest job from i on that is left and has an edge to j, or nobody
+-- the smallest remaining job from i on that has an edge to j, or nobody
 unfoldable pub predecessorFrom : Edges → List Bool → ℕ → ℕ → ℕ
 predecessorFrom e left i j = orNobody (first (λ k. e k j) (leftFrom left i))
 
--- of each job that is left: none that is left and smaller than the one at its place has an edge to it, and that one has, if it is left
+-- for each remaining job, the job kept for it has an edge to it, if it remains itself; and no smaller remaining job has one
 pub record Preceding (e : Edges) (left : List Bool) (predecessors : List ℕ) : Type 0 where
   pub wide : length predecessors ≡ slots
   pub low : (j : ℕ) → getD predecessors j 0 ≤ slots
   pub passed : (i j : ℕ) → getD left j false ≡ true → i < getD predecessors j 0 → getD left i false ≡ true → e i j ≡ false
   pub there : (j : ℕ) → getD left j false ≡ true → getD predecessors j 0 < slots → getD left (getD predecessors j 0) false ≡ true → e (getD predecessors j 0) j ≡ true
 
--- of the first n jobs those that are left have their smallest predecessor that is left at their place
+-- for each remaining job among the first n, its smallest remaining predecessor is kept
 abbrev pub Known : Edges → List Bool → List ℕ → ℕ → Type 0
 Known e left predecessors n = (j : ℕ) → j < n → getD left j false ≡ true → getD predecessors j 0 ≡ orNobody (predecessor e (leftOf left) j)
 
--- the walk of the judge's rules, from each job to the predecessor that stands at its place
+-- the walk of the judge's rules, from each job to the predecessor kept for it
 unfoldable pub walkBy : List ℕ → ℕ → List ℕ → ℕ → List ℕ
 walkBy predecessors zero seen j = []
 walkBy predecessors (suc n) seen j =

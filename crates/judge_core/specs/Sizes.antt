@@ -1,11 +1,11 @@
--- The sizes of the judge's arrays: a slot for each number that a byte can be, so that a job's byte is its slot; 0 is nobody's.
+-- The sizes of the judge's arrays: a slot for each byte value, so that a job's byte is its slot; slot 0 belongs to no job.
 use Prim.Native.Nat.{ℕ}
 
 -- the slots of jobs
 abbrev pub slots : ℕ
 slots = 256
 
--- where each slot's lines start, and where all end
+-- where each slot's lines start, and where the last end
 abbrev pub stops : ℕ
 stops = 257
 

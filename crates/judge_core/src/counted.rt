@@ -1,4 +1,4 @@
-// What of each job's lines counts: which jobs have a c, and from which line on (01, The judge's rules: the committed part).
+// Which lines count: which jobs have a c, and from which line on each job's actions count (01, The judge's rules: the committed part).
 use crate::sizes::SLOTS;
 use terms::limits::JUDGED_LINES;
 ghost use mathlib.Core.Path.{_≡_};
@@ -9,7 +9,7 @@ ghost use Rattle.judge_core.specs.Counted.{hasCommit, countedFrom, owner
 ghost use Rattle.terms.specs.Limits.{judgedLines};
 ghost use Rattle.judge_core.specs.Sizes.{slots};
 
-// A byte as a place in an array.
+// A byte as an array index.
 pub fn place(byte: u8) -> usize
     ensures { λ r. ⌜ (r ≡ byte) × (r < slots) ⌝ }
 {
@@ -38,7 +38,7 @@ pub fn committed_jobs<'a>(
     done
 }
 
-// For each job the line from which its actions count: the one after its last k among the first n lines, or the first.
+// For each job, the line from which its actions count: the line after its last k among the first n lines, or the first line.
 pub fn counted_from<'a>(
     codes: &'a [u8; JUDGED_LINES],
     jobs: &'a [u8; JUDGED_LINES],
@@ -59,7 +59,7 @@ pub fn counted_from<'a>(
     since
 }
 
-// The job whose action line p is, if it is an action and stands where that job's count, and else 0.
+// The owner of line p: its job, if the line is an action that counts, else 0.
 fn owner<'a>(
     codes: &'a [u8; JUDGED_LINES],
     jobs: &'a [u8; JUDGED_LINES],
@@ -79,7 +79,7 @@ fn owner<'a>(
     jobs[p]
 }
 
-// For each of the first n lines its owner.
+// The owner of each of the first n lines.
 pub fn owners<'a>(
     codes: &'a [u8; JUDGED_LINES],
     jobs: &'a [u8; JUDGED_LINES],

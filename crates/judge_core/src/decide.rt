@@ -1,4 +1,4 @@
-// The deciding half of the judge: the verdict on lines that are kept as three numbers each (01, The judge's rules).
+// The deciding half of the judge: the verdict on lines kept as three numbers each (01, The judge's rules).
 use crate::counted::committed_jobs;
 use crate::counted::counted_from;
 use crate::counted::owners;
@@ -35,7 +35,7 @@ ghost use Rattle.judge_core.specs.Preceding.{Known, walkBy};
 ghost use Rattle.terms.specs.Limits.{judgedJobs, judgedLines};
 ghost use Rattle.judge_core.specs.Sizes.{slots, stops};
 
-// The jobs that are left, those that have a c among the first n lines, are taken away by the edges between them, and put in their order; how many they are.
+// Takes away the jobs with a c among the first n lines, by the edges between them, and puts them in order; tells how many were taken.
 fn take_jobs<'a>(
     codes: &'a [u8; JUDGED_LINES],
     jobs: &'a [u8; JUDGED_LINES],
@@ -73,7 +73,7 @@ fn take_jobs<'a>(
     )
 }
 
-// The knot that the walk back from a job ends in, put into the first places of the buffer.
+// Puts the knot that the walk back from a job ends in into the buffer's first places.
 fn knot<'a>(predecessors: &'a [usize; SLOTS], start: usize, order: &mut [u8]) -> Verdict
     requires { ⌜ (start < slots) × (length (turn (walkBy (now predecessors) stops [] start)) ≤ length (now order)) ⌝ }
     ensures { λ r. ⌜ r ≡ sayFinding (now (order .entry)) (knotted (turn (walkBy (now (predecessors .entry)) stops [] start))) .said ⌝ }
@@ -87,7 +87,7 @@ fn knot<'a>(predecessors: &'a [usize; SLOTS], start: usize, order: &mut [u8]) ->
     Verdict::Knot(to - from)
 }
 
-// The verdict on the first n lines, and its jobs in the first places of the buffer. Internal to the crate: the lines are faultless, and the buffer has its places.
+// The verdict on the first n lines, with its jobs in the buffer's first places. Internal to the crate: the lines are faultless, and the buffer is long enough.
 pub fn decide<'a>(
     codes: &'a [u8; JUDGED_LINES],
     jobs: &'a [u8; JUDGED_LINES],

@@ -1,4 +1,4 @@
-// The first dirty read: a run that commits reads what a run has written or incremented that does not commit and is still open (02, No. 2).
+// The first dirty read: a run that commits reads what a still open run that does not commit has written or incremented (02, No. 2).
 use crate::counted::place;
 use crate::sizes::SLOTS;
 use terms::limits::JUDGED_LINES;
@@ -9,13 +9,13 @@ ghost use Rattle.conflict.specs.Dirty.{dirtyOf};
 ghost use Rattle.judge_rules.specs.Arrays.{historyBy};
 ghost use Rattle.judge_core.specs.RunEnds.{endBy, RunEnds, changing, laterEnd, readsDirt, spoilsAt, FirstRead, LastWrite, dirtOf};
 
-// What is said of a history: clean, or who first read what was taken back, and who had written it.
+// Clean, or the reader and the writer of the first dirty read.
 pub enum Dirt {
     Clean,
     Read { reader: u8, writer: u8 },
 }
 
-// Where a job's run ends as seen from line p, given the end as seen from the next: 0 where it commits.
+// Where a job's run ends as seen from line p, given the end as seen from the next line; 0 if the run commits.
 fn end_by(code: u8, p: usize, later: u16) -> u16
     requires { ⌜ p < judgedLines ⌝ }
     ensures { λ r. ⌜ r ≡ endBy code p later ⌝ }
@@ -29,7 +29,7 @@ fn end_by(code: u8, p: usize, later: u16) -> u16
     p as u16
 }
 
-// For each of the first n lines where the run ends that it is in, from the last line back: 0 where it commits, else the line of its mark, or n.
+// For each of the first n lines, where its run ends, worked out from the last line back: 0 if it commits, else the line of its mark, or n.
 fn run_ends<'a>(
     codes: &'a [u8; JUDGED_LINES],
     jobs: &'a [u8; JUDGED_LINES],
@@ -61,7 +61,7 @@ fn changes(code: u8) -> bool
     code == 2
 }
 
-// The later of an end and that of the run that a line is in, where the line writes or increments.
+// The later of `latest` and the end of this line's run, if the line writes or increments; else `latest`.
 fn later_end(code: u8, end: u16, latest: u16) -> u16
     ensures { λ r. ⌜ r ≡ laterEnd code end latest ⌝ }
 {
@@ -74,7 +74,7 @@ fn later_end(code: u8, end: u16, latest: u16) -> u16
     latest
 }
 
-// Whether line p reads in a run that commits while a run that changed its cell is open, given the latest end of those.
+// Whether line p is a read of a run that commits while a run that changed its cell is open, given the latest end of such runs.
 fn reads_dirt(code: u8, end: u16, latest: u16, p: usize) -> bool
     requires { ⌜ p < judgedLines ⌝ }
     ensures { λ r. ⌜ r ≡ readsDirt code end latest p ⌝ }
@@ -88,7 +88,7 @@ fn reads_dirt(code: u8, end: u16, latest: u16, p: usize) -> bool
     (p as u16) < latest
 }
 
-// The first of the first n lines that is a dirty read, or n: with the latest end of the runs that have changed each cell.
+// The first dirty read among the first n lines, or n; keeps for each cell the latest end of the runs that changed it.
 fn first_read<'a>(
     codes: &'a [u8; JUDGED_LINES],
     cells: &'a [u8; JUDGED_LINES],
@@ -113,7 +113,7 @@ fn first_read<'a>(
     p
 }
 
-// Whether line q changes the cell of line p in a run that is open there and does not commit.
+// Whether line q changes the cell of line p, in a run that is open at p and does not commit.
 fn spoils<'a>(
     codes: &'a [u8; JUDGED_LINES],
     cells: &'a [u8; JUDGED_LINES],
@@ -153,7 +153,7 @@ fn last_write<'a>(
     p
 }
 
-// Reader and writer of the first dirty read of the first n lines, if there is one. Internal to the crate: the lines are no more than are judged.
+// Reader and writer of the first dirty read of the first n lines, if any. Internal to the crate: n is at most the number of judged lines.
 pub fn first_dirty<'a>(
     codes: &'a [u8; JUDGED_LINES],
     jobs: &'a [u8; JUDGED_LINES],

@@ -1,4 +1,4 @@
-// Which job has an edge to which: an earlier action of the one conflicts with a later one of the other (01, The judge's rules).
+// The edges of the precedence graph: an earlier action of one job conflicts with a later action of another (01, The judge's rules).
 use crate::sets::ANY;
 use crate::sets::last_key;
 use crate::sets::touched;
@@ -23,7 +23,7 @@ ghost use Rattle.judge_core.specs.Reaching.{Reach, Masked, Worked, lastM
 ghost use Rattle.terms.specs.Limits.{judgedLines};
 ghost use Rattle.judge_core.specs.Sizes.{slots};
 
-// The kind of action that a number stands for.
+// The kind of action of a code.
 fn kind_of(code: u8) -> Kind
     ensures { λ r. ⌜ r ≡ kindBy code ⌝ }
 {
@@ -43,7 +43,7 @@ pub fn wide(byte: u8) -> u32
     byte as u32
 }
 
-// A kept line number as a place.
+// A kept line number as an index.
 fn far(line: u16) -> usize
     ensures { λ r. ⌜ r ≡ line ⌝ }
 {
@@ -67,7 +67,7 @@ fn action_at<'a>(
     }
 }
 
-// Whether no line of ys stands after one of xs, both in ascending order.
+// Whether no line of ys stands after a line of xs; both are in ascending order.
 fn apart<'a>(xs: &'a [u16], ys: &'a [u16]) -> bool
     requires { ⌜ Lined (now xs) × Lined (now ys) ⌝ }
     ensures { λ r. ⌜ (r ≡ true → (x y : ℕ) → member x (now (xs .entry)) ≡ true → member y (now (ys .entry)) ≡ true → y ≤ x) ⌝ }
@@ -82,7 +82,7 @@ fn apart<'a>(xs: &'a [u16], ys: &'a [u16]) -> bool
     ys[n - 1] <= xs[0]
 }
 
-// Whether job j's last action of a kind on line x's cell stands after line x, and the action there conflicts with it.
+// Whether job j's last action of a kind on line x's cell stands after line x and conflicts with its action.
 fn meets_last<'a>(
     codes: &'a [u8; JUDGED_LINES],
     jobs: &'a [u8; JUDGED_LINES],
@@ -108,7 +108,7 @@ fn meets_last<'a>(
     actions_conflict(action_at(codes, jobs, cells, x), other)
 }
 
-// Whether line x is on a cell of the set, and job j's last action on that cell stands after it. The last action is looked at first: for two jobs the answer is mostly the same on all cells, where the set's is not.
+// Whether line x is on a cell of the set, and job j's last action on that cell stands after it. The last action is tested first: for two jobs that test mostly has the same outcome on all cells.
 fn may_meet<'a>(
     cells: &'a [u8; JUDGED_LINES],
     lasts: &'a [u16; KEYS],
@@ -130,7 +130,9 @@ fn may_meet<'a>(
     has_cell(mask, wide(cell))
 }
 
-// Whether a line of xs stands before a line of ys, job j's, that it conflicts with. The lines of xs are looked at from the last back, since a job mostly writes what it has read before; those on cells where the two jobs do not meet, or where job j's last line stands too early, are passed over; of job j's lines on a cell the last of each kind decides; and the search is left at the first two found.
+// Whether a line of xs stands before a line of ys, job j's, that it conflicts with. The search stops at the first such pair.
+// Lines of xs are tried from the last back, since a job mostly writes what it has read before. It skips lines on cells where the two jobs cannot conflict,
+// or where job j's last line stands too early. Of job j's lines on a cell, the last of each kind decides.
 fn meets<'a>(
     codes: &'a [u8; JUDGED_LINES],
     jobs: &'a [u8; JUDGED_LINES],
@@ -168,7 +170,7 @@ fn meets<'a>(
     found
 }
 
-// Whether job i has an edge to job j, two jobs that are done, given the cells on which they can conflict.
+// Whether an action of job i stands before an action of job j that it conflicts with, given the cells on which they can conflict.
 fn parts_meet<'a>(
     codes: &'a [u8; JUDGED_LINES],
     jobs: &'a [u8; JUDGED_LINES],

@@ -1,4 +1,4 @@
-// The judge on lines that are kept as numbers, for any arrays and any buffer: what the table says of them, and else the verdict (01, Refusals by number).
+// The judge on lines kept as numbers, for any arrays and any buffer: a refusal of the table, else the verdict (01, Refusals by number).
 use crate::counted::place;
 use crate::decide::decide;
 use crate::dirty::Dirt;
@@ -29,13 +29,13 @@ pub enum Fault {
     Due(Refusal),
 }
 
-// What is found of lines: no fault, or the first faulty one with its number and refusal.
+// The first faulty line, with its number and refusal, or no fault.
 pub enum Found {
     Faultless,
     Faulty { line: usize, why: Refusal },
 }
 
-// Whether no line of its job may follow a line: after a commit and a give-up.
+// Whether a line ends its job for good: a commit or a give-up.
 fn ends_job(code: u8) -> bool
     ensures { λ r. ⌜ r ≡ (eqb code 3 || eqb code 4) ⌝ }
 {
@@ -45,7 +45,7 @@ fn ends_job(code: u8) -> bool
     code == 4
 }
 
-// Whether a line has a cell above 63: actions alone have a cell.
+// Whether a line has a cell above 63; only actions have a cell.
 fn cell_above(code: u8, cell: u8) -> bool
     ensures { λ r. ⌜ r ≡ (ltb code 3 && leb cells cell) ⌝ }
 {
@@ -55,7 +55,7 @@ fn cell_above(code: u8, cell: u8) -> bool
     wide(cell) >= CELLS
 }
 
-// The fault of a line that is no line too many, given the jobs that have committed or given up: 12, then 2, then 13. A job above 255 has no place in a byte.
+// The fault of a line up to 4,096, given the jobs that have committed or given up: 12, then 2, then 13. A job above 255 does not fit a byte.
 fn fault_at<'a>(
     codes: &'a [u8; JUDGED_LINES],
     jobs: &'a [u8; JUDGED_LINES],
@@ -79,7 +79,7 @@ fn fault_at<'a>(
     Fault::Nothing
 }
 
-// The first n lines in order, up to the first faulty one.
+// Checks the first n lines in order, up to the first faulty line.
 fn first_fault<'a>(
     codes: &'a [u8; JUDGED_LINES],
     jobs: &'a [u8; JUDGED_LINES],
@@ -110,7 +110,7 @@ fn first_fault<'a>(
     Found::Faultless
 }
 
-// The verdict on the first n lines, and its jobs in the first places of the buffer: a dirty read is told before orderly or knot. The lines are faultless, and the buffer has its places.
+// The verdict on the first n lines, with its jobs in the buffer's first places; dirty is told before orderly or knot. The lines are faultless, and the buffer is long enough.
 fn judge_faultless<'a>(
     codes: &'a [u8; JUDGED_LINES],
     jobs: &'a [u8; JUDGED_LINES],
@@ -134,7 +134,7 @@ fn judge_faultless<'a>(
     }
 }
 
-// The verdict on the first n lines, and its jobs in the first places of the buffer; or 14 for a short buffer, and else the refusal of the first faulty line, and the buffer stays.
+// The verdict on the first n lines, with its jobs in the buffer's first places. A short buffer gets 14; else the first faulty line decides. A refusal leaves the buffer unchanged.
 pub fn judge_kept<'a>(
     codes: &'a [u8; JUDGED_LINES],
     jobs: &'a [u8; JUDGED_LINES],

@@ -1,4 +1,4 @@
-// The knot: from the smallest job that remains back along smallest predecessors, until one comes again (01, The judge's rules: Knot).
+// The knot (a cycle in the precedence graph): back from the smallest remaining job along smallest predecessors, until one comes again (01, The judge's rules: Knot).
 use crate::order::NOBODY;
 use crate::sizes::SLOTS;
 use crate::sizes::STOPS;
@@ -12,13 +12,13 @@ ghost use Rattle.judge_core.specs.Preceding.{walkBy};
 ghost use Rattle.judge_core.specs.Rounds.{RoundAt, putIn};
 ghost use Rattle.judge_core.specs.Sizes.{slots, stops};
 
-// A part of a trail: from a place up to another.
+// A part of a trail: from one place up to another.
 pub struct Round {
     pub from: usize,
     pub to: usize,
 }
 
-// The first place of the trail, from a place on, at which job j stands, or the trail's end.
+// The first place at or after `at` where job j stands on the trail, or the trail's end.
 fn place_of(trail: &[u8; STOPS], at: usize, j: u8) -> usize
     requires { ⌜ (length (now trail) ≡ stops) × (at ≤ stops) ⌝ }
     ensures { λ r. ⌜ r ≡ at + pos (drop at (now (trail .entry))) j ⌝ }
@@ -33,7 +33,7 @@ fn place_of(trail: &[u8; STOPS], at: usize, j: u8) -> usize
     p
 }
 
-// The walk back from a job along smallest predecessors, each job put before the one that it was come from, until one comes again: the trail from its second coming up to its first is the cycle.
+// Walks back from a job along smallest predecessors until a job comes again. Each job goes in front of the one before; the cycle is the trail from the second occurrence up to the first.
 pub fn walk_back<'a>(
     predecessors: &'a [usize; SLOTS],
     start: usize,
@@ -74,7 +74,7 @@ fn smallest_place(round: &[u8]) -> usize
     best
 }
 
-// A part put into a buffer from a place on.
+// Puts a part into a buffer from a place on.
 pub fn put(buffer: &mut [u8], at: usize, part: &[u8])
     requires { ⌜ at + length (now part) ≤ length (now buffer) ⌝ }
     ensures { λ r. ⌜ now (buffer .exit) ≡ putIn (now (buffer .entry)) at (now (part .entry)) ⌝ }
@@ -86,7 +86,7 @@ pub fn put(buffer: &mut [u8], at: usize, part: &[u8])
     }
 }
 
-// A round put into the first places of a buffer, from its smallest job on.
+// Puts a round into the first places of a buffer, starting at its smallest job.
 pub fn put_turned(buffer: &mut [u8], round: &[u8])
     requires { ⌜ length (now round) ≤ length (now buffer) ⌝ }
     ensures { λ r. ⌜ now (buffer .exit) ≡ filled (turn (now (round .entry))) (now (buffer .entry)) ⌝ }

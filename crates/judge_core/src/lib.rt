@@ -1,4 +1,4 @@
-// The deciding half of the judge: from lines that are kept as numbers to the order or the knot (01, The judge's rules).
+// The deciding half of the judge: from lines kept as numbers to the dirty read, the order or the knot (01, The judge's rules).
 mod counted;
 mod decide;
 mod dirty;

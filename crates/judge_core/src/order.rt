@@ -1,4 +1,4 @@
-// The order: of the jobs that are left, the smallest without a predecessor among them is taken away, again and again (01, The judge's rules: Orderly).
+// The order: the smallest remaining job without a remaining predecessor is taken away, again and again (01, The judge's rules: Orderly).
 use crate::edges::edge_between;
 use crate::sizes::KEYS;
 use crate::sizes::KIND_SETS;
@@ -16,10 +16,10 @@ ghost use Rattle.judge_core.specs.Left.{leftOf, orNobody};
 ghost use Rattle.judge_core.specs.Preceding.{predecessorFrom, Preceding, Known};
 ghost use Rattle.judge_core.specs.Sizes.{slots};
 
-// No job: one past the largest.
+// No job: one above the largest.
 pub const NOBODY: usize = SLOTS;
 
-// The smallest job from a number on that is left and has an edge to job j. If the number is that of a job that is left, it is known to have one, and nothing is searched.
+// The smallest remaining job at or above `from` that has an edge to job j. If `from` itself remains, it is known to have an edge, and nothing is searched.
 fn predecessor_from<'a>(
     codes: &'a [u8; JUDGED_LINES],
     jobs: &'a [u8; JUDGED_LINES],
@@ -49,7 +49,8 @@ fn predecessor_from<'a>(
     NOBODY
 }
 
-// The smallest job that is left and has no predecessor left. On the way to it each job whose smallest predecessor has gone looks on behind that one: those before it have gone too or have no edge to it. So no two jobs are searched twice.
+// The smallest remaining job without a remaining predecessor. A job whose smallest predecessor is gone searches on from there: smaller jobs are gone too, or have no edge to it.
+// So no pair of jobs is searched twice.
 fn ready_job<'a>(
     codes: &'a [u8; JUDGED_LINES],
     jobs: &'a [u8; JUDGED_LINES],
@@ -90,7 +91,7 @@ fn ready_job<'a>(
     NOBODY
 }
 
-// The jobs that are left are taken away, as long as one is ready, and put in their order; how many they are. When none is, each job that remains has been looked at, and its smallest predecessor is known.
+// Takes away remaining jobs while one is ready, and puts them in order; tells how many. At the end the smallest predecessor of each remaining job is known.
 pub fn take_away<'a>(
     codes: &'a [u8; JUDGED_LINES],
     jobs: &'a [u8; JUDGED_LINES],
@@ -131,7 +132,7 @@ pub fn take_away<'a>(
     }
 }
 
-// The smallest job that is left.
+// The smallest remaining job.
 pub fn smallest_left(left: &[bool; SLOTS]) -> usize
     ensures { λ r. ⌜ r ≡ orNobody (first (λ j. true) (leftOf (now (left .entry)))) ⌝ }
 {

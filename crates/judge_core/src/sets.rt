@@ -1,4 +1,4 @@
-// What is looked at first of two jobs: the cells that each has actions on, kind by kind, and its last action of each kind on each cell (01, The judge's rules).
+// Quick tests on two jobs: each job's cells by kind of action, and its last action of each kind on each cell (01, The judge's rules).
 use crate::counted::place;
 use crate::edges::wide;
 use crate::sizes::KEYS;
@@ -13,10 +13,10 @@ ghost use Rattle.judge_core.specs.Reaching.{Acting, Covered, Lasts, setK
 ghost use Rattle.terms.specs.Limits.{judgedLines};
 ghost use Rattle.judge_core.specs.Sizes.{slots, kindSets, keys};
 
-// Stands beside the numbers of the three kinds for a line of whatever kind.
+// A fourth number beside those of the three kinds: a line of any kind.
 pub const ANY: u8 = 3;
 
-// The place of the set of job j's cells of a kind.
+// The index of the set of job j's cells of a kind.
 fn set_key(j: usize, kind: u8) -> usize
     requires { ⌜ (j < slots) × (kind < 3) ⌝ }
     ensures { λ r. ⌜ (r ≡ setKey j kind) × (r < kindSets) ⌝ }
@@ -24,7 +24,7 @@ fn set_key(j: usize, kind: u8) -> usize
     place(kind) * SLOTS + j
 }
 
-// For each job the cells of the lines of each kind that it owns, of the first n.
+// For each job and kind, the cells of the lines that the job owns among the first n.
 pub fn cells_of<'a>(
     codes: &'a [u8; JUDGED_LINES],
     cells: &'a [u8; JUDGED_LINES],
@@ -62,7 +62,7 @@ pub fn touched(sets: &[u64; KIND_SETS], j: usize) -> Touched
     }
 }
 
-// The place of job j's last action of a kind on a cell, and of its last one of any kind by ANY.
+// The index of job j's last action of a kind on a cell; with ANY, of its last action of any kind.
 pub fn last_key(j: usize, kind: u8, cell: u8) -> usize
     requires { ⌜ (j < slots) × (kind < 4) × (cell < 64) ⌝ }
     ensures { λ r. ⌜ (r ≡ lastKey j kind cell) × (r < keys) ⌝ }
@@ -70,7 +70,7 @@ pub fn last_key(j: usize, kind: u8, cell: u8) -> usize
     place(cell) * 1024 + j * 4 + place(kind)
 }
 
-// One more than each job's last line of each kind on each cell, and of any kind, of the first n lines, and 0 where it has none.
+// One more than each job's last line of each kind (and of any kind) on each cell, among the first n lines; 0 if there is none.
 pub fn last_lines<'a>(
     codes: &'a [u8; JUDGED_LINES],
     jobs: &'a [u8; JUDGED_LINES],

@@ -1,4 +1,4 @@
--- What the answering program writes, byte by byte: of each line its answer, and then a wake record for each wake, in their order (01, Lines).
+-- What the program `answers` writes, byte by byte: for each line its answer, then a wake record for each wake, in order (01, Lines).
 -- Assumes nothing.
 use Prim.Native.Nat.{ℕ, _+_}
 use mathlib.Core.Path.{_≡_, refl, ap, ap₂, _∙_}

@@ -1,4 +1,4 @@
--- However a caller goes about it, he has written out the records of the run: chunks, buffers and the times of writing out do not matter.
+-- Whatever chunks and buffers a caller uses, and whenever it writes them out, it has written out the records of the run.
 -- Assumes nothing.
 use Prim.Native.Nat.{ℕ, _+_, _≤_}
 use mathlib.Core.Path.{_≡_, refl, sym, ap, ap₂, _∙_}

@@ -1,4 +1,4 @@
--- A desk that follows another tells of every line what the other tells, and is seen as the other after all of them; so the desks that run tell what the paper's desk of the method tells, and stand as it does.
+-- A desk that follows another tells of every line what the other tells, and shows the other after all lines; so the desks that run tell what the paper's desk of the method tells, and show it.
 -- Assumes nothing.
 use Prim.Native.Nat.{ℕ, _+_}
 use mathlib.Core.Path.{_≡_, refl, ap, ap₂, _∙_}

@@ -1,4 +1,4 @@
--- The desk programs answer a line with refusal 9 and a field exactly where it is a bad line at that field, and the desk does not see it (01, refusal 9; 01, Lines; 02, No. 5).
+-- The desk programs answer a line with refusal 9 and a field exactly if it is bad at that field, and the desk does not see it (01, refusal 9; 01, Lines; 02, No. 5).
 -- Assumes nothing.
 use Prim.Native.Nat.{ℕ, _+_}
 use mathlib.Core.Path.{_≡_, refl, ap}

@@ -1,4 +1,4 @@
--- What the chain program writes, line by line: of each job that waits, in ascending order, the line of its chain; `chain-bytes` of `text_rules` has such a line byte by byte (02, No. 3).
+-- What the program `chain` writes, line by line: for each waiting job, in ascending order, the line of its chain; `chain-bytes` of `text_rules` gives such a line byte by byte (02, No. 3).
 -- Assumes nothing.
 use Prim.Native.Nat.{ℕ}
 use mathlib.Core.Path.{_≡_, refl, ap, _∙_}

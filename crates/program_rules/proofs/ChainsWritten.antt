@@ -1,4 +1,4 @@
--- What a program writes last of a text: the chains of those who wait on the paper's desk after its lines; and under timestamps nothing; what follows line 1,000,000 does not change it (02, Nos. 3 and 6).
+-- What a program writes last: the chains of the jobs that wait on the paper's desk after the text's lines; nothing under timestamps. What follows line 1,000,000 does not change it (02, Nos. 3 and 6).
 -- Assumes nothing.
 use Prim.Native.Nat.{ℕ}
 use mathlib.Core.Path.{_≡_, refl, sym, ap, _∙_}

@@ -1,4 +1,4 @@
--- What a program writes at the end stands behind all else: so every course, brought to its end, has written out the records of the run and what is written last.
+-- What a program writes at the end stands behind all else: every course, brought to its end, has written out the records of the run and then that.
 -- Assumes nothing.
 use Prim.Native.Nat.{ℕ, _+_, _≤_}
 use mathlib.Core.Path.{_≡_, sym, ap, _∙_}

@@ -1,4 +1,4 @@
--- The desk after the lines that a splitter finds is the desk after the lines of the text; so the clerk's desks are those after all lines of what it has seen.
+-- The desk after the lines that a splitter finds is the desk after the lines of the text; so the clerk's desks are those after all lines seen.
 -- Assumes nothing.
 use Prim.Native.Nat.{ℕ, _+_, _-_, _^_, _≤_, _<_}
 use mathlib.Core.Path.{_≡_, refl, sym, ap, _∙_}

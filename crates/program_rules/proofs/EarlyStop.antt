@@ -1,4 +1,4 @@
--- After line 1,000,000 nothing more is written and the desk stays as it is, whatever follows: a program may stop reading there (01, Lines).
+-- After line 1,000,000 nothing more is written and the desk does not change, whatever follows: a program may stop reading there (01, Lines).
 -- Assumes nothing.
 use Prim.Native.Nat.{ℕ, _+_, _-_, _^_, _≤_, _<_}
 use mathlib.Core.Path.{_≡_, refl, sym, ap, _∙_}

@@ -1,4 +1,4 @@
--- From end to end, of texts alone: whatever text comes in, the text that `history` writes is read back by the judge's reader, and where it keeps within the judge's limits the judge says orderly, and so does `verdict` (01, What is delivered; demand 2).
+-- End to end, over texts alone: for any input, the judge's reader reads back the text that `history` writes; within the judge's limits the judge says orderly, and so does `verdict` (01, What is delivered; demand 2).
 -- Assumes nothing.
 use Prim.Native.Nat.{ℕ, _≤_}
 use mathlib.Core.Path.{_≡_, sym, _∙_, subst}

@@ -1,4 +1,4 @@
--- What is still to be written once no more is read: with the records of the lines that have ended, it makes all that the program writes of the text.
+-- What is still to be written when no more is read: together with the records of the lines that have ended, it is all that the program writes for the text.
 -- Assumes nothing.
 use Prim.Native.Nat.{ℕ, _≤_}
 use mathlib.Core.Path.{_≡_, sym, ap, ap₂, _∙_}

@@ -1,4 +1,4 @@
--- The end of the input, case by case: no line is owed, there is no room, or its record is written; and so what is written last.
+-- The end of the input, case by case: no line is owed, there is no room, or the line's record is written; then what is written last.
 -- Assumes nothing.
 use Prim.Native.Nat.{ℕ, _+_, _≤_}
 use mathlib.Core.Path.{_≡_, sym, ap, _∙_}

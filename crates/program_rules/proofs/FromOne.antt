@@ -1,4 +1,4 @@
--- The history that is written is that of a desk started at 1, to which the good lines of the text came as requests, in their order, and the chains are those of that desk (01, Lines; 02, No. 3).
+-- The history written is that of a desk started at 1 that gets the good lines of the text as requests, in order; the chains are those of that desk (01, Lines; 02, No. 3).
 -- Assumes nothing.
 use Prim.Native.Nat.{ℕ, _+_}
 use mathlib.Core.Path.{_≡_, refl, ap, _∙_}

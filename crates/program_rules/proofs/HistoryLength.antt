@@ -1,4 +1,4 @@
--- The history of a run has no more records than the run has lines: each line gives one at most, at once or when its job is woken; on any desk where a step writes no more than that (01, Lines).
+-- The history of a run has at most one record for each line, written at once or when its job is woken; on any desk whose steps write no more than that (01, Lines).
 -- Assumes nothing.
 use Prim.Native.Nat.{ℕ, suc, _+_, _≤_}
 use mathlib.Core.Path.{ap}

@@ -1,4 +1,4 @@
--- A line that lacks its newline is a bad line, and so it is answered as the end of the input answers it (01, Lines).
+-- A line without its newline is a bad line, and so is answered as the end of the input answers it (01, Lines).
 -- Assumes nothing.
 use Prim.Native.Nat.{ℕ, _+_, _<_}
 use mathlib.Core.Path.{_≡_, refl, sym, ap, _∙_}

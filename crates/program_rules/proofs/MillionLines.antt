@@ -1,4 +1,4 @@
--- The desk programs read 1,000,000 lines and stop: every line up to there has its answer, and what follows writes nothing and changes nothing (01, Lines).
+-- The desk programs read 1,000,000 lines and stop: every line up to there has its answer, and later lines write nothing and change nothing (01, Lines).
 -- Assumes nothing.
 use Prim.Native.Nat.{ℕ, zero, suc, _+_, _≤_, _<_}
 use mathlib.Core.Path.{_≡_, refl, sym, ap, _∙_}

@@ -1,4 +1,4 @@
--- One call of the work: behind what stood in the buffer stand the records of the lines that end in the bytes worked on.
+-- One call of the work: the records of the lines that end in the bytes worked on stand behind what stood in the buffer.
 -- Assumes nothing.
 use Prim.Native.Nat.{ℕ, zero, suc, _+_, _≤_, _<_}
 use mathlib.Core.Path.{_≡_, refl, sym, ap, ap₂, _∙_, subst}

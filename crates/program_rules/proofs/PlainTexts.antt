@@ -1,4 +1,4 @@
--- The text of a history, whichever desk wrote it: the judge reads every line of it back, refuses it for its own limits alone, and within them says orderly where it is (demand 2; 01, Refusals by number).
+-- The text of a history, from either desk: the judge reads every line of it back, refuses it only for its own limits, and within them says orderly if it is (demand 2; 01, Refusals by number).
 -- Assumes nothing.
 use Prim.Native.Nat.{ℕ, _≤_, _<_}
 use mathlib.Core.Path.{_≡_, refl, sym, ap, _∙_, subst}

@@ -1,4 +1,4 @@
--- The programs write what the papers say of the text, however it comes in, and may stop reading after line 1,000,000.
+-- The programs write what the papers say of the text, however it is cut into chunks, and may stop reading after line 1,000,000.
 -- Assumes nothing.
 use Prim.Native.Nat.{ℕ, _≤_}
 use mathlib.Core.Path.{_≡_, sym, ap, ap₂, _∙_}

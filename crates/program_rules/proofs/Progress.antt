@@ -1,4 +1,4 @@
--- A call that is not full has used up the chunk; a full one with room for a line at first has moved on.
+-- A call that does not end full has used up the chunk; a full call that had room for a line at first has moved on.
 -- Assumes nothing.
 use Prim.Native.Nat.{ℕ, zero, suc, _+_, _≤_, _<_}
 use mathlib.Core.Path.{_≡_, refl}

@@ -1,4 +1,4 @@
--- What a clerk leaves and writes after some bytes: the lines that end in them are answered, one after another.
+-- The clerk after some bytes, and what it writes: the lines that end in them are answered, one after another.
 -- Assumes nothing.
 use Prim.Native.Nat.{ℕ, _+_}
 use mathlib.Core.Path.{_≡_, refl, sym, ap, _∙_}

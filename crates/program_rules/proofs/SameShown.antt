@@ -1,4 +1,4 @@
--- Answers and history show the same: each go of a read, write, increment or u, each wake and each back has its record in the history, and the other way round.
+-- Answers and history show the same: each go of a read, write, increment or u, each wake and each back has its record in the history, and vice versa.
 -- Assumes nothing.
 use Prim.Native.Nat.{ℕ}
 use mathlib.Core.Path.{_≡_, refl, sym, ap, ap₂, _∙_}

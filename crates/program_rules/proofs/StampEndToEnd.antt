@@ -1,4 +1,4 @@
--- From end to end for the timestamp desk, of texts alone: whatever text comes in, the text that `stamp_history` writes is read back, its conflicting actions stand in number order, the judge never finds a knot in it, and where it keeps within the judge's limits and is not dirty the judge, and `verdict`, tell the committed jobs in ascending numbers (02, No. 6).
+-- End to end for the timestamp desk, over texts alone: for any input, the text that `stamp_history` writes is read back, its conflicting actions stand in number order, and the judge never finds a knot in it. Within the judge's limits, if it is not dirty, the judge and `verdict` tell the committed jobs in ascending numbers (02, No. 6).
 -- Assumes nothing.
 use Prim.Native.Nat.{ℕ, _+_, _≤_}
 use mathlib.Core.Path.{_≡_, sym, subst}

@@ -1,4 +1,4 @@
--- The history that is written is the history of a started desk: so all that is proved of started desks and their histories holds of it.
+-- The history written is that of a started desk, so all that is proved of started desks and their histories holds of it.
 -- Assumes nothing.
 use Prim.Native.Nat.{ℕ, _+_, _≤_}
 use mathlib.Core.Path.{_≡_, refl, sym, ap, _∙_, subst}

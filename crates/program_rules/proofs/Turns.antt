@@ -1,4 +1,4 @@
--- The work, turn by turn: it has come to the chunk's end, there is no room, or a line is cut and the work goes on behind it.
+-- The work, turn by turn: the chunk has ended, there is no room, or a line is cut and the work goes on behind it.
 -- Assumes nothing.
 use Prim.Native.Nat.{ℕ, zero, suc, _+_, _≤_, _<_}
 use mathlib.Core.Path.{_≡_, refl, sym, _∙_, subst}

@@ -1,4 +1,4 @@
--- The clerk's two desks follow the one that the method says: so under locks they show what the lock desk shows, and under timestamps what the timestamp desk shows (02, No. 6).
+-- The clerk's two desks follow the one that the method names: under locks they show what the lock desk shows, and under timestamps what the timestamp desk shows (02, No. 6).
 -- Assumes nothing.
 use mathlib.Core.Path.{_≡_, refl, ap, _∙_}
 use Rattle.conflict.specs.History.{History}

@@ -1,4 +1,4 @@
--- The programs' caller uses up every chunk, and all that he has written out is what is written of the run of the text, and then what the program writes last: chunks and buffers do not matter.
+-- The programs' caller uses up every chunk, and writes out the records of the text's run and then what the program writes last: chunks and buffers do not matter.
 -- Assumes nothing.
 use Prim.Native.Nat.{ℕ, zero, suc, _+_, _-_, _≤_, _<_}
 use mathlib.Core.Path.{_≡_, sym, ap, _∙_, subst}

@@ -1,4 +1,4 @@
--- What a program writes once its last line has been answered, and how the clerk puts that into the buffer: the chains of those who wait (02, Nos. 3 and 6).
+-- What a program writes after its last line has been answered, the chains of the waiting jobs, and how the clerk puts that into the buffer (02, Nos. 3 and 6).
 use Prim.Native.Nat.{ℕ, _+_, _*_}
 use mathlib.Core.Bool.{true, false}
 use mathlib.Core.List.{List, []}
@@ -17,30 +17,30 @@ use Rattle.program_rules.specs.declared.View.the-variants.{Answers, Hist
 use Rattle.program_rules.specs.Chains.{chainText}
 use Rattle.program_rules.specs.Work.{lineRoom, Finishing, finishOf}
 
--- the chains of those who wait, by the method: on the lock desk, and on the timestamp desk nobody does
+-- the chains of the waiting jobs, by the method: on the timestamp desk nobody waits
 unfoldable pub chainsBy : Method → Desks → List ℕ
 chainsBy Locks d = chainText (chainsOn (d .locks))
 chainsBy Stamps d = []
 
--- what is written at the end, behind the records of the lines: the chains of those who wait on the clerk's desk; of answers and history nothing
+-- what is written at the end, behind the records of the lines: the chains of the jobs waiting on the clerk's desk; nothing for answers and history
 unfoldable pub closing : View → Clerk → List ℕ
 closing Answers c = []
 closing History c = []
 closing Chains c = chainsBy (c .desks .method) (c .desks)
 
--- no job of a chain has more bytes: ten digits, and the tab or the newline behind them
+-- the most bytes that a job takes in a chain: ten digits, and the tab or the newline behind them
 abbrev pub jobRoom : ℕ
 jobRoom = 11
 
--- no chain has more bytes: it has no more jobs than there are places for open ones (02, No. 3: at most 32)
+-- the most bytes of a chain: it has at most as many jobs as there are places (02, No. 3: at most 32)
 abbrev pub chainRoom : ℕ
 chainRoom = places * jobRoom
 
--- no more bytes of chains: no more jobs wait than there are places
+-- the most bytes of all chains: at most as many jobs wait as there are places
 abbrev pub chainsRoom : ℕ
 chainsRoom = places * chainRoom
 
--- the room that is asked for what is written at the end
+-- the room required for what is written at the end
 abbrev pub closingRoom : View → ℕ
 closingRoom Answers = 0
 closingRoom History = 0
@@ -52,7 +52,7 @@ programRoom Answers = lineRoom
 programRoom History = lineRoom
 programRoom Chains = chainsRoom
 
--- what is written at the end is put into the buffer from the place on; where there is no room, it is full and nothing changes
+-- puts what is written at the end into the buffer from a place on; if there is no room, the result is "full" and nothing changes
 unfoldable pub closeOf : View → Clerk → List ℕ → ℕ → Finishing
 closeOf view c out at =
     let bytes = closing view c in
@@ -60,6 +60,6 @@ closeOf view c out at =
     (record { finished = record { at = at + length bytes; full = false }; out = putFrom out at bytes })
     (record { finished = record { at = at; full = true }; out = out })
 
--- the end of the input: a last line that lacks its newline is answered, and behind its record stands what is written at the end
+-- the end of the input: a last line without its newline is answered, and behind its record stands what is written at the end
 abbrev pub endOf : View → Clerk → List ℕ → ℕ → Finishing
 endOf view c out at = let f = finishOf view c out at in closeOf view c (f .out) (f .finished .at)

@@ -1,4 +1,4 @@
--- What a run tells of the lines of its text, line by line, and the requests that the lines say (01, Lines; 01, refusal 9).
+-- What a run tells of the lines of its text, line by line, and the requests in the lines (01, Lines; 01, refusal 9).
 use Prim.Native.Nat.{ℕ, _+_, _<_, _≤_}
 use mathlib.Core.Path.{_≡_}
 use mathlib.Core.Logic.{_↔_}
@@ -17,19 +17,19 @@ use Rattle.desks.specs.declared.Answer.the-variants.{No}
 use Rattle.desks.specs.Request.{Request}
 use Rattle.program_rules.specs.OverLines.{Told, requestIn}
 
--- of lines numbered from n on: each up to line 1,000,000 has its answer under its number, and that is refusal 9 with a field exactly where the line is bad at that field; what follows has none (01, Lines; 02, No. 5)
+-- for lines numbered from n on: each line up to 1,000,000 has its answer under its number, refusal 9 with a field exactly if the line is bad at that field; later lines have none (01, Lines; 02, No. 5)
 pub data LinesTold : ℕ → List (List ℕ) → List Told → Type 0 where
   no-line : {n : ℕ} → LinesTold n [] []
   no-more : {n : ℕ} {ls : List (List ℕ)} → requestLines < n → LinesTold n ls []
   a-line : {n : ℕ} {l : List ℕ} {ls : List (List ℕ)} {t : Told} {ts : List Told} → n ≤ requestLines → t .line ≡ n →
       ((at : Field) → (t .said ≡ No (BadLine at)) ↔ (refusalOf (readLine ofRequests l) ≡ some (BadLine at))) → LinesTold (n + 1) ls ts → LinesTold n (l ∷ ls) (t ∷ ts)
 
--- the request that a line says; a bad line says none
+-- the request in a line; a bad line has none
 unfoldable pub requestOf : Reading → List Request
 requestOf (Bad at) = []
 requestOf (Good l job cell) = requestIn (Good l job cell) ∷ []
 
--- the requests that lines numbered from n on say, up to line 1,000,000
+-- the requests in lines numbered from n on, up to line 1,000,000
 unfoldable pub requestsFrom : ℕ → List (List ℕ) → List Request
 requestsFrom n [] = []
 requestsFrom n (l ∷ ls) = pick (ltb requestLines n) [] (requestOf (readLine ofRequests l) ++ requestsFrom (n + 1) ls)

@@ -1,4 +1,4 @@
--- The run of a desk over lines of text: one definition, of which the answers and the history are two views (01, Lines).
+-- The run of a desk over lines of text: one definition, with the answers and the history as its two views (01, Lines).
 use Prim.Native.Nat.{ℕ, _+_}
 use mathlib.Core.List.{List, [], _∷_, _++_}
 use mathlib.Core.Option.{Option, none, some}
@@ -22,14 +22,14 @@ use Rattle.desks.specs.Stepping.{Stepped, Stepping}
 use Rattle.desks.specs.Records.{recordsOf}
 use Rattle.text_rules.specs.EventRecords.{textOf}
 
--- what is known of one line when it has been answered: its number, the request that it says, the answer and the wakes
+-- what is known of a line after it has been answered: its number, its request, the answer and the wakes
 pub record Told : Type 0 where
   pub line : ℕ
   pub request : Request
   pub said : Answer
   pub wakes : List Action
 
--- the request of a line that says none
+-- the request that stands for none
 unfoldable pub noRequest : Request
 noRequest = record { kind = 0; job = 0; cell = 0 }
 
@@ -42,29 +42,29 @@ pub record Lined (S : Type 0) : Type 0 where
 abbrev pub asked : Letter → ℕ → ℕ → Request
 asked l job cell = record { kind = byteOf l; job = job; cell = cell }
 
--- the request that a line says; a bad line says none
+-- the request in a line; a bad line has none
 abbrev pub requestIn : Reading → Request
 requestIn (Bad at) = noRequest
 requestIn (Good l job cell) = asked l job cell
 
--- what is known of a line whose request was this step
+-- what is known of a line whose request led to this step
 abbrev pub toldBy : {S : Type 0} → ℕ → Request → Stepped S → Told
 toldBy n r o = record { line = n; request = r; said = o .said; wakes = o .wakes }
 
--- a line that the reader refuses is answered by that refusal, and the desk does not see it; any other is a step
+-- a line that the reader refuses is answered with that refusal, and the desk does not see it; any other line is a step
 abbrev pub answeredBy : {S : Type 0} → Stepping S → S → ℕ → Request → Option Refusal → Lined S
 answeredBy step d n r (some why) = record { desk = d; told = record { line = n; request = r; said = No why; wakes = [] } }
 answeredBy step d n r none = let o = step d r in record { desk = o .desk; told = toldBy n r o }
 
--- a line is answered as it reads: refusal 9 with the field at fault where it is bad, and else a step
+-- a line is answered by how it reads: refusal 9 with the field at fault if it is bad, else a step
 unfoldable pub answered : {S : Type 0} → Stepping S → S → ℕ → Reading → Lined S
 answered step d n r = answeredBy step d n (requestIn r) (refusalOf r)
 
--- line n answered
+-- line n, answered
 unfoldable pub lineBy : {S : Type 0} → Stepping S → S → ℕ → List ℕ → Lined S
 lineBy step d n bytes = answered step d n (readLine ofRequests bytes)
 
--- the run over lines numbered from n on; after 1,000,000 lines nothing is read (01, Lines)
+-- the run over lines numbered from n on; nothing is read after line 1,000,000 (01, Lines)
 unfoldable pub runOf : {S : Type 0} → Stepping S → S → ℕ → List (List ℕ) → List Told
 runOf step d n [] = []
 runOf step d n (l ∷ ls) =
@@ -77,7 +77,7 @@ unfoldable pub wakeLines : ℕ → List Action → List ℕ
 wakeLines n [] = []
 wakeLines n (a ∷ rest) = answerRecord n Wake (a .job) 0 ++ wakeLines n rest
 
--- the answer records of a line: its answer, of refusal 9 with the field at fault, then its wakes (01, Lines; 02, No. 5)
+-- the answer records of a line: its answer, with the field at fault for refusal 9, then its wakes (01, Lines; 02, No. 5)
 unfoldable pub answerLines : Told → List ℕ
 answerLines t = answerRecord (t .line) (wordOf (t .said)) (numberBeside (t .said)) (fieldBeside (t .said)) ++ wakeLines (t .line) (t .wakes)
 
@@ -85,7 +85,7 @@ answerLines t = answerRecord (t .line) (wordOf (t .said)) (numberBeside (t .said
 unfoldable pub historyLines : Told → List ℕ
 historyLines t = textOf (recordsOf (t .request) (t .said) (t .wakes))
 
--- what is written of a run, in a view
+-- the text written for a run, in a view
 unfoldable pub written : (Told → List ℕ) → List Told → List ℕ
 written view [] = []
 written view (t ∷ ts) = view t ++ written view ts

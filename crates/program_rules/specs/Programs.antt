@@ -36,7 +36,7 @@ runBy Stamps text = stampRunOn text
 unfoldable pub desksRun : Method → List ℕ → List Told
 desksRun m text = runOf onDesks (newDesks m firstNumber) 1 (linesOf text)
 
--- the desk of the paper after the lines of a text
+-- the paper's desk after the lines of a text
 unfoldable pub deskOn : List ℕ → Desk
 deskOn text = deskOver step (freshDesk firstNumber) 1 (linesOf text)
 
@@ -48,7 +48,7 @@ answersOf text = written answerLines (runOn text)
 unfoldable pub historyOf : List ℕ → List ℕ
 historyOf text = written historyLines (runOn text)
 
--- the program `chain`: for each job that waits once the text has ended, in ascending order, a line with its chain (02, No. 3)
+-- the program `chain`: for each job that waits when the text has ended, in ascending order, a line with its chain (02, No. 3)
 unfoldable pub chainsOf : List ℕ → List ℕ
 chainsOf text = chainText (allChains (deskOn text))
 
@@ -60,7 +60,7 @@ stampAnswersOf text = written answerLines (stampRunOn text)
 unfoldable pub stampHistoryOf : List ℕ → List ℕ
 stampHistoryOf text = written historyLines (stampRunOn text)
 
--- what the program of a method and a view writes, from text to text; nobody waits on a timestamp desk, so it has no chains
+-- what the program of a method and a view writes; nobody waits on a timestamp desk, so there it has no chains
 unfoldable pub programOf : Method → View → List ℕ → List ℕ
 programOf Locks Answers text = answersOf text
 programOf Locks History text = historyOf text

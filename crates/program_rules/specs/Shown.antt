@@ -1,4 +1,4 @@
--- What the answers show of a line and what its history records show: grants to jobs, and ends of jobs' runs (01, Lines).
+-- What a line's answer records show, and what its history records show: grants to jobs, and ends of their runs (01, Lines).
 use Prim.Native.Nat.{ℕ}
 use mathlib.Core.List.{List, [], _∷_, _++_}
 use Rattle.terms.specs.declared.letters.Letter.the-variants.{Begin, Commit as commit, GiveUp as give-up, Retry, Back as no-request, Asks}
@@ -17,12 +17,12 @@ use Rattle.desks.specs.Requests.{givenBy}
 use Rattle.program_rules.specs.OverLines.{Told}
 use Rattle.program_rules.specs.Programs.{runOn}
 
--- a job was granted a read, write, increment or u, or its run ended by a commit, a give-up or a sending back
+-- a job was granted a read, write, increment or u, or its run ended by a commit, a give-up or being sent back
 pub data Shown : Type 0 where
   granted : ℕ → Shown
   ended : Mark → ℕ → Shown
 
--- a go shows a grant where the request is a read, write, increment or u, and an end where it is a commit or a give-up
+-- a go shows a grant if the request is a read, write, increment or u, and an end if it is a commit or a give-up
 unfoldable pub goShows : ℕ → Lettered → List Shown
 goShows j Unknown = []
 goShows j (Known no-request) = []
@@ -32,7 +32,7 @@ goShows j (Known give-up) = ended GiveUp j ∷ []
 goShows j (Known Retry) = []
 goShows j (Known (Asks a)) = granted j ∷ []
 
--- a back shows an end; a wait and a refusal show neither
+-- a back shows an end; a wait and a refusal show nothing
 unfoldable pub answerShows : Lettered → Answer → List Shown
 answerShows l (Go j) = goShows j l
 answerShows l (Wait j) = []
@@ -44,7 +44,7 @@ unfoldable pub wakesShow : List Action → List Shown
 wakesShow [] = []
 wakesShow (a ∷ rest) = granted (a .job) ∷ wakesShow rest
 
--- the answer records of a line, in their order
+-- the answer records of a line, in order
 unfoldable pub answersShow : Told → List Shown
 answersShow t = answerShows (letterOf (t .request .kind)) (t .said) ++ wakesShow (t .wakes)
 
@@ -69,6 +69,6 @@ unfoldable pub givenIn : List Told → List ℕ
 givenIn [] = []
 givenIn (t ∷ ts) = givenBy (t .request) (t .said) ++ givenIn ts
 
--- the history of the run of a text on a fresh desk: what the program `history` writes the text of
+-- the history of the run of a text on a fresh desk: the program `history` writes it as text
 abbrev pub historyOn : List ℕ → History
 historyOn text = historyOfRun (runOn text)

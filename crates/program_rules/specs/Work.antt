@@ -1,4 +1,4 @@
--- A clerk's work: from a place of a chunk on, line after line, as long as there is a byte left and room for a line's records (01, Lines).
+-- A clerk's work: from a place of a chunk on, line after line, while there are bytes left and room for a line's records (01, Lines).
 use Prim.Native.Nat.{ℕ, zero, suc, _+_, _*_}
 use mathlib.Core.Bool.{Bool, true, false, not, _&&_}
 use mathlib.Core.List.{List, []}
@@ -27,29 +27,29 @@ use Rattle.program_rules.specs.OverLines.{Told, Lined, noRequest, lineBy
 use Rattle.program_rules.specs.Desks.{newDesks, onDesks}
 use Rattle.program_rules.specs.Programs.{firstNumber}
 
--- before any byte: each desk is started at 1, and the method says which one is asked
+-- before any byte: each desk is started at 1, and the method says which is asked
 unfoldable pub startedClerk : Method → Clerk
 startedClerk m = record { desks = newDesks m firstNumber; splitter = fresh }
 
--- the records of a line in a view; of a line the program `chain` writes none
+-- the records of a line in a view; `chain` writes none for a line
 unfoldable pub viewed : View → Told → List ℕ
 viewed Answers t = answerLines t
 viewed History t = historyLines t
 viewed Chains t = []
 
--- no more bytes of wake records follow: no more jobs wake than there are places for open ones (01, What is delivered), each with one record
+-- the most bytes of a line's wake records: at most one record for each place for open jobs (01, What is delivered)
 abbrev pub wakesRoom : ℕ
 wakesRoom = longestRecord * places
 
--- no line has more bytes of records: its own record, and those of its wakes
+-- the most bytes of a line's records: its own record, and those of its wakes
 abbrev pub lineRoom : ℕ
 lineRoom = longestRecord + wakesRoom
 
--- there is room for the records of any line from the place on
+-- whether there is room for the records of any line from this place on
 unfoldable pub roomy : List ℕ → ℕ → Bool
 roomy out at = leb (at + lineRoom) (length out)
 
--- the line in the splitter is to be answered: its newline has come, and its number is at most 1,000,000 (01, Lines)
+-- whether the line in the splitter is to be answered: its newline has come, and its number is at most 1,000,000 (01, Lines)
 unfoldable pub due : Splitter → Bool
 due s = s .ended && leb (s .line) requestLines
 
@@ -59,14 +59,14 @@ pub record Turn : Type 0 where
   pub at : ℕ
   pub out : List ℕ
 
--- the line in the splitter is answered, and its records are put into the buffer
+-- answers the line in the splitter, and puts its records into the buffer
 unfoldable pub answering : View → Clerk → List ℕ → ℕ → Turn
 answering view c out at =
     let l : Lined Desks = lineBy onDesks (c .desks) (c .splitter .line) (foundAt (c .splitter) .bytes) in
     let bytes = viewed view (l .told) in
     record { clerk = record { desks = l .desk; splitter = c .splitter }; at = at + length bytes; out = putFrom out at bytes }
 
--- after a cut: the line is answered if it is to be, and else nothing changes
+-- after a cut: the line is answered if it is due, else nothing changes
 unfoldable pub turning : View → Clerk → List ℕ → ℕ → Turn
 turning view c out at = pick (due (c .splitter)) (answering view c out at) (record { clerk = c; at = at; out = out })
 
@@ -74,7 +74,7 @@ turning view c out at = pick (due (c .splitter)) (answering view c out at) (reco
 unfoldable pub cutting : Clerk → List ℕ → ℕ → Clerk
 cutting c chunk from = record { desks = c .desks; splitter = cutOf (c .splitter) chunk from .splitter }
 
--- where the work has come to, and what the buffer then holds
+-- how far the work has come, and what the buffer then holds
 pub record Working : Type 0 where
   pub worked : Worked
   pub out : List ℕ
@@ -83,7 +83,7 @@ pub record Working : Type 0 where
 unfoldable pub stopped : Clerk → ℕ → List ℕ → ℕ → Bool → Working
 stopped c from out at full = record { worked = record { clerk = c; next = from; at = at; full = full }; out = out }
 
--- at most so many lines of the chunk from the place on; the work stops before the next cut where there is no room for a line's records
+-- at most n lines of the chunk from the place on; stops before the next cut if there is no room for a line's records
 unfoldable pub workBy : ℕ → View → Clerk → List ℕ → ℕ → List ℕ → ℕ → Working
 workBy zero view c chunk from out at = stopped c from out at false
 workBy (suc n) view c chunk from out at =
@@ -91,11 +91,11 @@ workBy (suc n) view c chunk from out at =
     let rest = workBy n view (t .clerk) chunk (cutOf (c .splitter) chunk from .next) (t .out) (t .at) in
     pick (ltb from (length chunk)) (pick (roomy out at) rest (stopped c from out at true)) (stopped c from out at false)
 
--- every line of the chunk from the place on: each has a byte, so there are no more lines than bytes
+-- every line of the chunk from the place on: each has a byte, so there are at most as many lines as bytes
 unfoldable pub workOf : View → Clerk → List ℕ → ℕ → List ℕ → ℕ → Working
 workOf view c chunk from out at = workBy (length chunk) view c chunk from out at
 
--- where the input has ended, and what the buffer then holds
+-- the end of the input, and what the buffer then holds
 pub record Finishing : Type 0 where
   pub finished : Finished
   pub out : List ℕ
@@ -104,19 +104,19 @@ pub record Finishing : Type 0 where
 unfoldable pub toldBad : ℕ → Field → Told
 toldBad n at = record { line = n; request = noRequest; said = No (BadLine at); wakes = [] }
 
--- what is told of the line in the splitter where the input has ended before its newline
+-- what is told of the line in the splitter if the input ends before its newline
 unfoldable pub unended : Splitter → Told
 unended s = toldBad (s .line) (lacking (readLine ofRequests (foundAt s .bytes)))
 
--- a line is under way that is to be answered although it lacks its newline
+-- whether a line is under way that must be answered although it lacks its newline
 unfoldable pub owing : Splitter → Bool
 owing s = not (s .ended) && leb (s .line) requestLines
 
--- every line that is to be read has been read: line 1,000,000 has its newline, or a further line has begun (01, Lines)
+-- whether every line to be read has been read: line 1,000,000 has its newline, or a further line has begun (01, Lines)
 unfoldable pub allRead : Splitter → Bool
 allRead s = pick (s .ended) (leb requestLines (s .line)) (ltb requestLines (s .line))
 
--- the end of the input: a line that lacks its newline is answered by refusal 9, with the field at fault, if its number is at most 1,000,000 (01, Lines; 02, No. 5)
+-- the end of the input: a line without its newline gets refusal 9 with the field at fault, if its number is at most 1,000,000 (01, Lines; 02, No. 5)
 unfoldable pub finishOf : View → Clerk → List ℕ → ℕ → Finishing
 finishOf view c out at =
     let bytes = viewed view (unended (c .splitter)) in

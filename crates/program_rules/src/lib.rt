@@ -5,7 +5,7 @@ use text_rules::Splitter;
 ghost use mathlib.Core.Path.{_≡_};
 ghost use Rattle.program_rules.specs.Work.{startedClerk};
 
-// By which method requests are answered: each has its desk.
+// The method by which requests are answered: each has its desk.
 pub enum Method {
     // by locks
     Locks,
@@ -13,30 +13,30 @@ pub enum Method {
     Stamps,
 }
 
-// Both desks, and the method that says which of them is asked; the other one is never touched.
+// Both desks, and the method that says which of them is asked; the other is never touched.
 pub struct Desks {
     pub method: Method,
     pub locks: Desk,
     pub stamps: Stamps,
 }
 
-// The desks, and the line that is being put together.
+// The desks, and the line being put together.
 pub struct Clerk {
     pub desks: Desks,
     pub splitter: Splitter,
 }
 
-// What is written: the answers, the history, or the chains of those who wait.
+// What is written: the answers, the history, or the chains of the waiting jobs.
 pub enum View {
     // the answers, one for each line, each with its wakes
     Answers,
     // what was granted and what ended, in order
     History,
-    // no record of a line; once the input has ended, the chains of those who wait
+    // no record for a line; at the end of the input, the chains of the waiting jobs
     Chains,
 }
 
-// Where work on a chunk has come to: the clerk, the place in the chunk, the place after the records, and whether it stopped for want of room.
+// How far the work on a chunk has come: the clerk, the place in the chunk, the place after the records, and whether it stopped for lack of room.
 pub struct Worked {
     pub clerk: Clerk,
     pub next: usize,
@@ -44,14 +44,14 @@ pub struct Worked {
     pub full: bool,
 }
 
-// The end of the input: the place after what is then written, or no room for it.
+// The end of the input: the place after the last bytes written, or that there was no room for them.
 pub struct Finished {
     pub at: usize,
     pub full: bool,
 }
 
 impl Clerk {
-    // A clerk who has seen no byte; each desk is started at 1.
+    // A clerk that has seen no byte; each desk is started at 1.
     pub fn started(method: Method) -> Clerk
         ensures { λ r. ⌜ r ≡ startedClerk method ⌝ }
     {

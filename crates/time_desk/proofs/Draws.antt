@@ -1,4 +1,4 @@
--- The next step as the walk of a loop that lends the desk takes it: how many are left, what is asked, and the hands beside them.
+-- The next step, as the walk of a loop that lends the desk takes it: how many are left, what is asked, and the hands.
 -- Assumes nothing.
 use Rattle.lent.proofs.Parts.{Part}
 use Rattle.lent.proofs.Asking.{Asking}

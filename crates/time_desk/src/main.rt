@@ -1,5 +1,5 @@
-// Twenty-four hands with a job each, and a mix of steps drawn from a fixed sequence, run on a desk: what a step by numbers costs, with no text between.
-// With nothing on standard input that is the lock desk; where the first byte is a `t`, the timestamp desk; where it is an `l` or an `s`, the lock desk or the timestamp desk kept in one place and lent to each step whole (02, No. 7).
+// Twenty-four hands, each with a job, and a mix of steps drawn from a fixed sequence, run on a desk: measures what a step by numbers costs, with no text between.
+// With nothing on standard input the desk is the lock desk. A first byte `t` selects the timestamp desk; `l` or `s` selects the lock desk or the timestamp desk kept in one place and lent whole to each step (02, No. 7).
 // Each step takes three draws, whatever the desk has answered: the hand, the kind and the cell.
 // Writes how many steps went, waited, went back and were refused, and how many jobs woke; on the timestamp desk nobody waits or wakes.
 use desk_arrays::state::Desk;
@@ -23,7 +23,7 @@ use terms::words::TAB;
 ghost use Prim.Native.Nat.{_-_, _≤_, _<_};
 ghost use mathlib.Core.Path.{_≡_};
 
-// How many steps were answered how.
+// How many steps got each answer.
 struct Tally {
     go: u64,
     wait: u64,
@@ -32,7 +32,7 @@ struct Tally {
     wakes: u64,
 }
 
-// The hands: the job of each, and whether it was sent back; where the sequence stands, whose step was drawn last, and how the steps so far were answered.
+// The hands: the job of each, and whether it was sent back; the state of the sequence, the hand drawn last, and how the steps so far were answered.
 struct Hands {
     jobs: [u32; HANDS],
     backs: [bool; HANDS],
@@ -41,7 +41,7 @@ struct Hands {
     tally: Tally,
 }
 
-// The next step of a desk that is lent: how many are left, itself among them, what is asked, and the hands.
+// The next step of a lent desk: how many are left, this one included; what is asked; and the hands.
 struct Drawn {
     left: u64,
     kind: u8,
@@ -54,7 +54,7 @@ struct Drawn {
 const STEPS: u32 = 1000000;
 
 const HANDS: usize = 24;
-// The byte of the input by which the timestamp desk is meant, `t`; by which a lock desk that is lent whole, `l`; and by which such a timestamp desk, `s`.
+// The first byte that selects the timestamp desk, `t`; a lock desk lent whole, `l`; and a timestamp desk lent whole, `s`.
 const STAMPS: u8 = 116;
 
 const LENT_LOCKS: u8 = 108;
@@ -78,7 +78,7 @@ fn cell_by(x: u32) -> u32 {
     x / 65536 % CELLS
 }
 
-// What a hand with a job asks, or with none, 0: that one begins.
+// What a hand asks if it has a job; a hand without a job, 0, begins.
 fn kind_by(job: u32, x: u32) -> u8 {
     if job == 0 {
         return BEGIN;
@@ -86,7 +86,7 @@ fn kind_by(job: u32, x: u32) -> u8 {
     drawn_kind(x / 65536 % 32)
 }
 
-// Of 32 steps 15 read, 6 write, 4 increment, 5 commit, 1 gives up and 1 retries.
+// Of 32 steps, 15 read, 6 write, 4 increment, 5 commit, 1 gives up and 1 retries.
 fn drawn_kind(n: u32) -> u8 {
     if n < 15 {
         return READ;
@@ -106,7 +106,7 @@ fn drawn_kind(n: u32) -> u8 {
     RETRY
 }
 
-// The job that a hand had, or none once it has ended; a begin gives it the new one. A job that was sent back stays, to retry.
+// The hand's job after a step: none once it has ended; a begin gives the new one. A job that was sent back stays, to retry.
 fn job_after(job: u32, kind: u8, answer: Answer) -> u32 {
     match answer {
         Answer::Go(named) => {
@@ -134,7 +134,7 @@ fn is_back(answer: Answer) -> bool {
     }
 }
 
-// What a hand asks: one whose job was sent back, and is still open, retries.
+// What a hand asks; a hand whose job was sent back and is still open retries.
 fn asked_kind(job: u32, back: bool, x: u32) -> u8 {
     if back {
         return RETRY;
@@ -142,7 +142,7 @@ fn asked_kind(job: u32, back: bool, x: u32) -> u8 {
     kind_by(job, x)
 }
 
-// The job that a hand has after a step of the timestamp desk: none once it was sent back, which closes it there.
+// The hand's job after a step of the timestamp desk: none once it was sent back, which closes it there.
 fn job_left(job: u32, kind: u8, answer: Answer) -> u32 {
     if is_back(answer) {
         return 0;
@@ -150,7 +150,7 @@ fn job_left(job: u32, kind: u8, answer: Answer) -> u32 {
     job_after(job, kind, answer)
 }
 
-// Nothing counted yet.
+// A tally with nothing counted.
 fn no_steps() -> Tally {
     Tally {
         go: 0,
@@ -161,7 +161,7 @@ fn no_steps() -> Tally {
     }
 }
 
-// The tally with one more answer and its wakes.
+// The tally with one more answer and its wakes counted.
 fn counted(mut t: Tally, answer: Answer, wakes: u64) -> Tally {
     t.wakes = wrapping_add_u64(t.wakes, wakes);
     match answer {
@@ -181,13 +181,13 @@ fn counted(mut t: Tally, answer: Answer, wakes: u64) -> Tally {
     t
 }
 
-// A number and the byte behind it, and whether that was taken.
+// Writes a number and the byte behind it; tells whether they were taken.
 fn put_number(n: u64, after: u8) -> bool {
     io::print_decimal(STDOUT_FILENO, n);
     io::write_all(STDOUT_FILENO, &[after])
 }
 
-// The tally's five numbers.
+// Writes the tally's five numbers.
 fn put_tally(t: Tally) {
     put_number(t.go, TAB);
     put_number(t.wait, TAB);
@@ -275,7 +275,7 @@ fn draw_stamps(d: Stamps) -> Tally {
     tally
 }
 
-// The step that the hands draw next, with so many left.
+// The next step that the hands draw, with this many left.
 fn draw(h: Hands, left: u64) -> Drawn
     ensures { λ r. ⌜ r .left ≡ left ⌝ }
 {
@@ -301,7 +301,7 @@ fn draw(h: Hands, left: u64) -> Drawn
     }
 }
 
-// The first step of all, when no hand has a job.
+// The first step, when no hand has a job.
 fn first_draw() -> Drawn
     ensures { λ r. ⌜ 0 < r .left ⌝ }
 {
@@ -315,7 +315,7 @@ fn first_draw() -> Drawn
     draw(hands, STEPS as u64)
 }
 
-// The hands once the step that they drew was answered, with the job that its hand has then, whether it is to retry, and how many woke.
+// The hands after their step was answered: with the hand's job, whether it is to retry, and how many woke.
 fn hands_after(h: Hands, job: u32, back: bool, answer: Answer, wakes: u64) -> Hands {
     let mut jobs = h.jobs;
     let mut backs = h.backs;
@@ -334,7 +334,7 @@ fn hands_after(h: Hands, job: u32, back: bool, answer: Answer, wakes: u64) -> Ha
     }
 }
 
-// The step after one that was answered; after the last the tally is written out.
+// The step after an answered one; after the last the tally is written out.
 fn draw_after(left: u64, hands: Hands) -> Drawn
     ensures { λ r. ⌜ r .left ≤ left - 1 ⌝ }
 {
@@ -345,7 +345,7 @@ fn draw_after(left: u64, hands: Hands) -> Drawn
     draw(hands, 0)
 }
 
-// The step after one that the lock desk answered.
+// The step after one answered by the lock desk.
 fn after_said(a: Drawn, said: Said) -> Drawn
     ensures { λ r. ⌜ r .left ≤ a .left - 1 ⌝ }
 {
@@ -355,7 +355,7 @@ fn after_said(a: Drawn, said: Said) -> Drawn
     draw_after(a.left, hands)
 }
 
-// The step after one that the timestamp desk answered.
+// The step after one answered by the timestamp desk.
 fn after_answer(a: Drawn, answer: Answer) -> Drawn
     ensures { λ r. ⌜ r .left ≤ a .left - 1 ⌝ }
 {
@@ -384,7 +384,7 @@ fn lend_stamps() {
     }
 }
 
-// The first byte of the input, by which a desk is meant; 0 where there is none.
+// The first byte of the input, which selects a desk; 0 if there is none.
 fn first_byte() -> u8 {
     let mut one = [0u8; 1];
     let got = libc::read(STDIN_FILENO, &mut one);

@@ -1,7 +1,7 @@
-// Runs either desk on steps by numbers. The first line of the input is the first number, and with a blank and a second number behind it, as `1 1`, the timestamp desk is meant,
-// whatever the second number is; every other line is a step, `kind job cell`, or for the lock desk alone who asks for a chain, `256 job places`.
-// Writes a line for each step: the answer's word and number, then `wake`, job, cell and the kind's byte for each wake, with tabs between;
-// and for who asks `chain` and how many jobs, or `no` and the refusal, and then every place of the list.
+// Runs either desk on steps by numbers. The first input line is the first number. If a blank and a second number follow, as in `1 1`, the desk is the timestamp desk,
+// whatever the second number is. Every other line is a step, `kind job cell`, or, on the lock desk only, a request for a chain, `256 job places`.
+// Writes a line for each step: the answer's word and number, then `wake`, job, cell and the kind's byte for each wake, with tabs between.
+// For a chain it writes `chain` and how many jobs, or `no` and the refusal, and then every place of the list.
 use conflict::action::Action;
 use conflict::action::Kind;
 use desk_arrays::state::Desk;
@@ -25,13 +25,13 @@ use terms::words::Word;
 use terms::words::spelled;
 ghost use Prim.Native.Nat.{_≤_};
 
-// A number of the input, and what stands after it.
+// A number of the input, and the byte after it.
 struct Field {
     value: u32,
     end: u32,
 }
 
-// A line `kind job cell` of the input, and whether there is one.
+// An input line `kind job cell`, and whether there is one.
 struct Line {
     kind: u32,
     job: u32,
@@ -39,27 +39,27 @@ struct Line {
     there: bool,
 }
 
-// The desk after a step, and whether there was one and its line was taken.
+// The desk after a step, and whether there was a step and its line was taken.
 struct Turn {
     desk: Desk,
     done: bool,
 }
 
-// The same of the timestamp desk.
+// The same for the timestamp desk.
 struct StampTurn {
     stamps: Stamps,
     done: bool,
 }
 
-// What stands for the end of the input, where a byte is at most 255.
+// Stands for the end of the input; a byte is at most 255.
 const END: u32 = 256;
-// What stands between the numbers of a line.
+// Stands between the numbers of a line.
 const BLANK: u32 = 32;
-// What stands for who asks for a chain, where a kind is at most 255.
+// Stands for a request for a chain; a kind is at most 255.
 const ASKS: u32 = 256;
-// The most places that are lent for a list.
+// The most places lent for a list.
 const MOST: usize = 64;
-// What the list's first place holds before, and each further one a number more: no job has it here.
+// What the list's first place holds before the call; each further place holds one more. No job here has such a number.
 const BEFORE: u32 = 4_000_000_000;
 
 fn wide(byte: u8) -> u32 {
@@ -79,7 +79,7 @@ fn next_byte() -> u32 {
     wide(one[0])
 }
 
-// A number with one more digit; a larger one than there can be is the largest.
+// The number with one more digit; a number that is too large becomes the largest.
 fn with_digit(value: u32, digit: u32) -> u32
     requires { ⌜ (48 ≤ digit) × (digit ≤ 57) ⌝ }
 {
@@ -90,7 +90,7 @@ fn with_digit(value: u32, digit: u32) -> u32
     LAST_NUMBER
 }
 
-// The next number: its digits up to the first byte that is none.
+// The next number: its digits up to the first byte that is no digit.
 fn next_number() -> Field {
     let mut value: u32 = 0;
     let mut turns = u64::MAX;
@@ -133,7 +133,7 @@ fn put_byte(byte: u8) {
     io::write_all(STDOUT_FILENO, &[byte]);
 }
 
-// The end of a line: whether it was taken.
+// Writes the end of a line; tells whether it was taken.
 fn put_end() -> bool {
     if io::write_all(STDOUT_FILENO, &[NEWLINE]) {
         return true;
@@ -154,13 +154,13 @@ fn put_number(n: u32) {
     io::print_decimal(STDOUT_FILENO, n as u64);
 }
 
-// `no`, and the refusal's number.
+// Writes `no` and the refusal's number.
 fn put_refused(why: Refusal) {
     put_word(Word::No);
     put_number(wide(number_of(why)));
 }
 
-// An answer's word, and its number.
+// Writes an answer's word and number.
 fn put_answer(answer: Answer) {
     match answer {
         Answer::Go(job) => {
@@ -192,7 +192,7 @@ fn put_wake(a: Action) {
     }
 }
 
-// A step's line, and whether it was taken.
+// Writes a step's line; tells whether it was taken.
 fn put_said(said: Said) -> bool {
     let answer = said.answer;
     put_answer(answer);
@@ -208,7 +208,7 @@ fn put_said(said: Said) -> bool {
     put_end()
 }
 
-// A list as it is before it is lent: a number in each place by which it is known again.
+// A list before it is lent: each place holds a number of its own.
 fn list_before() -> [u32; MOST] {
     let mut list = [BEFORE; MOST];
     let mut i: usize = 0;
@@ -219,7 +219,7 @@ fn list_before() -> [u32; MOST] {
     list
 }
 
-// The first places of a list, so many.
+// Writes the first n places of a list.
 fn put_list(list: [u32; MOST], n: usize) {
     let mut i: usize = 0;
     while i < MOST {
@@ -230,7 +230,7 @@ fn put_list(list: [u32; MOST], n: usize) {
     }
 }
 
-// How many jobs a chain has, or why there is none.
+// Writes how many jobs a chain has, or why there is none.
 fn put_chained(answer: Chained) {
     match answer {
         Chained::Jobs(n) => {
@@ -242,7 +242,7 @@ fn put_chained(answer: Chained) {
     }
 }
 
-// So many places, and 64 where more are named.
+// The number of places named, at most 64.
 fn at_most(places: u32) -> usize
     ensures { λ r. ⌜ r ≤ 64 ⌝ }
 {
@@ -252,7 +252,7 @@ fn at_most(places: u32) -> usize
     MOST
 }
 
-// Who asks for a job's chain, with so many places lent, at most 64; whether the line was taken.
+// Asks for a job's chain, with this many places lent, at most 64; tells whether the line was taken.
 fn ask(d: Desk, job: u32, places: u32) -> bool {
     let mut list = list_before();
     let n = at_most(places);
@@ -262,7 +262,7 @@ fn ask(d: Desk, job: u32, places: u32) -> bool {
     put_end()
 }
 
-// One step of the lock desk, if the input has one more.
+// One step of the lock desk, if the input has one.
 fn take_turn(d: Desk) -> Turn {
     let s = next_line();
     if !s.there {
@@ -288,7 +288,7 @@ fn take_turn(d: Desk) -> Turn {
     Turn { desk: after, done }
 }
 
-// All the steps of the lock desk. Nothing says that the input ends, so the turns are counted down.
+// All the steps of the lock desk. Nothing guarantees that the input ends, so the turns are counted down.
 fn answer_all(d: Desk) {
     let mut now = d;
     let mut turns = u64::MAX;
@@ -302,7 +302,7 @@ fn answer_all(d: Desk) {
     }
 }
 
-// One step of the timestamp desk, if the input has one more. A kind above 255 is no step.
+// One step of the timestamp desk, if the input has one. A kind above 255 is no step.
 fn take_stamp_turn(d: Stamps) -> StampTurn {
     let s = next_line();
     if !s.there {
@@ -328,7 +328,7 @@ fn take_stamp_turn(d: Stamps) -> StampTurn {
     }
 }
 
-// All the steps of the timestamp desk, the turns counted down likewise.
+// All the steps of the timestamp desk, with the turns counted down likewise.
 fn answer_stamps(d: Stamps) {
     let mut now = d;
     let mut turns = u64::MAX;
@@ -342,13 +342,13 @@ fn answer_stamps(d: Stamps) {
     }
 }
 
-// A start that is refused.
+// Writes the refusal of a start.
 fn put_refusal(why: Refusal) {
     put_refused(why);
     put_end();
 }
 
-// The lock desk started at a first number, and all its steps.
+// Starts the lock desk at a first number, and runs all its steps.
 fn open(first: u32) {
     match Desk::start(first) {
         desk_arrays::state::Start::Ready(desk) => answer_all(desk),
@@ -356,7 +356,7 @@ fn open(first: u32) {
     }
 }
 
-// The timestamp desk likewise.
+// The same for the timestamp desk.
 fn open_stamps(first: u32) {
     match Stamps::start(first) {
         stamp_arrays::state::Start::Ready(desk) => answer_stamps(desk),
@@ -364,7 +364,7 @@ fn open_stamps(first: u32) {
     }
 }
 
-// A blank behind the first number means the timestamp desk: what the second number is does not matter.
+// A blank behind the first number selects the timestamp desk; the second number itself does not matter.
 fn main() {
     let first = next_number();
     if first.end == BLANK {

@@ -1,5 +1,5 @@
 // Runs the judge by cases: a line `= N` opens a case, the lines up to the next such line are its history, and N places of a buffer are lent for the order.
-// Writes for each case the verdict's line, then the line handed back, where there is one, and `!` where the buffer or two of the judge's entries are not as told.
+// For each case, writes the verdict's line, then the line handed back, if any, and `!` if the buffer is not as told or two of the judge's entries differ.
 use judge::entry::judge;
 use judge::entry::judge_text;
 use judge_line::verdict::write_verdict;
@@ -15,26 +15,26 @@ use text_rules::Written;
 ghost use Prim.Native.Nat.{_≤_};
 ghost use lib.ListN.{length};
 
-// The places that there are to lend.
+// The most places lent.
 const ORDER_PLACES: usize = 300;
 
-// What stands in a place before the judge is called.
+// What every place holds before the judge is called.
 const UNTOUCHED: u8 = 170;
 
-// What a header line begins with.
+// The first byte of a header line.
 const MARK: u8 = b'=';
 
-// One byte more than a text may have is enough of a longer one.
+// One byte more than a text may have: enough of a longer text to refuse it.
 const KEPT: usize = JUDGED_BYTES + 1;
 
-// Where the next byte stands: first on its line, further on in a line of the text, or in a header line.
+// Where the next byte stands: at the start of a line, further on in a line of the text, or in a header line.
 enum Spot {
     First,
     Further,
     Header,
 }
 
-// The case under way: whether its header has ended, the places to lend, and the bytes of its text that are kept.
+// The case under way: whether its header has ended, the places to lend, and how many bytes of its text are kept.
 struct Case {
     open: bool,
     places: usize,
@@ -42,7 +42,7 @@ struct Case {
     spot: Spot,
 }
 
-// The answer of the entry that hands back a line: the verdict in four numbers, the case first, and the field at fault of refusal 9 last.
+// The answer of the entry that hands back a line: the verdict in four numbers, the case first, and last the field at fault of refusal 9.
 struct Numbers {
     case: u32,
     second: u32,
@@ -60,7 +60,7 @@ fn put_mark() {
     io::write_all(STDOUT_FILENO, b"!\n");
 }
 
-// The verdict's line.
+// Writes the verdict's line.
 fn put_verdict(said: Verdict, order: &[u8; ORDER_PLACES]) {
     let mut out = io::buffer();
     match write_verdict(said, order, &mut out) {
@@ -71,14 +71,14 @@ fn put_verdict(said: Verdict, order: &[u8; ORDER_PLACES]) {
     }
 }
 
-// The line handed back.
+// Writes the line handed back.
 fn put_line(line: &[u8]) {
     io::write_all(STDOUT_FILENO, b"line\t");
     io::write_all(STDOUT_FILENO, line);
     io::write_all(STDOUT_FILENO, &[NEWLINE]);
 }
 
-// How many places a verdict tells of.
+// How many places a verdict fills.
 fn told_places(said: Verdict) -> usize {
     match said {
         Verdict::Orderly(n) => n,
@@ -140,7 +140,7 @@ fn rest_stays<'a>(one: &'a [u8; ORDER_PLACES], other: &'a [u8; ORDER_PLACES], n:
     true
 }
 
-// Two of the judge's entries on a text, each with its own buffer.
+// Calls two of the judge's entries on a text, each with its own buffer, and writes what they say.
 fn report(text: &[u8], places: usize)
     requires { ⌜ places ≤ 300 ⌝ }
 {
@@ -166,7 +166,7 @@ fn report(text: &[u8], places: usize)
     }
 }
 
-// A case that has ended: a text that is too long is refused before anything else is looked at.
+// A case that has ended: a text that is too long is refused before anything else.
 fn close(case: Case, text: &[u8])
     requires { ⌜ (case .len ≤ length (now text)) × (case .places ≤ 300) ⌝ }
 {
@@ -188,7 +188,7 @@ fn close(case: Case, text: &[u8])
     report(&text[0..len], case.places);
 }
 
-// A number with one more digit; there are no more places than there are.
+// The number of places with one more digit, at most 300.
 fn with_digit(places: usize, digit: u8) -> usize
     requires { ⌜ (places ≤ 300) × (48 ≤ digit) × (digit ≤ 57) ⌝ }
     ensures { λ r. ⌜ r ≤ 300 ⌝ }
@@ -201,7 +201,7 @@ fn with_digit(places: usize, digit: u8) -> usize
     }
 }
 
-// A byte of a header: a digit, the newline that ends it, or one that says nothing.
+// A byte of a header: a digit, the newline that ends it, or a byte to skip.
 fn in_header(case: Case, byte: u8) -> Case
     requires { ⌜ case .places ≤ 300 ⌝ }
     ensures { λ r. ⌜ (r .len ≤ case .len) × (r .places ≤ 300) ⌝ }
@@ -228,7 +228,7 @@ fn in_header(case: Case, byte: u8) -> Case
     }
 }
 
-// A byte kept behind those that are, where there is room for it, and how many there are then.
+// Keeps a byte behind those kept so far, if there is room; returns how many are kept.
 fn keep(text: &mut [u8], len: usize, byte: u8) -> usize
     requires { ⌜ len ≤ length (now text) ⌝ }
     ensures { λ r. ⌜ r ≤ length (now (text .exit)) ⌝ }
@@ -240,7 +240,7 @@ fn keep(text: &mut [u8], len: usize, byte: u8) -> usize
     len
 }
 
-// Where the byte after one of the text stands.
+// Where the byte after a text byte stands.
 fn spot_after(byte: u8) -> Spot {
     if byte == NEWLINE {
         return Spot::First;
@@ -248,7 +248,7 @@ fn spot_after(byte: u8) -> Spot {
     Spot::Further
 }
 
-// A byte of the text.
+// Takes a byte of the text.
 fn in_text(case: Case, byte: u8, text: &mut [u8]) -> Case
     requires { ⌜ (case .len ≤ length (now text)) × (case .places ≤ 300) ⌝ }
     ensures { λ r. ⌜ (r .len ≤ length (now (text .exit))) × (r .places ≤ 300) ⌝ }
@@ -262,7 +262,7 @@ fn in_text(case: Case, byte: u8, text: &mut [u8]) -> Case
     }
 }
 
-// One byte more of the input.
+// Takes one byte of the input.
 fn take_byte(case: Case, byte: u8, text: &mut [u8]) -> Case
     requires { ⌜ (case .len ≤ length (now text)) × (case .places ≤ 300) ⌝ }
     ensures { λ r. ⌜ (r .len ≤ length (now (text .exit))) × (r .places ≤ 300) ⌝ }
@@ -287,7 +287,7 @@ fn take_byte(case: Case, byte: u8, text: &mut [u8]) -> Case
     }
 }
 
-// The bytes of a chunk, one after another.
+// Takes the bytes of a chunk, one after another.
 fn take_chunk(before: Case, chunk: &[u8], text: &mut [u8]) -> Case
     requires { ⌜ (before .len ≤ length (now text)) × (before .places ≤ 300) ⌝ }
     ensures { λ r. ⌜ (r .len ≤ length (now (text .exit))) × (r .places ≤ 300) ⌝ }
@@ -301,7 +301,7 @@ fn take_chunk(before: Case, chunk: &[u8], text: &mut [u8]) -> Case
     case
 }
 
-// One read of the input, and how many bytes came.
+// One read of the input; returns how many bytes came.
 fn read_some(input: &mut [u8]) -> usize
     ensures { λ r. ⌜ r ≤ length (now (input .exit)) ⌝ }
 {
@@ -312,7 +312,7 @@ fn read_some(input: &mut [u8]) -> usize
     io::count(got, input)
 }
 
-// Reads chunk after chunk. Nothing says that input ends, so the loop counts down from a number of turns that no run uses up.
+// Reads chunk after chunk. Nothing guarantees that the input ends, so the loop counts down from more turns than any run uses.
 fn take_all(input: &mut [u8], text: &mut [u8]) {
     let mut case = Case {
         open: false,

@@ -1,4 +1,4 @@
--- The next request as the walk of a loop that lends the desk takes it: how many lines are left, what is asked, and the splitter beside them.
+-- The next request, as the walk of a loop that lends the desk takes it: how many lines are left, what is asked, and the splitter.
 -- Assumes nothing.
 use Rattle.text_rules.proofs.splitter.Splitter as Splitter
 use Rattle.text_rules.proofs.splitter.Splitter.Laws as Splitter′

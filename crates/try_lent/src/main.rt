@@ -1,5 +1,5 @@
-// Keeps one desk for a whole text of requests and lends it to each of them: what `answers` and `stamp_answers` write, by the entries that take a desk as `&mut` (02, No. 7).
-// The first byte of the input says which desk, `t` the timestamp desk and any other the lock desk; behind it the text begins.
+// Keeps one desk for a whole text of requests and lends it to each of them: writes what `answers` and `stamp_answers` write, by the entries that take a desk as `&mut` (02, No. 7).
+// The first byte of the input selects the desk: `t` the timestamp desk, any other byte the lock desk. The text begins behind it.
 use conflict::action::Action;
 use desk_arrays::state::Desk;
 use desk_arrays::state::Said;
@@ -24,7 +24,7 @@ ghost use Prim.Native.Nat.{_-_, _≤_};
 ghost use lib.ListN.{length};
 ghost use Rattle.terms.specs.Limits.{requestLines};
 
-// The next request to the desk: how many lines may still be answered, itself among them, and 0 where there is none; what it asks; and its line.
+// The next request: how many lines may still be answered, this one included (0 if there is no request); what it asks; and its line.
 struct Asked {
     left: u64,
     kind: u8,
@@ -33,21 +33,21 @@ struct Asked {
     splitter: Splitter,
 }
 
-// A byte of the input, and whether there is one.
+// A byte of the input, and whether there was one.
 struct Byte {
     byte: u8,
     there: bool,
 }
 
-// The input up to the next newline, and whether one came: where none did, the input has ended or cannot be read.
+// The input up to the next newline, and whether one came; if not, the input has ended or cannot be read.
 struct Heard {
     splitter: Splitter,
     whole: bool,
 }
 
-// The first byte of the input where the timestamp desk is meant.
+// The first byte that selects the timestamp desk.
 const STAMPS: u8 = 116;
-// Every record has fewer bytes.
+// More bytes than any record has.
 const ROOM: usize = 32;
 
 // The next byte of the input, if there is one.
@@ -63,7 +63,7 @@ fn next_byte() -> Byte {
     }
 }
 
-// The line that follows, cut byte by byte. Nothing says that the input ends, so the turns are counted down.
+// The next line, cut byte by byte. Nothing guarantees that the input ends, so the turns are counted down.
 fn hear_line(before: Splitter) -> Heard {
     let mut splitter = before;
     let mut turns = u64::MAX;
@@ -92,7 +92,7 @@ fn hear_line(before: Splitter) -> Heard {
     }
 }
 
-// What stands before a place is written out: whether it was taken.
+// Writes out what stands before this place; tells whether it was taken.
 fn put_out(out: &[u8], at: usize) -> bool
     requires { ⌜ at ≤ length (now out) ⌝ }
 {
@@ -103,7 +103,7 @@ fn put_out(out: &[u8], at: usize) -> bool
     false
 }
 
-// An answer record, and whether it was taken.
+// Writes an answer record; tells whether it was taken.
 fn put_record(line: u64, word: Word, number: u64, fault: u64) -> bool {
     let mut out = [0u8; ROOM];
     match write_answer(&mut out, 0, line, word, number, fault) {
@@ -112,12 +112,12 @@ fn put_record(line: u64, word: Word, number: u64, fault: u64) -> bool {
     }
 }
 
-// A refusal's record, and whether it was taken.
+// Writes a refusal's record; tells whether it was taken.
 fn put_no(line: u64, why: Refusal) -> bool {
     put_record(line, Word::No, number_of(why) as u64, field_of(why) as u64)
 }
 
-// An answer's record, and whether it was taken.
+// Writes an answer's record; tells whether it was taken.
 fn put_answer(line: u64, answer: Answer) -> bool {
     match answer {
         Answer::Go(job) => put_record(line, Word::Go, job as u64, 0),
@@ -127,7 +127,7 @@ fn put_answer(line: u64, answer: Answer) -> bool {
     }
 }
 
-// One record for each wake, so many, and whether all were taken.
+// Writes one record for each of the `count` wakes; tells whether all were taken.
 fn put_wakes(line: u64, wakes: [Action; PLACES], count: usize) -> bool {
     let mut i: usize = 0;
     while i < PLACES {
@@ -143,7 +143,7 @@ fn put_wakes(line: u64, wakes: [Action; PLACES], count: usize) -> bool {
     true
 }
 
-// The records of what the lock desk said, and whether all were taken.
+// Writes the records of what the lock desk said; tells whether all were taken.
 fn put_said(line: u64, said: Said) -> bool {
     let answer = said.answer;
     let wakes = said.wakes;
@@ -153,7 +153,7 @@ fn put_said(line: u64, said: Said) -> bool {
     put_wakes(line, wakes, said.count)
 }
 
-// There is no further request.
+// No further request.
 fn none(splitter: Splitter) -> Asked
     ensures { λ r. ⌜ r .left ≤ 0 ⌝ }
 {
@@ -166,7 +166,7 @@ fn none(splitter: Splitter) -> Asked
     }
 }
 
-// The input has ended: a line under way lacks its newline and is bad, and there is no further request.
+// The input has ended: a line under way has no newline and is bad; there is no further request.
 fn at_end(s: Splitter) -> Asked
     ensures { λ r. ⌜ r .left ≤ 0 ⌝ }
 {
@@ -176,7 +176,7 @@ fn at_end(s: Splitter) -> Asked
     none(s)
 }
 
-// The next good line, with so many lines to be answered still; the bad ones before it are answered here, since the desk is not asked for them.
+// The next good line, with this many lines still to be answered. Bad lines before it are answered here, since the desk is not asked about them.
 fn next_request(before: Splitter, lines: u64) -> Asked
     ensures { λ r. ⌜ r .left ≤ lines ⌝ }
 {
@@ -216,7 +216,7 @@ fn first_request() -> Asked
     next_request(Splitter::started(), REQUEST_LINES)
 }
 
-// The request after one that has been answered, if that was taken and a line may still be answered.
+// The request after an answered one, if its records were taken and a line may still be answered.
 fn request_after(a: Asked, taken: bool) -> Asked
     ensures { λ r. ⌜ r .left ≤ a .left - 1 ⌝ }
 {
@@ -230,7 +230,7 @@ fn request_after(a: Asked, taken: bool) -> Asked
     next_request(splitter, a.left - 1)
 }
 
-// What the lock desk said is written out, and the next request is read.
+// Writes out what the lock desk said, and reads the next request.
 fn after_said(a: Asked, said: Said) -> Asked
     ensures { λ r. ⌜ r .left ≤ a .left - 1 ⌝ }
 {
@@ -239,7 +239,7 @@ fn after_said(a: Asked, said: Said) -> Asked
     request_after(a, taken)
 }
 
-// What the timestamp desk answered is written out, and the next request is read.
+// Writes out what the timestamp desk answered, and reads the next request.
 fn after_answer(a: Asked, answer: Answer) -> Asked
     ensures { λ r. ⌜ r .left ≤ a .left - 1 ⌝ }
 {

@@ -1,4 +1,4 @@
--- What a cut gives a caller who goes through a chunk: the splitter stays sized, and the place moves on.
+-- What a cut gives a caller that goes through a chunk: the splitter keeps its sizes, and the place moves on.
 -- Assumes nothing.
 use Prim.Native.Nat.{ℕ, _-_, _<_}
 use mathlib.Core.Path.{_≡_}

@@ -21,7 +21,7 @@ ghost use Prim.Native.Nat.{_≤_};
 ghost use lib.ListN.{length};
 ghost use Rattle.text_rules.specs.Split.{Sized};
 
-// The records of one line have fewer bytes than this, whatever its number.
+// The records of one line take fewer bytes than this, whatever its number.
 const ROOM: usize = 128;
 
 // The line under way, and the place in the output after the last record.
@@ -30,7 +30,7 @@ struct Progress {
     at: usize,
 }
 
-// An answer record, where there is one, and the place after it. A record that does not fit is left out.
+// Writes an answer record, if there is one; returns the place after it. A record that does not fit is left out.
 fn answer(
     out: &mut [u8],
     at: usize,
@@ -52,7 +52,7 @@ fn answer(
     }
 }
 
-// The record of a line that a reader calls bad: refusal 9 and the field at fault.
+// Writes the record of a line that a reader calls bad: refusal 9 and the field at fault.
 fn bad(out: &mut [u8], at: usize, line: u64, word: Word, field: Field) -> usize
     requires { ⌜ at ≤ length (now out) ⌝ }
     ensures { λ r. ⌜ r ≤ length (now (out .exit)) ⌝ }
@@ -62,7 +62,7 @@ fn bad(out: &mut [u8], at: usize, line: u64, word: Word, field: Field) -> usize
     answer(out, at, true, line, word, number, fault)
 }
 
-// The records of a good request line: its letter's byte, then the job and the cell that it has.
+// Writes the records of a good request line: its letter's byte, then its job and its cell, if it has them.
 fn good_request(out: &mut [u8], at: usize, line: u64, letter: Letter, job: u32, cell: u32) -> usize
     requires { ⌜ at ≤ length (now out) ⌝ }
     ensures { λ r. ⌜ r ≤ length (now (out .exit)) ⌝ }
@@ -73,7 +73,7 @@ fn good_request(out: &mut [u8], at: usize, line: u64, letter: Letter, job: u32, 
     answer(out, b, has_cell(letter), line, Word::Back, cell as u64, 0)
 }
 
-// What the reader of requests says of a line.
+// Writes what the reader of requests says of a line.
 fn request(out: &mut [u8], at: usize, line: u64, bytes: &[u8]) -> usize
     requires { ⌜ at ≤ length (now out) ⌝ }
     ensures { λ r. ⌜ r ≤ length (now (out .exit)) ⌝ }
@@ -84,7 +84,7 @@ fn request(out: &mut [u8], at: usize, line: u64, bytes: &[u8]) -> usize
     }
 }
 
-// A good line of a history, as a history record.
+// Writes a good history line as a history record.
 fn good_history(out: &mut [u8], at: usize, letter: Letter, job: u32, cell: u32) -> usize
     requires { ⌜ at ≤ length (now out) ⌝ }
     ensures { λ r. ⌜ r ≤ length (now (out .exit)) ⌝ }
@@ -95,7 +95,7 @@ fn good_history(out: &mut [u8], at: usize, letter: Letter, job: u32, cell: u32) 
     }
 }
 
-// What the reader of histories says of a line.
+// Writes what the reader of histories says of a line.
 fn history(out: &mut [u8], at: usize, line: u64, bytes: &[u8]) -> usize
     requires { ⌜ at ≤ length (now out) ⌝ }
     ensures { λ r. ⌜ r ≤ length (now (out .exit)) ⌝ }
@@ -106,7 +106,7 @@ fn history(out: &mut [u8], at: usize, line: u64, bytes: &[u8]) -> usize
     }
 }
 
-// Writes out what stands before a place.
+// Writes out what stands before this place.
 fn flush(out: &[u8], at: usize)
     requires { ⌜ at ≤ length (now out) ⌝ }
 {
@@ -115,7 +115,7 @@ fn flush(out: &[u8], at: usize)
     }
 }
 
-// One read of the input, and how many bytes came.
+// One read of the input; returns how many bytes came.
 fn read_some(input: &mut [u8]) -> usize
     ensures { λ r. ⌜ r ≤ length (now (input .exit)) ⌝ }
 {
@@ -126,7 +126,7 @@ fn read_some(input: &mut [u8]) -> usize
     io::count(got, input)
 }
 
-// A place from which a line's records fit: the place given, or the first once all before it is written out.
+// A place from which a line's records fit: the place given, or 0 after all before it is written out.
 fn with_room(out: &[u8], at: usize) -> usize
     requires { ⌜ at ≤ length (now out) ⌝ }
     ensures { λ r. ⌜ r ≤ length (now (out .entry)) ⌝ }
@@ -138,7 +138,7 @@ fn with_room(out: &[u8], at: usize) -> usize
     at
 }
 
-// The records of the line that is in the splitter.
+// Writes the records of the line in the splitter.
 fn report(s: Splitter, out: &mut [u8], at: usize) -> usize
     requires { ⌜ (Sized s) × (at ≤ length (now out)) ⌝ }
     ensures { λ r. ⌜ r ≤ length (now (out .exit)) ⌝ }
@@ -151,7 +151,7 @@ fn report(s: Splitter, out: &mut [u8], at: usize) -> usize
     history(out, next, s.line, bytes)
 }
 
-// The records of the lines that end in a chunk. Every cut is looked at once.
+// Writes the records of the lines that end in a chunk. Every cut is looked at once.
 fn report_chunk(before: Progress, chunk: &[u8], out: &mut [u8]) -> Progress
     requires { ⌜ (Sized (before .splitter)) × (before .at ≤ length (now out)) ⌝ }
     ensures { λ r. ⌜ (Sized (r .splitter)) × (r .at ≤ length (now (out .exit))) ⌝ }
@@ -170,7 +170,7 @@ fn report_chunk(before: Progress, chunk: &[u8], out: &mut [u8]) -> Progress
     Progress { splitter, at }
 }
 
-// The record of a last line that lacks its newline, and all that is not yet written out.
+// Writes the record of a last line without its newline, and writes out the rest.
 fn finish(last: Progress, out: &mut [u8])
     requires { ⌜ (Sized (last .splitter)) × (last .at ≤ length (now out)) ⌝ }
 {
@@ -182,7 +182,7 @@ fn finish(last: Progress, out: &mut [u8])
     flush(out, at);
 }
 
-// Reads chunk after chunk. Nothing says that input ends, so the loop counts down from a number of turns that no run uses up.
+// Reads chunk after chunk. Nothing guarantees that the input ends, so the loop counts down from more turns than any run uses.
 fn report_all(input: &mut [u8], out: &mut [u8]) {
     let mut progress = Progress {
         splitter: Splitter::started(),

@@ -1,4 +1,4 @@
--- `time_desk::lend_stamps` is safe and ends: it is the loop of `lent/proofs/AllNight.antt`, at the timestamp desk.
+-- `time_desk::lend_stamps` is safe and ends: it is the loop of `lent/proofs/AllNight.antt`, for the timestamp desk.
 -- Assumes nothing.
 use mathlib.Core.Path.{_≡_}
 use Prim.Native.Nat.{_<_}

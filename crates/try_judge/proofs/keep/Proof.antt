@@ -1,4 +1,4 @@
--- `try_judge::keep` is safe, and what is kept lies within the buffer: a byte put in leaves its length.
+-- `try_judge::keep` is safe, and the kept bytes lie within the buffer: putting in a byte keeps its length.
 -- Assumes nothing.
 use native.Mathlib.Omega.{arith}
 use borrow.Author.Needs.{needs}

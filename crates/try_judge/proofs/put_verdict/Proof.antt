@@ -1,4 +1,4 @@
--- `try_judge::put_verdict` is safe: the place that the reporter tells lies within the buffer.
+-- `try_judge::put_verdict` is safe: the place that `write_verdict` tells lies within the buffer.
 -- Assumes nothing.
 use mathlib.Core.Path.{sym, _∙_}
 use native.Mathlib.Omega.{arith}

@@ -1,4 +1,4 @@
--- `try_lent::serve_locks` is safe and ends: it is the loop of `lent/proofs/AllNight.antt`, at the lock desk.
+-- `try_lent::serve_locks` is safe and ends: it is the loop of `lent/proofs/AllNight.antt`, for the lock desk.
 -- Assumes nothing.
 use mathlib.Core.Path.{_≡_}
 use Prim.Native.Nat.{_≤_}

@@ -1,4 +1,4 @@
--- `try_text::answer` is safe and its place lies within the buffer: the record writer tells no other.
+-- `try_text::answer` is safe, and its place lies within the buffer, as the record writer's does.
 -- Assumes nothing.
 use native.Mathlib.Omega.{arith}
 use borrow.Author.Needs.{needs}

@@ -1,4 +1,4 @@
--- `try_text::report_all` is safe and ends. The loop's invariant: the splitter is sized, the place lies within the output, and both buffers keep their lengths.
+-- `try_text::report_all` is safe and ends. The loop's invariant: the splitter keeps its sizes, the place lies within the output, and both buffers keep their lengths.
 -- The measure is the number of turns that are left. Assumes nothing.
 use Prim.Native.Nat.{_≤_}
 use mathlib.Core.Path.{_≡_, refl, ap}

@@ -1,4 +1,4 @@
--- `try_text::report_chunk` is safe and ends. The loop's invariant: the splitter is sized, and the place lies within a buffer of the same length.
+-- `try_text::report_chunk` is safe and ends. The loop's invariant: the splitter keeps its sizes, and the place lies within a buffer of the same length.
 -- The measure is what is left of the chunk. Assumes nothing.
 use Prim.Native.Nat.{_-_, _≤_}
 use mathlib.Core.Path.{_≡_}

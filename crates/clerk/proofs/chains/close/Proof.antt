@@ -1,4 +1,4 @@
--- `clerk::chains::close` meets its contract: where there is room, what the view writes last is written.
+-- `clerk::chains::close` meets its contract: if there is room, what the view writes last is written.
 -- Assumes nothing.
 use Prim.Native.Nat.{_+_, _≤_}
 use mathlib.Core.Path.{_≡_, subst}

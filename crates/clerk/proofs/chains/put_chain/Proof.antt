@@ -1,4 +1,4 @@
--- `clerk::chains::put_chain` meets its contract. The loop's invariant: behind whatever stood in front of the first job, the jobs passed stand on the line, a tab between.
+-- `clerk::chains::put_chain` meets its contract. The loop's invariant: the jobs passed stand on the line, with tabs between, behind whatever stood before the first job.
 -- The measure is what is left of the jobs. Assumes nothing.
 use Prim.Native.Nat.{ℕ, _-_}
 use mathlib.Core.List.{List}

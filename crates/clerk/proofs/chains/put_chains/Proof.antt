@@ -1,4 +1,4 @@
--- `clerk::chains::put_chains` meets its contract. The loop's invariant: with what is left from here, the chains written so far are all.
+-- `clerk::chains::put_chains` meets its contract. The loop's invariant: the chains written so far and those left from here are all.
 -- The measure is what is left of the 32 places. Assumes nothing.
 use Prim.Native.Nat.{_-_}
 use mathlib.Core.Path.{_≡_}

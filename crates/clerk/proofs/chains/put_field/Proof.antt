@@ -1,4 +1,4 @@
--- `clerk::chains::put_field` meets its contract: the tab and the job are short enough for the room that there is.
+-- `clerk::chains::put_field` meets its contract: the tab and the job fit.
 -- Assumes nothing.
 use borrow.Author.Needs.{needs}
 use native.Mathlib.Omega.{arith}

@@ -1,4 +1,4 @@
--- `clerk::chains::put_number` meets its contract: the job is short enough for the room that there is.
+-- `clerk::chains::put_number` meets its contract: the job fits.
 -- Assumes nothing.
 use borrow.Author.Needs.{needs}
 use native.Mathlib.Omega.{arith}

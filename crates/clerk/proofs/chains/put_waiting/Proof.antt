@@ -1,4 +1,4 @@
--- `clerk::chains::put_waiting` meets its contract: the lock desk's chains, and of the timestamp desk none.
+-- `clerk::chains::put_waiting` meets its contract: the lock desk's chains, and none for the timestamp desk.
 -- Assumes nothing.
 use native.Mathlib.Omega.{arith}
 use borrow.Author.Needs.{needs}

@@ -1,4 +1,4 @@
--- `clerk::records::field_beside` meets its contract: the field of a bad line, and else none.
+-- `clerk::records::field_beside` meets its contract: the field of a bad line, else none.
 -- Assumes nothing.
 use Rattle.desks.specs.AnswerWords.{fieldBeside}
 use mathlib.Core.Path.{sym, ap, _∙_}

@@ -1,4 +1,4 @@
--- `clerk::records::put_answer` meets its contract: the record is short enough for the room that there is.
+-- `clerk::records::put_answer` meets its contract: the record fits.
 -- Assumes nothing.
 use borrow.Author.Needs.{needs}
 use Rattle.text_rules.proofs.Length.{answer-at-most-24}

@@ -1,4 +1,4 @@
--- `clerk::records::put_line` meets its contract: the record is short enough for the room that there is.
+-- `clerk::records::put_line` meets its contract: the record fits.
 -- Assumes nothing.
 use borrow.Author.Needs.{needs}
 use Rattle.text_rules.specs.Records.{longestRecord}

@@ -1,4 +1,4 @@
--- `clerk::records::put_records` meets its contract: the first record, and the wakes' behind it.
+-- `clerk::records::put_records` meets its contract: the first record, then those of the wakes.
 -- Assumes nothing.
 use borrow.Author.Needs.{needs}
 use mathlib.Core.List.{map}

@@ -1,4 +1,4 @@
--- `clerk::records::put_wakes` meets its contract. The loop's invariant: the records of the wakes passed stand in the buffer, of at most 24 bytes each.
+-- `clerk::records::put_wakes` meets its contract. The loop's invariant: the records of the wakes passed stand in the buffer, at most 24 bytes each.
 -- The measure is what is left of the 32 places. Assumes nothing.
 use borrow.Author.Needs.{needs}
 use Prim.Native.Nat.{_≤_, _-_, _*_}

@@ -1,4 +1,4 @@
--- `clerk::work::answer_line` meets its contract: a good line is answered by the step of the desk that the method says, and a bad one by refusal 9.
+-- `clerk::work::answer_line` meets its contract: a good line is answered by the step of the method's desk, a bad one by refusal 9.
 -- Assumes nothing.
 use borrow.Author.Needs.{needs}
 use Rattle.text_rules.proofs.WroteLaws.{wrote-length}

@@ -1,4 +1,4 @@
--- `clerk::work::finish` meets its contract: the two tests decide as the definition does.
+-- `clerk::work::finish` meets its contract: the same two tests decide as in the definition.
 -- Assumes nothing.
 use Prim.Native.Nat.{_+_}
 use mathlib.Core.Path.{_≡_}

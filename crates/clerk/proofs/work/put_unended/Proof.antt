@@ -1,4 +1,4 @@
--- `clerk::work::put_unended` meets its contract: the bad line's record, with the field that the line's bytes tell.
+-- `clerk::work::put_unended` meets its contract: the bad line's record, with the field that its bytes give.
 -- Assumes nothing.
 use Rattle.text_rules.proofs.WroteLaws.{wrote-as}
 use Rattle.clerk.proofs.Cases.{unended-told}

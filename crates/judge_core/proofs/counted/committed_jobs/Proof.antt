@@ -1,4 +1,4 @@
--- `judge_core::counted::committed_jobs` meets its contract. The loop's invariant: the table says who has a c among the lines passed, and their jobs are bytes.
+-- `judge_core::counted::committed_jobs` meets its contract. The loop's invariant: the table says which jobs have a c among the lines passed, and their jobs are bytes.
 -- The measure is how many lines are left. Assumes nothing.
 use Prim.Native.Nat.{ℕ, _-_, _≤_, _<_}
 use mathlib.Core.Path.{_≡_, _∙_}

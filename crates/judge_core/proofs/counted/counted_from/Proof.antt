@@ -1,4 +1,4 @@
--- `judge_core::counted::counted_from` meets its contract. The loop's invariant: the table says from where on each job's actions count by the lines passed.
+-- `judge_core::counted::counted_from` meets its contract. The loop's invariant: the table says from where on each job's actions count, by the lines passed.
 -- The measure is how many lines are left. Assumes nothing.
 use Prim.Native.Nat.{_-_, _≤_}
 use mathlib.Core.Path.{_≡_, _∙_}

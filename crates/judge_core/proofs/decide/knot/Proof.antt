@@ -1,4 +1,4 @@
--- `judge_core::decide::knot` meets its contract: the cycle that the walk ends in is put in from its smallest job on.
+-- `judge_core::decide::knot` meets its contract: the cycle at the end of the walk is put in, starting at its smallest job.
 -- Assumes nothing.
 use borrow.Author.Needs.{needs}
 use Rattle.judge_core.proofs.Said.{knot-room, knot-said, knot-put}

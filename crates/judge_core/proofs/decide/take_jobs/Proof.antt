@@ -1,4 +1,4 @@
--- `judge_core::decide::take_jobs` meets its contract: the passes lead to the edges by the lines, which say of the jobs with a c what the precedence graph says.
+-- `judge_core::decide::take_jobs` meets its contract: the passes give the edges by the lines, which say of the jobs with a c what the precedence graph says.
 -- Assumes nothing.
 use mathlib.Core.Path.{ap, _∙_}
 use borrow.Author.Needs.{needs}

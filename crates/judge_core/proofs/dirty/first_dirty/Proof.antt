@@ -1,4 +1,4 @@
--- `judge_core::dirty::first_dirty` meets its contract: the ends of runs, the first line that is a dirty read by them, and the last line that makes it so.
+-- `judge_core::dirty::first_dirty` meets its contract: the run ends, the first line that is a dirty read by them, and the last line that makes it dirty.
 -- Assumes nothing.
 use borrow.Author.Needs.{needs}
 use Rattle.judge_core.proofs.DirtyFirst.{none-dirty, first-dirty}

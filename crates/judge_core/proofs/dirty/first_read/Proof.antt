@@ -1,4 +1,4 @@
--- `judge_core::dirty::first_read` meets its contract. The loop's invariant: no line passed is a dirty read, and the table has the latest ends of the runs that have changed each cell.
+-- `judge_core::dirty::first_read` meets its contract. The loop's invariant: no line passed is a dirty read, and the table has for each cell the latest end of the runs that changed it.
 -- The measure is how many lines are left. Assumes nothing.
 use Prim.Native.Nat.{ℕ, _-_, _≤_, _<_}
 use mathlib.Core.Path.{_≡_, sym, _∙_}

@@ -1,4 +1,4 @@
--- `judge_core::dirty::last_write` meets its contract. The loop's invariant: no line that is passed makes a read on line p dirty.
+-- `judge_core::dirty::last_write` meets its contract. The loop's invariant: no line passed makes a read on line p dirty.
 -- The measure is how many lines are left. Assumes nothing.
 use Prim.Native.Nat.{_≤_}
 use mathlib.Core.Path.{sym, _∙_}

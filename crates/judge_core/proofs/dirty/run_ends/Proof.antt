@@ -1,4 +1,4 @@
--- `judge_core::dirty::run_ends` meets its contract. The loop's invariant: the ends of the lines passed are there, and of each job's run the end as seen from here.
+-- `judge_core::dirty::run_ends` meets its contract. The loop's invariant: the ends for the lines passed, and for each job the end of its run as seen from here.
 -- The measure is how many lines are left. Assumes nothing.
 use Prim.Native.Nat.{_-_, _≤_}
 use mathlib.Core.Path.{_≡_, refl}

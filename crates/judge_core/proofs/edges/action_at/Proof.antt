@@ -1,4 +1,4 @@
--- `judge_core::edges::action_at` meets its contract: the action is made of what stands on the line.
+-- `judge_core::edges::action_at` meets its contract: the action is built from the line's three numbers.
 -- Assumes nothing.
 use borrow.Author.Needs.{needs}
 use Rattle.judge_core.proofs.Acting.{action-made}

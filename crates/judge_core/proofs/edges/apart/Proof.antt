@@ -1,4 +1,4 @@
--- `judge_core::edges::apart` meets its contract: one list is empty, or the last of the one is looked at beside the first of the other.
+-- `judge_core::edges::apart` meets its contract: one list is empty, or the last line of one is compared with the first of the other.
 -- Assumes nothing.
 use native.Mathlib.Omega.{arith}
 use borrow.Author.Needs.{needs}

@@ -1,4 +1,4 @@
--- `judge_core::edges::edge_between` meets its contract, by the definition's own test, and where the sets do not meet.
+-- `judge_core::edges::edge_between` meets its contract: by the definition's own test, or because the sets do not meet.
 -- Assumes nothing.
 use borrow.Author.Needs.{needs}
 use Rattle.judge_core.proofs.ByParts.{edge-self, edge-parts, masked-apart, its-reach, its-mask}

@@ -1,4 +1,4 @@
--- `judge_core::edges::may_meet` meets its contract: the last line on the cell is looked at, and then the cell is looked for in the set.
+-- `judge_core::edges::may_meet` meets its contract: the last line on the cell is tested, then whether the set has the cell.
 -- Assumes nothing.
 use native.Mathlib.Omega.{arith}
 use borrow.Author.Needs.{needs}

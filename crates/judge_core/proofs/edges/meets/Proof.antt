@@ -1,5 +1,5 @@
--- `judge_core::edges::meets` meets its contract. The outer loop's invariant: the lines left decide as all do. The inner loop's: no last line of a kind passed is met.
--- The measures are how many of each are left. Assumes nothing.
+-- `judge_core::edges::meets` meets its contract. The outer loop's invariant: the lines left decide as all do. The inner loop's: no last line of a kind passed conflicts.
+-- The measures: the lines left, and the kinds left. Assumes nothing.
 use Prim.Native.Nat.{ℕ, _-_, _≤_, _<_}
 use mathlib.Core.Path.{_≡_, refl, _∙_}
 use mathlib.Core.Bool.{false}

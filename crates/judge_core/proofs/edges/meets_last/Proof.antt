@@ -1,4 +1,4 @@
--- `judge_core::edges::meets_last` meets its contract: the last line is looked at, and then the conflict.
+-- `judge_core::edges::meets_last` meets its contract: the last line is tested, then the conflict.
 -- Assumes nothing.
 use mathlib.Core.Path.{refl}
 use native.Mathlib.Omega.{arith}

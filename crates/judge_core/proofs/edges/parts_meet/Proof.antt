@@ -1,4 +1,4 @@
--- `judge_core::edges::parts_meet` meets its contract. The parts lie within the lines, since the lines are grouped.
+-- `judge_core::edges::parts_meet` meets its contract. The parts lie within the lines because the lines are grouped.
 -- Assumes nothing.
 use native.Mathlib.Omega.{arith}
 use borrow.Author.Needs.{needs}

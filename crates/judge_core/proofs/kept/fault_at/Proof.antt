@@ -1,4 +1,4 @@
--- `judge_core::kept::fault_at` meets its contract: 12, then 2, then 13, by the tests of the definition.
+-- `judge_core::kept::fault_at` meets its contract: 12, then 2, then 13, by the definition's own tests.
 -- Assumes nothing.
 use borrow.Author.Needs.{needs}
 use Rattle.judge_core.proofs.KeptFaults.{fault-outside, fault-above, fault-ended, fault-none}

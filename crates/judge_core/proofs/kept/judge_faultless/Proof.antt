@@ -1,4 +1,4 @@
--- `judge_core::kept::judge_faultless` meets its contract: the first dirty read, or else what is decided.
+-- `judge_core::kept::judge_faultless` meets its contract: the first dirty read, else the decision.
 -- Assumes nothing.
 use borrow.Author.Needs.{needs}
 use Rattle.judge_core.proofs.DirtySaid.{clean-said, dirty-said}

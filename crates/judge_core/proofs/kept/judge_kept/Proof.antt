@@ -1,4 +1,4 @@
--- `judge_core::kept::judge_kept` meets its contract: a short buffer, the first faulty line, or lines that are decided.
+-- `judge_core::kept::judge_kept` meets its contract: a short buffer, the first faulty line, or faultless lines, which are decided.
 -- Assumes nothing.
 use mathlib.Core.Path.{sym, _∙_}
 use native.Mathlib.Omega.{arith}

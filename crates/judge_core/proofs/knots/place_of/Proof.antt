@@ -1,4 +1,4 @@
--- `judge_core::knots::place_of` meets its contract. The loop's invariant: the place looked for is where it is from p on.
+-- `judge_core::knots::place_of` meets its contract. The loop's invariant: the search from p on finds the same place.
 -- The measure is how many places are left. Assumes nothing.
 use Prim.Native.Nat.{_+_, _-_, _≤_}
 use mathlib.Core.Path.{_≡_, refl, _∙_}

@@ -1,4 +1,4 @@
--- `judge_core::knots::walk_back` meets its contract. The loop's invariant: the jobs that the walk came by stand on the trail, and it goes on as from the start.
+-- `judge_core::knots::walk_back` meets its contract. The loop's invariant: the jobs walked so far stand on the trail, and the rest of the walk is that from the start.
 -- The measure is how many places of the trail are left. Assumes nothing.
 use native.Mathlib.Omega.{arith}
 use Rattle.judge_core.proofs.Trail.{Walked, walked-none, walked-round, walked-more, walked-off, walked-out}

@@ -1,4 +1,4 @@
--- `judge_core::order::predecessor_from` meets its contract. The loop's invariant: the smallest predecessor is the smallest of the jobs from i on.
+-- `judge_core::order::predecessor_from` meets its contract. The loop's invariant: the search from i on finds the same predecessor.
 -- The measure is how many jobs are left. Assumes nothing.
 use Prim.Native.Nat.{_-_}
 use mathlib.Core.Path.{_≡_, refl, sym, _∙_}

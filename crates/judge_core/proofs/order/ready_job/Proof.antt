@@ -1,4 +1,4 @@
--- `judge_core::order::ready_job` meets its contract. The loop's invariant: of the jobs before j none is ready, and their smallest predecessors are known.
+-- `judge_core::order::ready_job` meets its contract. The loop's invariant: no job before j is ready, and the smallest predecessors of those jobs are known.
 -- The measure is how many jobs are left. Assumes nothing.
 use Prim.Native.Nat.{_-_}
 use mathlib.Core.Logic.{⊎-elim}

@@ -1,4 +1,4 @@
--- `judge_core::order::smallest_left` meets its contract. The loop's invariant: the smallest job that is left is the smallest of those from j on.
+-- `judge_core::order::smallest_left` meets its contract. The loop's invariant: the search from j on finds the same job.
 -- The measure is how many jobs are left. Assumes nothing.
 use Prim.Native.Nat.{_-_, _≤_}
 use mathlib.Core.Path.{_≡_, refl}

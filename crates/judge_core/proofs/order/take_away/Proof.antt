@@ -1,4 +1,4 @@
--- `judge_core::order::take_away` meets its contract. The loop's invariant: the jobs taken stand in order, those to come are the order's rest, and the predecessors are of the jobs left.
+-- `judge_core::order::take_away` meets its contract. The loop's invariant: the jobs taken stand in order, those to come are the rest of the order, and the predecessors are those of the remaining jobs.
 -- The measure is how many jobs are left. Assumes nothing.
 use mathlib.Core.Path.{_≡_}
 use mathlib.Core.Bool.{false}
