@@ -1,4 +1,4 @@
--- ONE DESK, LENT ALL NIGHT: calls that each leave and tell what the step does come to what the steps come to. If that desk follows another, every invariant of the other's started desks holds after the calls.
+-- ONE DESK, LENT ALL NIGHT: calls that each leave and tell what the step does have the result of the steps. If that desk follows another, every invariant of the other's started desks holds after the calls.
 -- Assumes nothing.
 use Prim.Native.Nat.{ℕ}
 use mathlib.Core.Path.{_≡_, refl, sym, ap, ap₂, subst₂, _∙_}

@@ -34,7 +34,7 @@ unfoldable pub stepsOf : {S : Type 0} → Stepping S → S → List Request → 
 stepsOf step d [] = []
 stepsOf step d (r ∷ rs) = step d r ∷ stepsOf step (step d r .desk) rs
 
--- the calls come to what the steps come to, for the same requests: each call leaves, answers and wakes the same, and so desk, answers and history are the same
+-- the calls have the result of the steps, for the same requests: each call leaves, answers and wakes the same, and so desk, answers and history are the same
 pub record AsSteps {S : Type 0} (step : Stepping S) (d : S) (rs : List Request) (os : List (Stepped S)) : Type 0 where
   pub each : os ≡ stepsOf step d rs
   pub desk : leftBy d os ≡ through step d rs
