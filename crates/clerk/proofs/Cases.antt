@@ -112,7 +112,7 @@ pub last-chains : (view : View) (c : Clerk) → view ≡ Chains → chainsBy (c 
 unfolding closing
 last-chains view c e = rw e
 
--- on the lock desk those of the ones who wait there
+-- on the lock desk, those of the jobs waiting there
 pub waiting-locks : (d : Desks) → d .method ≡ Locks → chainText (chainsOn (d .locks)) ≡ chainsBy (d .method) d
 unfolding chainsBy
 waiting-locks d e = ap (λ m. chainsBy m d) (sym e)

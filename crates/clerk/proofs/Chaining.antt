@@ -56,7 +56,7 @@ unfolding chainText chainAnd
 none-and [] rest h = refl
 none-and (j ∷ js) rest h = absurd (omega arith)
 
--- so many chains have been written: with what is left from here they are all
+-- the chains written so far and those left from here are all
 pub record ChainsPut (d : Desk) (at next last i : ℕ) (before after : List ℕ) : Type 0 where
   pub turns : ℕ
   pub count : i + turns ≡ places
@@ -113,7 +113,7 @@ module _ {d : Desk} {at next last i n : ℕ} {b m list : List ℕ} (before : Lis
       subst (λ k. ChainsPut d at to k (i + 1) b p) (sym (chain-head (nextChain d last) before f s))
       (chained-next c h s (chain-few d last size) (subst (λ js. Added (jobRoom * length js) next to (jobsLine js) m p) (chain-there (nextChain d last) before e f) a))
 
--- where nobody is left who waits, they are all
+-- if no waiting job is left, they are all
 pub chained-over : {d : Desk} {at next last i : ℕ} {b m : List ℕ} → ChainsPut d at next last i b m → length (nextChain d last) ≤ 0 → Wrote at next (chainText (chainsOn d)) b m
 chained-over {d} {last = last} c h = wrote-as (c .wrote) (sym (append-nil (c .bytes)) ∙ ap (λ l. c .bytes ++ l) (sym (none-left (c .turns))) ∙ c .same)
   where

@@ -19,7 +19,7 @@ use Rattle.clerk.specs.Parts.{Added}
 pub job-digits : (n : ℕ) → n ≤ lastNumber → length (decimal n) ≤ 10
 job-digits n h = digits-at-most 9 n (omega arith)
 
--- so many jobs of a chain have been written: they have at most eleven bytes each, but for the newline that is to come
+-- the jobs of a chain written so far: at most eleven bytes each, apart from the newline to come
 pub record Listed (jobs : List ℕ) (at next i : ℕ) (before after : List ℕ) : Type 0 where
   pub some : 0 < i
   pub within : i ≤ length jobs

@@ -29,7 +29,7 @@ use Rattle.laws.proofs.Filled.{filled-first, filled-length, filled-more, filled
 use Rattle.desk.proofs.Grants.{Picked, front, fronts, mayGrant, grant-grants, stands-empty, none-granted, who-granted, granted-place, settle-more, settle-stop}
 use Rattle.desk.proofs.Room.{room, NoNewWaiter, cell-grows, all-room, all-waiting, wake-fits}
 
--- the state that arrays hold, with the first so many of a list as the places woken
+-- the state that arrays hold, with the first `count` entries of a list as the places woken
 abbrev pub holds : List ℕ → List ℕ → List ℕ → ℕ → Settling
 holds held status woken count = record { held = held; status = status; woken = take count woken }
 
@@ -50,7 +50,7 @@ pub reached-as : {s t : Settling} {l held status woken : List ℕ} {count : ℕ}
 reached-as {l = l} {held} {status} {woken} {count} r e = subst (λ x. Reached x l held status woken count) e r
 
 module _ (number cell ask : List ℕ) (c : ℕ) (s₀ : Settling) (inside : c < cells) where
-  -- so many grants have been made
+  -- the state after n grants
   abbrev at-turn : ℕ → Settling
   at-turn n = settleCell number cell ask c n s₀
 
@@ -64,7 +64,7 @@ module _ (number cell ask : List ℕ) (c : ℕ) (s₀ : Settling) (inside : c < 
     cell-stops h b = reached-as r (settle-stop number cell ask c s₀ n places (none-granted number cell ask c (at-turn n) inside found-there h) b)
 
     module _ {p : ℕ} {m : Mode} (granting : g ≡ To p m) where
-      -- who is granted has a place
+      -- the granted place is one of the 32
       pub turn-place : p < places
       turn-place = granted-place number cell ask c (at-turn n) inside found-there granting
 
@@ -93,7 +93,7 @@ module _ (number cell ask : List ℕ) (c : ℕ) (s₀ : Settling) (inside : c < 
             many = rw (r .many) (omega (arith, length-append (x .woken) (front number cell ask c x ∷ [])));
           }
 
--- who waits for a cell where nobody new waits, waited for it before
+-- if nobody new waits, a waiter of a cell waited for it before
 still-waits : (t s : Settling) (cell : List ℕ) (c q : ℕ) → NoNewWaiter t s → waitsAt (t .status) cell c q ≡ true → waitsAt (s .status) cell c q ≡ true
 unfolding waitsAt
 still-waits t s cell c q n h = let e = waits-code (t .status) cell c q h in rw (n q e) (rw e at h)

@@ -37,7 +37,7 @@ picked-to true h = record { is-so = refl; place = cc; mode = cc }
 picked-to false h = let z : _≡_ {A = ℕ} 0 1 = cc in absurd (omega arith)
 
 module _ (number cell ask : List ℕ) (c : ℕ) where
-  -- who is in front of the queue
+  -- the front of the queue
   abbrev pub front : Settling → ℕ
   front s = youngest number (s .status) cell c places
 
@@ -73,11 +73,11 @@ module _ (number cell ask : List ℕ) (c : ℕ) where
     pub none-granted : g ≡ Nobody → grantFront number cell ask c s ≡ s
     none-granted h = grant-stands s (picked-nobody (mayGrant s) _ _ (sym found-by ∙ h))
 
-    -- who is granted is the front, with what it asks for
+    -- the place granted is the front, with what it asks for
     pub who-granted : {p : ℕ} {m : Mode} → g ≡ To p m → Picked (mayGrant s) (front s) (fronts s) p m
     who-granted h = picked-to (mayGrant s) (sym found-by ∙ h)
 
-    -- who is granted has a place
+    -- the granted place is one of the 32
     pub granted-place : {p : ℕ} {m : Mode} → g ≡ To p m → p < places
     granted-place h =
         let w = who-granted h in

@@ -28,11 +28,11 @@ waiting-inside status p h =
 waiters-less : (status : List ℕ) (p : ℕ) → p < places → getD status p 0 ≡ waitingCode → suc (waiters (set status p runningCode) places) ≡ waiters status places
 waiters-less status p l e = waiters-woken status p runningCode (waiting-inside status p e) e (λ q. omega arith) places l
 
--- the wakes so far and those who wait
+-- the wakes so far and the waiters
 abbrev pub room : Settling → ℕ
 room s = length (s .woken) + waiters (s .status) places
 
--- nobody waits in the first who did not in the second
+-- nobody waits in the first that did not in the second
 abbrev pub NoNewWaiter : Settling → Settling → Type 0
 NoNewWaiter t s = (q : ℕ) → getD (t .status) q 0 ≡ waitingCode → getD (s .status) q 0 ≡ waitingCode
 
@@ -55,7 +55,7 @@ module _ (cell : List ℕ) (s : Settling) (c : ℕ) where
   grows-kept q a t l w h = omega (arith, length-append (t .woken) (q ∷ []))
 
 module _ (number cell ask : List ℕ) (s : Settling) where
-  -- so many grants keep the room
+  -- any number of grants keep the room
   pub cell-room : (c n : ℕ) → room (settleCell number cell ask c n s) ≡ room s
   cell-room c n = cell-keeps number cell ask (λ t. room t ≡ room s) c (room-kept cell s c) n s refl
 

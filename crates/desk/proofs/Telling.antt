@@ -19,7 +19,7 @@ use Rattle.desk_arrays.specs.Steps.{noAction, wakeAt, listed, saying, performed
 use Rattle.desk.specs.InPlace.{wokenBy, StepsTo}
 use Rattle.desk.proofs.Woken.{first-woken}
 
--- a place that there is not says nothing
+-- an index that is no place says nothing
 pub nowhere-says : (number cell ask : List ℕ) (p : ℕ) {k : Kind} → length number ≡ places → length cell ≡ places → length ask ≡ places → places ≤ p → k ≡ recorded (askOf 0) →
     _≡_ {A = Action} (record { kind = k; job = 0; cell = 0 }) (wakeAt number cell ask p)
 unfolding wakeAt

@@ -13,7 +13,7 @@ use Rattle.desk_arrays.specs.Stands.{wakesTold}
 use Rattle.desk.specs.InPlace.{wokenBy, StepsTo}
 
 module _ (d : Desk) (kind job c : ℕ) where
-  -- so many are told as places are woken
+  -- as many wakes are told as places are woken
   pub count-of : stepOf d kind job c .said .count ≡ length (wokenBy d kind job c)
   unfolding stepOf performed saying wokenBy
   count-of = refl

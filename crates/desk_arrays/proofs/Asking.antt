@@ -45,7 +45,7 @@ module _ {d : Desk} {q : ℕ → List Waiter} (plain : Plain d) (v : Inv (paperO
   all-closed : FreeHas closed (d .number) (statusAt (d .status) (d .cell) (d .ask))
   all-closed = free-closed (d .number) (plain .numbers) (d .status) (d .cell) (d .ask) (plain .free-status)
 
-  -- the cell's queue is who waits for it
+  -- the cell's queue is its waiters
   line : QueueOf (byNumber closed (d .number) (statusAt (d .status) (d .cell) (d .ask))) c (q c)
   unfolding statusBy
   line = record { falls = v .rows c .down; stands = v .rows c .stands; queued = λ i k. v .queues i c k }

@@ -9,17 +9,17 @@ use Rattle.laws.specs.Choice.{pick, by-test}
 use Rattle.terms.specs.Limits.{places}
 use Rattle.desk_arrays.proofs.Cases.{by-same, by-last}
 
--- `found` after so many places, 32 before any; a place takes over from who was found where the test says so; of whoever is found P holds
+-- `found` after some places, 32 before any; a place takes over from the one found if the test says so; P holds of the place found
 module _ (found : ℕ → ℕ) (takes : ℕ → ℕ → Bool) (none′ : found zero ≡ places) (more : (n : ℕ) → found (suc n) ≡ pick (takes (found n) n) n (found n))
     (P : ℕ → Type 0) (nobody : P places) (kept : (b n : ℕ) → P b → takes b n ≡ true → P n) where
-  -- a place that takes over is found, and else who was found before
+  -- a place that takes over is found, else the one found before
   took : (n : ℕ) → takes (found n) n ≡ true → found (suc n) ≡ n
   took n t = more n ∙ rw t
 
   stayed : (n : ℕ) → takes (found n) n ≡ false → found (suc n) ≡ found n
   stayed n f = more n ∙ rw f
 
-  -- P holds of whoever is found
+  -- P holds of the place found
   pub found-is : (n : ℕ) → P (found n)
   found-is zero = subst P (sym none′) nobody
   found-is (suc n) =

@@ -88,7 +88,7 @@ module _ {d : Desk} {h : History} (s : Started d h) (r : Request) where
   pub desk-begins : (j : ℕ) → letterOf (r .kind) ≡ Known Begin → stepOf d (r .kind) (r .job) (r .cell) .said .answer ≡ Go j → Begins (view d) (view (stepOf d (r .kind) (r .job) (r .cell) .desk)) j
   desk-begins = desk-promises s .effects .begins r
 
-  -- where a run ends, every cell is released: who is woken, who is left, and why (01, rule 4)
+  -- when a run ends, every cell is released: which jobs are woken, which are left waiting, and why (01, rule 4)
   pub desk-rule-4 : RunEnds (stepOf d (r .kind) (r .job) (r .cell) .said .answer) r → AllReleased (view d) (shown view (onArrays d r)) r
   desk-rule-4 = desk-promises s .wakes r .rule-4
 

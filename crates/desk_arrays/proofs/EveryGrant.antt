@@ -38,7 +38,7 @@ module _ (number cell ask : List ℕ) (P : Settling → Type 0) where
         by-test (ltb q places && agreesAt (s .held) c q (wantsAt (s .held) c q (askOf (getD ask q 0))))
         (λ t. let l = ltb-true q places (and-first (ltb q places) _ t) in rw t (kept q (askOf (getD ask q 0)) s l (front-waits number (s .status) cell c places l) h)) (λ f. rw f h)
 
-    -- so many grants on one cell
+    -- some number of grants on one cell
     pub cell-keeps : (n : ℕ) (s : Settling) → P s → P (settleCell number cell ask c n s)
     unfolding settleCell
     cell-keeps zero s h = h

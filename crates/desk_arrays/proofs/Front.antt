@@ -16,11 +16,11 @@ use Rattle.desk_arrays.specs.Places.{waitsAt, youngest}
 use Rattle.desk_arrays.proofs.Best.{found-is, best-found, none-found}
 
 module _ (number status cell : List ℕ) (c : ℕ) where
-  -- a place takes over where it waits and is younger than who was found
+  -- a place takes over if it waits and is younger than the one found so far
   abbrev takes : ℕ → ℕ → Bool
   takes b q = waitsAt status cell c q && ltb (getD number b 0) (getD number q 0)
 
-  -- whoever is found is nobody yet, or waits
+  -- nobody is found yet, or the place found waits
   abbrev Kept : ℕ → Type 0
   Kept b = (b ≡ places) ⊎ (waitsAt status cell c b ≡ true)
 
@@ -32,7 +32,7 @@ module _ (number status cell : List ℕ) (c : ℕ) where
   pub no-youngest : (n : ℕ) → ((q : ℕ) → q < n → waitsAt status cell c q ≡ false) → youngest number status cell c n ≡ places
   no-youngest n h = none-found (youngest number status cell c) takes (unfold youngest in refl) (λ m. unfold youngest in refl) Kept (inl refl) kept-on n (λ p l. rw (h p l))
 
-  -- who is found waits for the cell
+  -- the place found waits for the cell
   pub front-waits : (n : ℕ) → youngest number status cell c n < places → waitsAt status cell c (youngest number status cell c n) ≡ true
   front-waits n l = ⊎-elim (λ e. absurd (omega arith)) (λ w. w) (found-is (youngest number status cell c) takes (unfold youngest in refl) (λ m. unfold youngest in refl) Kept (inl refl) kept-on n)
 

@@ -75,7 +75,7 @@ module _ {ks : List ℕ} {j p : ℕ} (s : Seat ks j p) (o : Once ks) where
   freed-once : Once (set ks p 0)
   freed-once = subst Once freed-set (vacated-once j ks o)
 
-  -- who has freed its place has none
+  -- a job that has freed its place has none
   freed-gone : isSeated (set ks p 0) j ≡ false
   freed-gone = seated-member (set ks p 0) j (s .real) ∙ ap (member j) (sym freed-set) ∙ vacated-gone j ks (s .real)
 

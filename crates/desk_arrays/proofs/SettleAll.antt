@@ -37,7 +37,7 @@ pub record Stage (d : Desk) (j : ℕ) (st : Status) (cell ask : List ℕ) (k : �
   pub told : wakesSoFar (d .jobs) cell ask s ≡ wakesOf (rowsAfter d j) k
 
 module _ {d : Desk} (v : Inv d) (j : ℕ) (st : Status) (ends : (c : ℕ) (a : Ask) → st ≢ waiting c a) (cell ask : List ℕ) where
-  -- who waits for a cell that is not reached is not among the wakes
+  -- a waiter of a cell that is not yet reached is not among the wakes
   not-yet : (k c : ℕ) → k ≤ c → (i : ℕ) (a : Ask) → d .stat i ≡ waiting c a → isWoken i (wakesOf (rowsAfter d j) k) ≡ false
   not-yet k c l i a e =
       by-test (isWoken i (wakesOf (rowsAfter d j) k)) (λ t. absurd (elsewhere (woken-at (rowsAfter d j) k i t))) (λ f. f)

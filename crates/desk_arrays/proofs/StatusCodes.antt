@@ -60,7 +60,7 @@ module _ (status cell ask : List ℕ) where
   waits-status c q h =
       rw (eqb-true (getD status q 0) waitingCode (and-first (eqb (getD status q 0) waitingCode) (eqb (getD cell q 0) c) h), eqb-true (getD cell q 0) c (and-second (eqb (getD status q 0) waitingCode) (eqb (getD cell q 0) c) h))
 
-  -- only a place that there is waits
+  -- only a place within the list waits
   pub waits-below : (c q : ℕ) → waitsAt status cell c q ≡ true → q < length status
   unfolding waitsAt
   waits-below c q h =

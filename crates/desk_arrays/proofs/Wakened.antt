@@ -13,7 +13,7 @@ use Rattle.desk_rules.specs.Desk.{Status, running, Waiter}
 use Rattle.desk_rules.specs.Rules.{wake, wakesAt, isWoken, runAgain}
 use Rattle.desk_rules.proofs.Wakes.{woken-either}
 
--- woken or not, who runs runs
+-- woken or not, a running job runs
 still : (b : Bool) → pick b running running ≡ running
 still true = refl
 still false = refl

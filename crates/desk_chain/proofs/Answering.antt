@@ -36,7 +36,7 @@ status-found d job h =
     (λ f. rw f (by-test (member job (d .number)) (λ m. rw m (unfold statusOf in rw f))
     (λ m. rw (m, nowhere-free (d .number) (d .status) job (omega (arith, pos-end (d .number) job m))) (unfold statusFor in refl))))
 
--- who was found open stands at a place
+-- a job found open stands at a place
 pub open-place : (number status : List ℕ) (job : ℕ) {f : Found} → length status ≡ places → f ≡ foundAt number status job → (f .code ≡ freeCode → ⊥) → f .place < places
 unfolding foundAt
 open-place number status job {f} s e c = rw e (open-inside number status job s (rw e at (ne-eqb (f .code) freeCode c)))

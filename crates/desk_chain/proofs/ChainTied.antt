@@ -65,7 +65,7 @@ module _ {d : Desk} (v : Inv (view d)) (pl : Plain d) where
       here : eqb (getD (d .status) p 0) waitingCode ≡ true → waitsAt (d .status) (d .cell) (getD (d .cell) p 0) p ≡ true
       here t = unfold waitsAt in rw (t, eq-eqb (getD (d .cell) p 0) (getD (d .cell) p 0) refl)
 
-  -- after a waiting job the place of who is next
+  -- after a waiting job, the place of the next job
   waiting-next : {j p : ℕ} → Seat (d .number) j p → (c : ℕ) (a : Ask) → view d .stat j ≡ waiting c a → nextAt (d .number) (d .status) (d .cell) (d .held) p ≡ pos (d .number) (youngestOf (inWayOf (view d) j c))
   unfolding nextAt
   waiting-next {j} {p} s c a e =
@@ -101,7 +101,7 @@ module _ {d : Desk} (v : Inv (view d)) (pl : Plain d) where
       let s = open-seat v pl j (live-open (view d .stat j) h) in
       one-chain v (arrays-chain (youngerThan (getD (d .number) (pos (d .number) j) 0) (d .number)) s (omega (arith, ap (λ x. youngerThan x (d .number)) (s .sits))) h) (is-chain v j h)
 
-  -- who asks is told what the paper says
+  -- a request for a chain is told what the paper says
   pub asked-is : (j : ℕ) (list : List ℕ) → askedOn d j list ≡ askChain (view d) j list
   unfolding askedOn askChain
   asked-is j list = by-due (chainDue (view d .stat j) (length list)) refl

@@ -47,7 +47,7 @@ chain-none zero d last e = refl
 chain-none (suc n) d last e = rw e
 
 module _ {d : Desk} (v : Inv (view d)) (pl : Plain d) (few : (j : ℕ) → isOpen (view d .stat j) ≡ true → j ≤ lastNumber) where
-  -- who waits is live
+  -- a waiting job is live
   waits-live : (j : ℕ) → isWaiting (view d .stat j) ≡ true → isLive (view d .stat j) ≡ true
   waits-live j h = waits-for (view d .stat j) h (λ c a e. waiting-live e)
 
@@ -56,13 +56,13 @@ module _ {d : Desk} (v : Inv (view d)) (pl : Plain d) (few : (j : ℕ) → isOpe
   unfolding nextChain
   no-chain last h = rw (nobody-above v pl last h)
 
-  -- the chain of the first who waits above `last`
+  -- the chain of the first waiting job above `last`
   first-chain : (last w : ℕ) → last < w → isWaiting (view d .stat w) ≡ true → ((j : ℕ) → last < j → isWaiting (view d .stat j) ≡ true → w ≤ j) → nextChain d last ≡ chainOf (view d) w
   unfolding nextChain
   first-chain last w l h least =
       rw (waiter-found v pl last few w l h least, lt-ltb (pos (d .number) w) places (seat-below (open-seat v pl w (waits-open (view d .stat w) h)) places (pl .numbers))) (chain-is v pl w (waits-live w h))
 
-  -- the chains of those who wait above `last`, in their order
+  -- the chains of the waiting jobs above `last`, in order
   chains-above : (n last : ℕ) (ws : List ℕ) → Rising ws → ((j : ℕ) → member j ws ≡ true → (last < j) × (isWaiting (view d .stat j) ≡ true)) → ((j : ℕ) → last < j → isWaiting (view d .stat j) ≡ true → member j ws ≡ true) → length ws ≤ n →
       chainsBy n d last ≡ map (chainOf (view d)) ws
   chains-above n last [] r listed all l = chain-none n d last (no-chain last (λ j g h. member-none j (all j g h)))
@@ -98,7 +98,7 @@ module _ {d : Desk} (v : Inv (view d)) (pl : Plain d) (few : (j : ℕ) → isOpe
       no-more h = omega (arith, h, pl .numbers)
 
 module _ {d : Desk} {h : History} (s : Started d h) where
-  -- who asks a started desk that runs for a chain is told what the paper says
+  -- a request to a started desk that runs for a chain is told what the paper says
   pub asked-tied : (j : ℕ) (list : List ℕ) → askedOn d j list ≡ askChain (view d) j list
   asked-tied = asked-is (started-view s .0) (started-view s .1)
 

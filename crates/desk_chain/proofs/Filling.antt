@@ -48,7 +48,7 @@ filled-more x (k ∷ ks) js ys h e =
 
 module _ (number status cell held : List ℕ) (p q : ℕ) (l : List ℕ) (n : length number ≡ places) (room : youngerThan (getD number p 0) number < length l) (e : q ≡ nextAt number status cell held p) where
   module _ (h : q < places) where
-    -- who is next has fewer younger ones
+    -- the next job has fewer younger jobs
     pub next-fewer : youngerThan (getD number q 0) number < youngerThan (getD number p 0) number
     next-fewer = rw e (next-falls number status cell held n p (subst (λ k. k < places) e h))
 

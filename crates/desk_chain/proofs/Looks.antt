@@ -33,7 +33,7 @@ pub places-enough : (number list : List ℕ) (p : ℕ) → length number ≡ pla
 places-enough number list p n l h = omega (arith, younger-below number p (omega arith))
 
 module _ (number held : List ℕ) (c job : ℕ) where
-  -- what holds of a place that is found anew, and of who was found before, holds of who is found
+  -- what holds of a newly found place, and of the one found before, holds of the place found
   by-found : (P : ℕ → Type 0) (n : ℕ) → (getD number (holderAbove number held c job n) job < getD number n 0 → P n) → P (holderAbove number held c job n) → P (holderAbove number held c job (suc n))
   unfolding holderAbove holdsAbove
   by-found P n new′ old′ =
@@ -50,7 +50,7 @@ module _ (number held : List ℕ) (c job : ℕ) where
       let r = found-least e n in
       by-found (λ q. job ≤ getD number q job) n (λ h. rw (any-default number n job 0 (above-within number n (getD number (holderAbove number held c job n) job) h)) (omega arith)) r
 
-  -- who is found is younger than the job
+  -- the job found is younger
   pub found-younger : length number ≡ places → (n : ℕ) → holderAbove number held c job n < places → job < getD number (holderAbove number held c job n) 0
   unfolding holderAbove
   found-younger e zero = λ h. absurd (omega arith)
@@ -59,7 +59,7 @@ module _ (number held : List ℕ) (c job : ℕ) where
       by-found (λ q. q < places → job < getD number q 0) n (λ h l. omega arith) (found-younger e n)
 
 module _ (number status cell held : List ℕ) (e : length number ≡ places) where
-  -- who is next is younger
+  -- the next job is younger
   pub next-younger : (p : ℕ) → nextAt number status cell held p < places → getD number p 0 < getD number (nextAt number status cell held p) 0
   unfolding nextAt
   next-younger p =
@@ -84,7 +84,7 @@ module _ (number status cell held : List ℕ) (e : length number ≡ places) whe
       (λ t. let q = nextAt number status cell held p in let h = next-falls p (ltb-true q places t) in rw t (ap (λ js. getD number p 0 ∷ js) (enough n m q (omega arith) (omega arith))))
       (λ f. rw f)
 
-  -- a chain is its first job, and then the chain of who is next where there is one
+  -- a chain is its first job, then the chain of the next job if there is one
   pub chain-next : (p : ℕ) → chainFrom number status cell held p ≡ getD number p 0 ∷ pick (ltb (nextAt number status cell held p) places) (chainFrom number status cell held (nextAt number status cell held p)) []
   unfolding chainFrom chainFromBy
   chain-next p =

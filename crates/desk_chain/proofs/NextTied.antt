@@ -48,11 +48,11 @@ module _ {d : Desk} (v : Inv (view d)) (pl : Plain d) where
     abbrev who : Waiter
     who = record { job = j; ask = a }
 
-    -- the place of who is next
+    -- the place of the next job
     abbrev there : ℕ
     there = pos (d .number) i
 
-    -- who is next is younger
+    -- the next job is younger
     above : j < i
     above = way-younger v c who k i (n .way)
 
@@ -64,11 +64,11 @@ module _ {d : Desk} (v : Inv (view d)) (pl : Plain d) where
     holds-there : isFree (modeAt (d .held) c there) ≡ false
     holds-there = ap isFree (sym (place-mode c there (seat-below next-seat places (pl .numbers))) ∙ ap (modeBy d c) (next-seat .sits)) ∙ next-holds v c who k i n .1
 
-    -- nobody else who holds the cell is younger than who is next
+    -- no other holder of the cell is younger than the next job
     others-older : (p : ℕ) → p < places → isFree (modeAt (d .held) c p) ≡ false → getD (d .number) p 0 ≢ j → getD (d .number) p 0 ≤ i
     others-older p l f o = n .youngest (getD (d .number) p 0) (holds-it o (ap isFree (place-mode c p l) ∙ f))
 
-    -- whoever is found in the search is nobody yet, or a place that holds the cell under a number above the waiter's
+    -- the search has found nobody yet, or a place that holds the cell under a number above the waiter's
     abbrev Kept : ℕ → Type 0
     Kept b = (b ≡ places) ⊎ ((b < places) × (holdsAbove (d .number) (d .held) c j b ≡ true))
 
@@ -93,7 +93,7 @@ module _ {d : Desk} (v : Inv (view d)) (pl : Plain d) where
         let g : j < getD (d .number) p 0 = ⊎-elim (λ e. omega (arith, e, l)) (λ x. omega (arith, x .2, x .3, l)) (kept-age b h) in
         inr (omega (arith, above-within (d .number) p j g, pl .numbers), and-both (not (isFree (modeAt (d .held) c p))) (ltb j (getD (d .number) p 0)) f (lt-ltb j (getD (d .number) p 0) g))
 
-    -- who is next takes over from everybody else
+    -- the next job takes over from every other
     takes-over : (b : ℕ) → Kept b → b ≢ there → holdsAbove (d .number) (d .held) c (getD (d .number) b j) there ≡ true
     unfolding holdsAbove
     takes-over b h o =

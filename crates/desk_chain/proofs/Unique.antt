@@ -8,7 +8,7 @@ use Rattle.desk_chain.proofs.chain.chain.Kinds as chainK
 use Rattle.desk_chain.proofs.chain.next_chain.Reads as next-chain
 use Rattle.desk_chain.proofs.chain.next_chain.Kinds as next-chainK
 
--- what is answered to whoever asks for a job's chain, and what the list then holds
+-- the answer to a request for a job's chain, and what the list then holds
 pub chain-unique : UniqueLent chainK.ps chainK.r chain.Post (λ κs e. now (e .1 .1 .0))
 chain-unique κs a x y e f p q = (p .0 ∙ sym (q .0), p .1 ∙ sym (q .1))
 

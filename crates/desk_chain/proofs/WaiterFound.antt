@@ -32,14 +32,14 @@ use Rattle.desk_chain.specs.Chains.{waitsWithin, waiterAbove}
 use Rattle.desk_chain.proofs.NextTied.{open-seat}
 use Rattle.desk_chain.proofs.ChainTied.{place-status}
 
--- who waits, waits for a cell with what it asked
+-- a waiting job waits for a cell with what it asked
 pub waits-for : {P : Type 0} (s : Status) → isWaiting s ≡ true → ((c : ℕ) (a : Ask) → s ≡ waiting c a → P) → P
 waits-for closed h f = not-both h refl
 waits-for running h f = not-both h refl
 waits-for (waiting c a) h f = f c a refl
 waits-for sentback h f = not-both h refl
 
--- a place that waits is one that there is
+-- a place that waits is one of the 32
 waits-there : (l : List ℕ) (p : ℕ) → getD l p 0 ≡ waitingCode → p < length l
 waits-there l p e = by-below p (length l) (λ h. h) (λ h. let z = List·getD-eq-default l 0 {n = p} h in absurd (omega arith))
 

@@ -24,18 +24,18 @@ unfolding statusOf
 nowhere-free number status job h =
     by-test (eqb job 0) (λ t. rw t) (λ t. rw t (List·getD-eq-default status 0 h))
 
--- who is open has a place
+-- an open job has a place
 pub open-inside : (number status : List ℕ) (job : ℕ) → length status ≡ 32 → eqb (statusOf number status job) freeCode ≡ false → pos number job < 32
 open-inside number status job e h =
     by-test (ltb (pos number job) 32) (ltb-true (pos number job) 32)
     (λ f. absurd (eqb-false (statusOf number status job) freeCode h (nowhere-free number status job (omega (arith, ltb-false (pos number job) 32 f)))))
 
--- who runs is open
+-- a running job is open
 pub runs-open : (code : ℕ) → standingOf code ≡ Runs → eqb code freeCode ≡ false
 unfolding standingOf
 runs-open code h = by-test (eqb code freeCode) (λ t. let e : Against NotOpen ≡ Runs = rw t at h in let z : _≡_ {A = ℕ} 0 1 = cc in absurd (omega arith)) (λ f. f)
 
--- who was found running has a place
+-- a job found running has a place
 pub runs-inside : (number status : List ℕ) (job : ℕ) {f : Found} {s : Standing} → length status ≡ 32 → f ≡ foundAt number status job → s ≡ standingOf (f .code) → s ≡ Runs → f .place < 32
 unfolding foundAt
 runs-inside number status job {f} {s} l e g h =

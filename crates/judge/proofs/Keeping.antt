@@ -76,7 +76,7 @@ letter-event (Asks Write) job cell h = rw records-write
 letter-event (Asks Increment) job cell h = rw records-increment
 letter-event (Asks Update) job cell h = not-both h refl
 
--- who has ended after a letter, by its number
+-- which jobs have ended after a letter, by its code
 letter-ends : (l : Letter) (ended : List ℕ) (job cell j : ℕ) → member j (endedAfter ended (Good l job cell)) ≡ pick (endsJob (codeOf l)) (eqb job j || member j ended) (member j ended)
 unfolding endedAfter endsJob member
 letter-ends Begin ended job cell j = refl
@@ -89,7 +89,7 @@ letter-ends (Asks Write) ended job cell j = refl
 letter-ends (Asks Increment) ended job cell j = refl
 letter-ends (Asks Update) ended job cell j = refl
 
--- a flag that is put where none was says who has ended
+-- a flag set where none was says which jobs have ended
 flag-put : (flags : List Bool) (job : ℕ) (b : Bool) (ended : List ℕ) → length flags ≡ 256 → job < 256 → getD flags job false ≡ false → Flagged flags ended →
     (j : ℕ) → j < 256 → getD (set flags job b) j false ≡ pick b (eqb job j || member j ended) (member j ended)
 flag-put flags job b ended long small free a j h =
@@ -132,7 +132,7 @@ read-kept n flags ended line code job cell (Good l j x) long a most g e =
     good-kept-as n flags ended line code job cell l j x long a most g (good-kept flags l j x code job cell e)
 read-kept n flags ended line code job cell (Bad at) long a most g e = not-kept e
 
--- a line that is kept says what is kept of it, and the flags say after it who has ended
+-- a kept line says what is kept of it, and the flags after it say which jobs have ended
 pub kept-as : (n : ℕ) (flags : List Bool) (ended line : List ℕ) (code job cell : ℕ) → length flags ≡ 256 → Flagged flags ended →
     lookedAt n flags (readLine ofHistories line) ≡ Kept code job cell → KeptAs n flags ended line code job cell
 unfolding lookedAt

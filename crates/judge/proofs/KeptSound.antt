@@ -53,7 +53,7 @@ module _ (ended : List ℕ) (before : History) (k : Known ended before) where
   unfolding eventFault faultOfGood
   event-table n l job cell e few j a = rw (le-ltb judgedLines n few, j, a, k job, outside-is job)
 
-  -- who has ended after a mark
+  -- which jobs have ended after a mark
   ended-mark : (m : Mark) (job j : ℕ) (b : Bool) → endsJob m ≡ b → marked endsJob j (before ++ Ends m job ∷ []) ≡ (member j ended || (eqb job j && b))
   ended-mark m job j b e =
       marked-append endsJob j before (Ends m job ∷ [])

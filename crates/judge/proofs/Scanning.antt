@@ -99,7 +99,7 @@ line-falls text from to h e =
 pub line-some : (text : List ℕ) (from to : ℕ) → from < length text → to ≡ from + used (drop from text) → 0 < to
 line-some text from to h e = omega (arith, line-falls text from to h e)
 
--- and it ends so many bytes on as it has
+-- and it ends as many bytes on as it has
 line-long : (text : List ℕ) (from to : ℕ) → from < length text → to ≡ from + used (drop from text) → from + length (part text from to) ≡ to
 line-long text from to h e =
     let m : to - from ≤ length (drop from text) = omega (arith, used-within (drop from text)) in

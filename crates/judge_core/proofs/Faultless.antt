@@ -167,7 +167,7 @@ open-line codes jobs cells p g =
     subst (λ j. marked endsJob j (historyBy codes jobs cells p) ≡ false) (job-of (getD codes p 0) (getD jobs p 0) (getD cells p 0))
     (faultless-sound (p + 1) (historyBy codes jobs cells p) (eventBy (getD codes p 0) (getD jobs p 0) (getD cells p 0)) (sym g) .open′)
 
--- a line without a fault, passed with the flags of who has ended
+-- a faultless line, passed with the flags of the ended jobs
 pub line-passed : (codes jobs cells : List ℕ) (n : ℕ) (all : Found) (p : ℕ) (r : Fault) (flags : List Bool) (j : ℕ) (b : Bool) → r ≡ Nothing → dueOf r ≡ eventFault (p + 1) (historyBy codes jobs cells p) (eventAt codes jobs cells p) → p < n → p < 4096 →
     Flagged flags (historyBy codes jobs cells p) → At codes jobs cells n all p → j ≡ getD jobs p 0 → j < 256 → b ≡ (eqb (getD codes p 0) 3 || eqb (getD codes p 0) 4) →
     (p + 1 ≤ n) × (p + 1 ≤ 4096) × Flagged (set flags j b) (historyBy codes jobs cells (p + 1)) × At codes jobs cells n all (p + 1)

@@ -61,7 +61,7 @@ ends-line c job cell j h =
     (λ f. rw (end-event c job cell (ltb-false c 3 f)) (marked-ends endsJob j (markBy c) job h ∙ ap (λ b. (eqb job j && b) || marked endsJob j h) (mark-ends c)))
 
 module _ (codes jobs cells : List ℕ) (p : ℕ) where
-  -- who has ended, one line more
+  -- which jobs have ended, after one line more
   ended-more : (j : ℕ) → marked endsJob j (historyBy codes jobs cells (suc p)) ≡ (marked endsJob j (historyBy codes jobs cells p) || (eqb (getD jobs p 0) j && (eqb (getD codes p 0) 3 || eqb (getD codes p 0) 4)))
   unfolding historyBy
   ended-more j =

@@ -38,7 +38,7 @@ listed-same f g k zero h = refl
 listed-same f g k (suc m) h =
     ap₂ (λ b l. put b k l) (h k (omega arith) (omega arith)) (listed-same f g (suc k) m (λ i a b. h i (omega arith) (omega arith)))
 
--- who is put in front is there, and the others are
+-- a number put in front is in the list, and so are the others
 put-member : (b : Bool) (k : ℕ) (js : List ℕ) (i : ℕ) → member i (put b k js) ≡ ((b && eqb k i) || member i js)
 unfolding put member
 put-member true k js i = refl

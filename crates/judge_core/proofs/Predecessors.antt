@@ -20,14 +20,14 @@ use Rattle.judge_core.proofs.Listing.{listed-ascending}
 use Rattle.judge_core.proofs.Counting.{zero-everywhere}
 use Rattle.judge_core.proofs.Seeking.{seek-start, seek-gone, seek-past, seek-found, seek-none, seek-behind, left-small, left-has, found-left, none-left}
 
--- who is found is one of 256, and nobody is one more
+-- a job found is one of 256, and nobody is one more
 found-low : (left : List Bool) (test : ℕ → Bool) → orNobody (first test (leftOf left)) ≤ 256
 unfolding orNobody
 found-low left test =
     by-one (first test (leftOf left)) (λ q. rw q (omega arith))
     (λ i q. rw q (omega (arith, left-small left i (first-is test (leftOf left) i q .0))))
 
--- who is left when a job is taken away was left before
+-- a job that remains after another is taken away remained before
 was-left : (left : List Bool) (k : ℕ) → length left ≡ 256 → k < 256 → (i : ℕ) → getD (set left k false) i false ≡ true → getD left i false ≡ true
 was-left left k w b i t =
     by-test (eqb i k)

@@ -78,7 +78,7 @@ first-nobody (j ∷ js) h =
     let z : _≡_ {A = ℕ} 0 1 = cc in
     absurd (omega arith)
 
--- and who is the first leads the others
+-- and the first job leads the others
 first-leads : (js : List ℕ) (s : ℕ) → first (λ j. true) js ≡ some s → (rest : List ℕ) × (js ≡ s ∷ rest)
 unfolding first
 first-leads [] s h =

@@ -89,7 +89,7 @@ module _ (left : List Bool) where
   unfolding leftOf
   left-few = listed-few (λ i. getD left i false) 0 256
 
-  -- who is found is one of those left
+  -- the job found is one of those left
   pub found-left : (test : ℕ → Bool) (j : ℕ) → j ≡ orNobody (first test (leftOf left)) → (j ≡ 256 → ⊥) → (first test (leftOf left) ≡ some j) × (j < 256)
   unfolding orNobody
   found-left test j h n =

@@ -33,7 +33,7 @@ pub pos-later : (k : ℕ) (ks : List ℕ) (j : ℕ) → eqb k j ≡ false → po
 unfolding pos
 pos-later k ks j f = rw f
 
--- who stands behind another is not the first, and stands there behind it in the rest too
+-- a number that stands behind another is not the first, and stands behind it in the rest too
 pub pos-rest : (k : ℕ) (ks : List ℕ) (i j : ℕ) → eqb k i ≡ false → pos (k ∷ ks) i < pos (k ∷ ks) j → pos ks i < pos ks j
 pos-rest k ks i j f h =
     by-test (eqb k j) (λ t. let e : k ≡ j = eqb-true k j t in absurd (omega (arith, pos-first k ks, ap (pos (k ∷ ks)) e)))
@@ -61,12 +61,12 @@ pub member-later : (k : ℕ) (ks : List ℕ) (j : ℕ) → eqb k j ≡ false →
 unfolding member
 member-later k ks j f = rw f
 
--- who is in the rest is in the list
+-- a number in the rest is in the list
 pub member-more : (k : ℕ) (ks : List ℕ) (j : ℕ) → member j ks ≡ true → member j (k ∷ ks) ≡ true
 unfolding member
 member-more k ks j h = by-test (eqb k j) (λ t. rw t) (λ f. rw f h)
 
--- who is in a list is its first or in the rest
+-- a number in a list is its first or in the rest
 pub member-split : {P : Type 0} (k : ℕ) (ks : List ℕ) (i : ℕ) → member i (k ∷ ks) ≡ true → (k ≡ i → P) → (member i ks ≡ true → P) → P
 member-split k ks i h f g = by-test (eqb k i) (λ t. f (eqb-true k i t)) (λ n. g (sym (member-later k ks i n) ∙ h))
 
@@ -85,12 +85,12 @@ pub once-rest : (k : ℕ) (ks : List ℕ) → distinct (k ∷ ks) ≡ true → d
 unfolding distinct
 once-rest k ks h = and-second (not (member k ks)) (distinct ks) h
 
--- who is in a list is not one that is not in it
+-- a number in a list is not a number outside it
 pub member-other : (k j : ℕ) (ks : List ℕ) → member k ks ≡ false → member j ks ≡ true → eqb k j ≡ false
 member-other k j ks f h =
     by-test (eqb k j) (λ t. not-both (ap (λ i. member i ks) (eqb-true k j t) ∙ h) f) (λ g. g)
 
--- who is in a list with one more where it is listed
+-- membership in a list with one more in front, if that is listed
 pub member-put : (b : Bool) (i j : ℕ) (js : List ℕ) → member j (put b i js) ≡ ((eqb i j && b) || member j js)
 unfolding member put
 member-put true i j js = rw and-true

@@ -14,7 +14,7 @@ use Rattle.laws.specs.Sorted.{under, ascending, insert, sorted}
 use Rattle.laws.proofs.Lists.{member-first, member-later, member-more, member-none, once-first, first-ahead, pos-both}
 use Rattle.laws.proofs.Parts.{and-first, and-second, and-both, or-either, or-swap}
 
--- who is smaller than all is smaller than each
+-- a number smaller than all is smaller than each
 pub under-each : (j : ℕ) (ks : List ℕ) → under j ks ≡ true → (k : ℕ) → member k ks ≡ true → j < k
 unfolding under member
 under-each j [] h k m = not-both m refl
@@ -43,7 +43,7 @@ insert-member i (k ∷ ks) j =
     (λ f. by-test (eqb i k) (λ t. rw (f, t) (rw (eqb-true i k t) (or-again (eqb k j) (member j ks))))
     (λ g. rw (f, g) (ap (λ b. eqb k j || b) (insert-member i ks j) ∙ or-swap (eqb k j) (eqb i j) (member j ks))))
 
--- who is smaller than each is smaller than all
+-- a number smaller than each is smaller than all
 pub under-all : (j : ℕ) (ks : List ℕ) → ((k : ℕ) → member k ks ≡ true → j < k) → under j ks ≡ true
 unfolding under
 under-all j [] h = refl

@@ -17,17 +17,17 @@ in-split (later h) f g = g h
 pub is-first : {A : Type 0} {w v : A} {q : List A} → w ≡ v → In w (v ∷ q)
 is-first {w = w} {q = q} e = subst (λ x. In w (x ∷ q)) e first
 
--- who stands in the first of two lists stands in both put together
+-- an element of the first of two lists stands in both put together
 pub in-left : {A : Type 0} {w : A} {p : List A} (q : List A) → In w p → In w (p ++ q)
 in-left q first = first
 in-left q (later h) = later (in-left q h)
 
--- and who stands in the second
+-- and so does an element of the second
 pub in-right : {A : Type 0} {w : A} (p : List A) {q : List A} → In w q → In w (p ++ q)
 in-right [] h = h
 in-right (v ∷ p) h = later (in-right p h)
 
--- who stands in two lists put together stands in one of them
+-- an element of two lists put together stands in one of them
 pub in-either : {P A : Type 0} {w : A} (p q : List A) → In w (p ++ q) → (In w p → P) → (In w q → P) → P
 in-either [] q h f g = g h
 in-either (v ∷ p) q h f g = in-split h (λ e. f (is-first e)) (λ l. in-either p q l (λ k. f (later k)) g)

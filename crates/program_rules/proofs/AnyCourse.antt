@@ -86,7 +86,7 @@ last-records m view text =
     ∙ sym (written-append (viewed view) (tellings onDesks d fs) (tellings onDesks (deskAfter onDesks d fs) (foundLast s)))
     ∙ ap (written (viewed view)) (sym (tellings-append onDesks d fs (foundLast s)) ∙ text-told m text)
 
--- the splitter of a clerk who has seen the text
+-- the splitter of a clerk that has seen the text
 pub seen-splitter : (m : Method) {c : Clerk} (text : List ℕ) → c ≡ clerkAfter (startedClerk m) text → c .splitter ≡ afterAll fresh text
 unfolding clerkAfter startedClerk
 seen-splitter m text e = ap (λ x. x .splitter) e

@@ -35,13 +35,13 @@ use Rattle.program_rules.proofs.EarlyStop.{desk-stays}
 after-started : (m : Method) (ls : List (List ℕ)) → StartedOn onDesks (newDesks m) (deskOver onDesks (newDesks m firstNumber) 1 ls) ([] ++ historyOfRun (runOf onDesks (newDesks m firstNumber) 1 ls))
 after-started m ls = run-started (at-start firstNumber (omega arith) (omega arith)) 1 ls
 
--- a clerk keeps the method that he was started with, and what he writes last is by that method
+-- a clerk keeps the method that it was started with, and what it writes last is by that method
 by-method : (m : Method) (text : List ℕ) → closing Chains (clerkAfter (startedClerk m) text) ≡ chainsBy m (deskOver onDesks (newDesks m firstNumber) 1 (linesOf text))
 unfolding closing
 by-method m text =
     ap (λ (d : Desks). chainsBy (d .method) d) (clerk-desk m text) ∙ ap (λ k. chainsBy k (deskOver onDesks (newDesks m firstNumber) 1 (linesOf text))) (started-method (after-started m (linesOf text)))
 
--- THE CHAINS OF A TEXT: what stands on the desk of a clerk who has seen it is what the paper says of its lines, and under timestamps nobody waits
+-- THE CHAINS OF A TEXT: what a clerk that has seen it writes of its desk is what the paper says of the text's lines, and under timestamps nobody waits
 pub chains-closing : (m : Method) (text : List ℕ) → closing Chains (clerkAfter (startedClerk m) text) ≡ programOf m Chains text
 unfolding chainsBy programOf chainsOf
 chains-closing Locks text =

@@ -72,7 +72,7 @@ none-moved step d s [] h = unfold deskAfter in refl
 none-moved step d s (b ∷ t) h =
     past-moved step d (taken s b) (foundIn (taken s b) t) (past-taken s b h) ∙ none-moved step d (taken s b) t (past-read (taken s b) (past-taken s b h))
 
--- so the desk of a clerk who has read every line stays as it is
+-- so the desk of a clerk that has read every line stays as it is
 pub desk-stays : (c : Clerk) (t : List ℕ) → allRead (c .splitter) ≡ true → clerkAfter c t .desks ≡ c .desks
 unfolding clerkAfter
 desk-stays c t h = none-moved onDesks (c .desks) (c .splitter) t h
@@ -82,12 +82,12 @@ none-owed : (s : Splitter) → allRead s ≡ true → owing s ≡ false
 unfolding allRead owing
 none-owed s h = by-test (s .ended) (λ e. rw e) (λ e. rw (e, lt-leb (s .line) requestLines (ltb-true requestLines (s .line) (rw e at h))))
 
--- a clerk who has read every line writes nothing more
+-- a clerk that has read every line writes nothing more
 pub writes-no-more : (view : View) (c : Clerk) (t : List ℕ) → allRead (c .splitter) ≡ true → recordsIn view c t ≡ []
 unfolding recordsIn
 writes-no-more view c t h = ap (written (viewed view)) (none-told onDesks (c .desks) (c .splitter) t h) ∙ unfold written in refl
 
--- what a clerk has written who has read every line is all that is written of the text
+-- what a clerk that has read every line has written is all that is written for the text
 read-written : (m : Method) (view : View) (text : List ℕ) → allRead (afterAll fresh text) ≡ true → recordsIn view (startedClerk m) text ≡ written (viewed view) (desksRun m text)
 read-written m view text h =
     sym (append-nil (recordsIn view (startedClerk m) text))

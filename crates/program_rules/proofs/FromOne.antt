@@ -63,7 +63,7 @@ pub history-from-one : (text : List ℕ) → historyOfRun (runOn text) ≡ histo
 unfolding runOn
 history-from-one text = run-history step (freshDesk 1) 1 (linesOf text)
 
--- CHAINS FROM 1: what the chain program writes is the chains of all who wait on a desk started at 1 after the requests that the text's lines say
+-- CHAINS FROM 1: what the program `chain` writes is the chains of all jobs that wait on a desk started at 1 after the requests in the text's lines
 pub chains-from-one : (text : List ℕ) → chainsOf text ≡ chainText (allChains (through step (freshDesk 1) (requestsFrom 1 (linesOf text))))
 unfolding chainsOf deskOn
 chains-from-one text = ap (λ d. chainText (allChains d)) (run-desk step (freshDesk 1) 1 (linesOf text))

@@ -26,13 +26,13 @@ use Rattle.program_rules.specs.Shown.{historyOfRun, historyOn}
 use Rattle.program_rules.proofs.StartedHistory.{recorded, bad-records}
 
 module _ {S : Type 0} (step : Stepping S) (waiting : S → ℕ) (few : (d : S) (r : Request) → length (recordsBy step d r) + waiting (step d r .desk) ≤ suc (waiting d)) where
-  -- the records of a line and those who wait after it are at most one more than those who waited before
+  -- the records of a line and the waiters after it are at most one more than the waiters before
   line-few : (d : S) (n : ℕ) (r : Reading) → length (recorded (answered step d n r .told)) + waiting (answered step d n r .desk) ≤ suc (waiting d)
   unfolding answered recordsBy
   line-few d n (Bad at) = omega (arith, ap length (bad-records at))
   line-few d n (Good l job cell) = few d (record { kind = byteOf l; job = job; cell = cell })
 
-  -- so all lines have at most one record each, and one for each who waited before them
+  -- so all lines have at most one record each, plus one for each job that waited before them
   pub run-few : (d : S) (n : ℕ) (ls : List (List ℕ)) → length (historyOfRun (runOf step d n ls)) ≤ waiting d + length ls
   unfolding runOf lineBy historyOfRun
   run-few d n [] = omega arith

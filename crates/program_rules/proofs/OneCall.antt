@@ -38,7 +38,7 @@ put-length out at bytes h =
     let k = length-drop (at + length bytes) out in
     (omega arith, omega arith)
 
--- a call, or a turn of it, worked on so many bytes of the chunk, and did with them what is to be done
+-- a call, or a turn of it, worked on some bytes of the chunk, and did with them what is to be done
 pub record Did (view : View) (c : Clerk) (bytes out : List ℕ) (at : ℕ) (after : Clerk) (then : List ℕ) (to : ℕ) : Type 0 where
   pub clerk : after ≡ clerkAfter c bytes
   pub text : take to then ≡ take at out ++ recordsIn view c bytes

@@ -44,7 +44,7 @@ module _ (view : View) (s : Calling) (chunk : List ℕ) (from : ℕ) where
   abbrev next : ℕ
   next = workOf view (s .clerk) chunk from (s .out) 0 .worked .next
 
-  -- what he then is
+  -- the caller's state after that
   abbrev after : Calling
   after =
       let w = workOf view (s .clerk) chunk from (s .out) 0 in

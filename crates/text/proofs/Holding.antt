@@ -15,7 +15,7 @@ module _ {A : Type 0} (asks : List ℕ → A) (s : Splitter) (r : A) where
   unfolding foundAt
   held-part e = e ∙ (let n : s .len - 0 ≡ s .len = omega arith in ap (λ k. asks (take k (s .kept))) n)
 
-  -- all bytes that there is room for
+  -- all bytes that fit
   pub held-whole : length (s .kept) ≤ s .len → r ≡ asks (s .kept) → r ≡ asks (foundAt s .bytes)
   unfolding foundAt
   held-whole h e = e ∙ ap asks (sym (take-all (s .len) (s .kept) h))

@@ -19,7 +19,7 @@ use Rattle.text_rules.specs.Fields.{digitsOf, afterDigits, endAhead, digitsAt, 
 use Rattle.text_rules.proofs.FieldParts.{digits-are, digits-whole, digits-not-whole}
 use Rattle.text_rules.proofs.Places.{by-place}
 
--- what follows the digits begins after so many bytes as there are digits
+-- what follows the digits begins as many bytes on as there are digits
 pub after-digits : (t : List ℕ) → drop (length (digitsOf t)) t ≡ afterDigits t
 unfolding digitsOf afterDigits
 after-digits [] = refl

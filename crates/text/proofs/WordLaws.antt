@@ -40,7 +40,7 @@ spelling-places Dirty = refl
 pub spelling-length : (s : Spelling) (w : Word) → s ≡ spellingOf w → s .len ≡ length (spelt w)
 spelling-length s w e = ap (λ t. t .len) e
 
--- what is copied when so many bytes are: len bytes are to be copied out of seven, from the first place of a list that has room for them
+-- the copy after i bytes: len bytes out of seven are to be copied, from the first place of a list that has room for them
 pub record Copying (before bytes : List ℕ) (len : ℕ) (now : List ℕ) (i : ℕ) : Type 0 where
   pub room : len ≤ length before
   pub places : length bytes ≡ 7

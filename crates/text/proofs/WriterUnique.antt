@@ -24,7 +24,7 @@ use Rattle.text.proofs.writer.write_end.Kinds as write-endK
 pub width-unique : Unique widthK.ps widthK.r width.Post
 width-unique κs a x y e f p q = p ∙ sym q
 
--- whether so many bytes fit from a place on
+-- whether that many bytes fit from a place on
 pub has-room-unique : Unique has-roomK.ps has-roomK.r has-room.Post
 has-room-unique κs a x y e f p q = p ∙ sym q
 

@@ -13,12 +13,12 @@ use Rattle.desk_chain.proofs.chain.next_at.Statement.{statement}
 use Rattle.desk_chain.proofs.chain.next_at.Tie as tie
 
 module _ (number status cell held : List ℕ) (p c : ℕ) (w : getD status p 0 ≡ waitingCode) (e : c ≡ getD cell p 0) where
-  -- who waits for a cell that there is has next the youngest holder above it
+  -- after a place that waits for a cell from 0 to 63, the next is the youngest holder above it
   next-found : {r : ℕ} → c < cells → r ≡ holderAbove number held c (getD number p 0) places → r ≡ nextAt number status cell held p
   unfolding nextAt
   next-found h g = simp (eq-eqb _ _ w, ← e, lt-ltb _ _ h) g
 
-  -- who waits for none that there is has nobody next
+  -- after a place that waits for a number that is no cell, there is nobody
   next-outside : cells ≤ c → places ≡ nextAt number status cell held p
   unfolding nextAt
   next-outside h = simp (eq-eqb _ _ w, ← e, le-ltb _ _ h)
