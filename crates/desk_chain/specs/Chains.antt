@@ -1,4 +1,4 @@
--- The chain over the desk's arrays. The youngest job in a waiter's way always holds its cell, and is younger than the waiter; so only holders with a larger number are looked at (02, No. 3).
+-- The chain over the desk's arrays. The youngest job in a waiter's way always holds its cell, and every other holder is younger than the waiter; so only holders with a larger number are looked at (02, No. 3).
 use Prim.Native.Nat.{ℕ, zero, suc}
 use mathlib.Core.Bool.{Bool, not, _&&_}
 use mathlib.Core.List.{List, [], _∷_}

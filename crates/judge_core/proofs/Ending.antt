@@ -1,4 +1,4 @@
--- Where runs end, in the arrays and in the history that they keep: a run commits if its end is 0, and is open at every line before its end.
+-- Where runs end, in the arrays and in the history that they keep: a run commits if its end is 0, and has not ended before any line that stands before its end.
 -- Assumes nothing.
 use Prim.Native.Nat.{ℕ, zero, suc, _+_, _≤_, _<_}
 use mathlib.Core.Path.{_≡_, refl, sym, ap, _∙_}

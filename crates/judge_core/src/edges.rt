@@ -108,7 +108,7 @@ fn meets_last<'a>(
     actions_conflict(action_at(codes, jobs, cells, x), other)
 }
 
-// Whether line x is on a cell of the set, and job j's last action on that cell stands after it. The last action is tested first: for two jobs that test mostly has the same outcome on all cells.
+// Whether line x is on a cell of the set, and job j's last action on that cell stands after it. The last action is tested first: for two jobs its outcome is mostly the same on all cells, unlike the set's.
 fn may_meet<'a>(
     cells: &'a [u8; JUDGED_LINES],
     lasts: &'a [u16; KEYS],

@@ -1,5 +1,5 @@
 -- The larger of two numbers.
--- Nothing here is of the paper; the definition is open to every crate.
+-- Nothing here comes from the paper; the definition is open to every crate.
 use Prim.Native.Nat.{ℕ}
 use lib.Dec.{ltb}
 use Rattle.laws.specs.Choice.{pick}

@@ -1,5 +1,5 @@
 -- Lists of numbers, such as jobs: membership, no repeats, positions, one more in front, the first places of a lent list; and the first element that passes a test.
--- Nothing here is of the paper; the definitions are open to every crate.
+-- Nothing here comes from the paper; the definitions are open to every crate.
 use Prim.Native.Nat.{ℕ, suc}
 use mathlib.Core.Path.{_≡_}
 use mathlib.Core.Bool.{Bool, true, false, not, _&&_, _||_}

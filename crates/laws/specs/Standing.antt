@@ -1,5 +1,5 @@
 -- What it means to stand in a list.
--- Nothing here is of the paper; the definition is open to every crate.
+-- Nothing here comes from the paper; the definition is open to every crate.
 use mathlib.Core.List.{List, _∷_}
 
 -- it stands in the list: a waiter in a queue, an action among the wakes, an event in a history

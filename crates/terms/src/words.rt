@@ -18,7 +18,7 @@ pub enum Word {
     Orderly,
     // a verdict: there is a cycle of conflicts
     Knot,
-    // a verdict: a committed job read what was later taken back
+    // a verdict: a committed job read what was taken back
     Dirty,
 }
 
