@@ -8,7 +8,10 @@ use Rattle.terms.specs.declared.letters.Ask.{Ask}
 use Rattle.terms.specs.declared.letters.Letter.the-variants.{Asks}
 use Rattle.terms.specs.declared.letters.Lettered.the-variants.{Known}
 use Rattle.terms.specs.Letters.{letterOf}
+use Rattle.conflict.specs.declared.action.Action.{Action}
+use Rattle.conflict.specs.declared.action.Event.the-variants.{Does}
 use Rattle.conflict.specs.History.{History}
+use Rattle.laws.specs.Standing.{In}
 use Rattle.desks.specs.declared.Answer.the-variants.{Wait}
 use Rattle.desks.specs.Request.{Request}
 use Rattle.desks.specs.Places.{openAmong}
@@ -36,6 +39,14 @@ OpenAtMost n = OfStarted (λ d. length (openAmong (λ j. isOpen (d .stat j)) (d 
 -- an open job's number is at most n (01, Jobs and their numbers)
 abbrev pub NumberAtMost : ℕ → Type 0
 NumberAtMost n = OfStarted (λ d. (j : ℕ) → isOpen (d .stat j) ≡ true → j ≤ n)
+
+-- the next number is at most n: 4,294,967,295 can be given, and then no other (01, Jobs and their numbers)
+abbrev pub NextAtMost : ℕ → Type 0
+NextAtMost n = OfStarted (λ d. d .next ≤ n)
+
+-- the cell of an action in the history is at most n (01, What is delivered)
+abbrev pub CellAtMost : ℕ → Type 0
+CellAtMost n = (d : Desk) (h : History) → Started d h → (x : Action) → In (Does x) h → x .cell ≤ n
 
 -- at most n jobs are in a waiter's way (demand 3)
 abbrev pub InWayAtMost : ℕ → Type 0

@@ -1,4 +1,4 @@
--- Requests by numbers, and what a desk answers them: the paper's samples S11 and S12, which cells there are, which of two refusals comes first, and the update lock's own cases, and cases that tell a rule from its near misses (01, Samples to hold it against; 01, Refusals by number; 02, No. 1).
+-- Requests by numbers, and what a desk answers them: the paper's samples S11 and S12, which cells there are, which of two refusals comes first, the update lock's own cases, and cases that tell a rule from its near misses (01, Samples to hold it against; 01, Refusals by number; 02, No. 1).
 use Prim.Native.Nat.{ℕ}
 use mathlib.Core.List.{List, [], _∷_, _++_}
 use lib.ListN.{replicate}

@@ -1,10 +1,10 @@
 -- After a write or an increment of a cell nobody with a smaller number acts on it; so two jobs' increments of one cell, which do not conflict, stand in number order too (02, No. 6).
 -- Assumes nothing.
 use Prim.Native.Nat.{ℕ, _<_, _≤_}
-use mathlib.Core.Path.{_≡_, refl, sym, ap, _∙_, subst}
+use mathlib.Core.Path.{_≡_, sym, ap, _∙_, subst}
 use mathlib.Core.Logic.{_≢_}
 use mathlib.Core.Bool.{true}
-use mathlib.Core.List.{[], _∷_, _++_, append-nil}
+use mathlib.Core.List.{_∷_, _++_, append-nil}
 use native.Mathlib.Omega.{arith}
 use Rattle.laws.proofs.Joined.{not-empty-mid, last-split}
 use Rattle.conflict.specs.declared.action.Kind.the-variants.{Increment}
