@@ -3,37 +3,27 @@
 use Prim.Native.Nat.{ℕ}
 use mathlib.Core.Path.{_≡_, refl, sym, subst}
 use mathlib.Core.Bool.{true}
-use mathlib.Core.List.{[], _∷_, _++_}
-use lib.ListN.{length}
+use mathlib.Core.List.{[], _++_}
 use native.Mathlib.Omega.{arith}
-use Rattle.laws.specs.Lists.{member, put, distinct}
+use Rattle.laws.specs.Lists.{member}
 use Rattle.terms.specs.declared.letters.Ask.the-variants.{Read}
-use Rattle.conflict.specs.declared.action.Kind.the-variants.{Read as a-read}
-use Rattle.conflict.specs.declared.action.Event.the-variants.{Does}
 use Rattle.laws.specs.Standing.{In, first}
 use Rattle.laws.proofs.Standing.{in-right}
-use Rattle.conflict.specs.Modes.{needed, recorded, covers, grants, asked, isFree}
-use Rattle.laws.specs.Functions.{at}
-use Rattle.desks.specs.declared.Answer.the-variants.{Wait}
-use Rattle.desks.specs.Places.{seated, vacated, openAmong}
-use Rattle.desks.specs.Begin.{beginning, refused}
-use Rattle.desks.specs.Records.{recordsBy, recordsOf, ownRecords, wentBy, wakeRecords}
+use Rattle.desks.specs.Records.{recordsBy}
 use Rattle.desks.specs.Started.{fresh, after}
-use Rattle.desks.specs.Request.{Request}
 use Rattle.desks.specs.Told.{request}
 use Rattle.desks.proofs.StartedThrough.{run-started}
-use Rattle.desk_rules.specs.Desk.{Waiter, Desk, isOpen, isLive, idle, freshDesk}
-use Rattle.desk_rules.specs.Locks.{every, everyWaiter, isEmpty, agrees, olderThanHolders, olderThanWaiters, without, wants, wokenFirst, settle, released}
-use Rattle.desk_rules.specs.Rules.{withRow, withStatus, wake, wakesAt, wakesOf, isWoken, runAgain, rowsAfter, rule4, close, sendBack, grant, queued, rule1, rule2, rule3, ask, retry, begin}
-use Rattle.desk_rules.specs.Step.{stepCommit, stepGiveUp, stepRetry, stepAsk, stepBegin, stepBy, step, events, Started}
+use Rattle.desk_rules.specs.Desk.{freshDesk}
+use Rattle.desk_rules.specs.Step.{step, events, Started}
 use Rattle.desk_rules.specs.Requests.{historyOf}
-use Rattle.desk_rules.specs.Waiting.{InWay, IsWaiting}
-use Rattle.desk_rules.specs.Chain.{otherHolders, aheadOf, inWayOf, younger, youngestOf, youngerThan, onward, chainBy, chainOf}
-use Rattle.desk_rules.specs.Bounds.{Least, OpenAtMost, NumberAtMost, NextAtMost, CellAtMost, InWayAtMost, JustAskedAtMost, WereInWayAtMost, ChainAtMost, WakesAtMost, RecordsAtMost, toTheQueue, toTheLine, queueDesk, lineDesk, oneMore, lastCommits}
+use Rattle.desk_rules.specs.Waiting.{InWay}
+use Rattle.desk_rules.specs.Chain.{inWayOf}
+use Rattle.desk_rules.specs.Bounds.{Least, OpenAtMost, NumberAtMost, NextAtMost, CellAtMost, InWayAtMost, JustAskedAtMost, WereInWayAtMost, ChainAtMost, WakesAtMost, RecordsAtMost, toTheQueue, toTheLine, queueDesk, lineDesk, oneMore, lastCommits, last, full, aBegin}
 use Rattle.desk_rules.proofs.Kept.{started-inv}
 use Rattle.desk_rules.proofs.InWayList.{listed-way}
 use Rattle.desk_rules.proofs.RecordLimits.{recorded-cells}
 use Rattle.desk_rules.proofs.Promised.{promised}
+use Rattle.desk_rules.proofs.Examples.{met}
 
 -- the two desks are started ones, and so is the first with one more waiter
 queue-started : Started queueDesk (historyOf (freshDesk 1) toTheQueue)
@@ -46,42 +36,6 @@ line-started = run-started (fresh 1 (omega arith) (omega arith)) toTheLine
 
 full-started : Started (step queueDesk oneMore .desk) (historyOf (freshDesk 1) toTheQueue ++ events queueDesk oneMore)
 full-started = after queue-started oneMore
-
--- the waiter that job 1 then is
-abbrev last : Waiter
-last = record { job = 1; ask = Read }
-
--- the first desk with job 1 among the waiters
-abbrev full : Desk
-full = step queueDesk oneMore .desk
-
--- a begin
-abbrev aBegin : Request
-aBegin = request 98 0 0
-
--- what is computed of these desks
-record Met : Type 0 where
-  -- job 1 is answered wait, and waits with 31 different jobs in its way
-  said : step queueDesk oneMore .said ≡ Wait 1
-  waits : IsWaiting full 5 last
-  ways : length (inWayOf full 1 5) ≡ 31
-  once : distinct (inWayOf full 1 5) ≡ true
-  -- when 32 commits, 31 are woken and 32 records written
-  woken : length (step full lastCommits .wakes) ≡ 31
-  written : length (events full lastCommits) ≡ 32
-  -- in the line 32 are open, 1 is live, and its chain has 32
-  opened : length (openAmong (λ j. isOpen (lineDesk .stat j)) (lineDesk .jobs)) ≡ 32
-  live : isLive (lineDesk .stat 1) ≡ true
-  chain : length (chainOf lineDesk 1) ≡ 32
-  -- the last number can be given, and the next is then one more
-  given : isOpen (step (freshDesk 4_294_967_295) aBegin .desk .stat 4_294_967_295) ≡ true
-  next : step (freshDesk 4_294_967_295) aBegin .desk .next ≡ 4_294_967_296
-  -- and the last cell can be read
-  cell : events (step (freshDesk 1) aBegin .desk) (request 114 1 63) ≡ Does (record { kind = a-read; job = 1; cell = 63 }) ∷ []
-
-met : Met
-unfolding recordsBy recordsOf ownRecords wentBy wakeRecords queueDesk lineDesk member put distinct needed recorded covers grants asked isFree isOpen isLive at idle freshDesk seated vacated openAmong every everyWaiter isEmpty agrees olderThanHolders olderThanWaiters without wants wokenFirst settle released refused withRow withStatus wake wakesAt wakesOf isWoken runAgain rowsAfter rule4 close sendBack grant queued rule1 rule2 rule3 ask retry begin stepCommit stepGiveUp stepRetry stepAsk stepBegin beginning stepBy step otherHolders aheadOf inWayOf younger youngestOf youngerThan onward chainBy chainOf
-met = record { said = refl; waits = refl; ways = refl; once = refl; woken = refl; written = refl; opened = refl; live = refl; chain = refl; given = refl; next = refl; cell = refl }
 
 -- all of those listed are in the way of job 1
 ways-of : (i : ℕ) → member i (inWayOf full 1 5) ≡ true → InWay (full .row 5) last i

@@ -5,9 +5,11 @@ use mathlib.Core.Bool.{true}
 use mathlib.Core.List.{List, [], _∷_, _++_}
 use lib.ListN.{length}
 use Rattle.terms.specs.declared.letters.Ask.{Ask}
+use Rattle.terms.specs.declared.letters.Ask.the-variants.{Read}
 use Rattle.terms.specs.declared.letters.Letter.the-variants.{Asks}
 use Rattle.terms.specs.declared.letters.Lettered.the-variants.{Known}
 use Rattle.terms.specs.Letters.{letterOf}
+use Rattle.conflict.specs.declared.action.Kind.the-variants.{Read as a-read}
 use Rattle.conflict.specs.declared.action.Action.{Action}
 use Rattle.conflict.specs.declared.action.Event.the-variants.{Does}
 use Rattle.conflict.specs.History.{History}
@@ -22,7 +24,8 @@ use Rattle.desk_rules.specs.Requests.{deskAfter}
 use Rattle.desk_rules.specs.Asked.{asker}
 use Rattle.desk_rules.specs.Waiting.{IsWaiting, AtMostInWay}
 use Rattle.desk_rules.specs.GetsItsCell.{AtMostWereInWay}
-use Rattle.desk_rules.specs.Chain.{chainOf}
+use Rattle.laws.specs.Lists.{distinct}
+use Rattle.desk_rules.specs.Chain.{inWayOf, chainOf}
 
 -- the bound holds with this number and with no smaller one: a promise with a larger number is weaker than need be, and one with a smaller is false
 abbrev pub Least : (ℕ → Type 0) → ℕ → Type 0
@@ -108,3 +111,35 @@ oneMore = request 114 1 5
 
 abbrev pub lastCommits : Request
 lastCommits = request 99 32 0
+
+-- the waiter that job 1 then is
+abbrev pub last : Waiter
+last = record { job = 1; ask = Read }
+
+-- the first desk with job 1 among the waiters
+abbrev pub full : Desk
+full = step queueDesk oneMore .desk
+
+-- a begin
+abbrev pub aBegin : Request
+aBegin = request 98 0 0
+
+-- what is computed of these desks
+pub record Met : Type 0 where
+  -- job 1 is answered wait, and waits with 31 different jobs in its way
+  pub said : step queueDesk oneMore .said ≡ Wait 1
+  pub waits : IsWaiting full 5 last
+  pub ways : length (inWayOf full 1 5) ≡ 31
+  pub once : distinct (inWayOf full 1 5) ≡ true
+  -- when 32 commits, 31 are woken and 32 records written
+  pub woken : length (step full lastCommits .wakes) ≡ 31
+  pub written : length (events full lastCommits) ≡ 32
+  -- in the line 32 are open, 1 is live, and its chain has 32
+  pub opened : length (openAmong (λ j. isOpen (lineDesk .stat j)) (lineDesk .jobs)) ≡ 32
+  pub live : isLive (lineDesk .stat 1) ≡ true
+  pub chain : length (chainOf lineDesk 1) ≡ 32
+  -- the last number can be given, and the next is then one more
+  pub given : isOpen (step (freshDesk 4_294_967_295) aBegin .desk .stat 4_294_967_295) ≡ true
+  pub next : step (freshDesk 4_294_967_295) aBegin .desk .next ≡ 4_294_967_296
+  -- and the last cell can be read
+  pub cell : events (step (freshDesk 1) aBegin .desk) (request 114 1 63) ≡ Does (record { kind = a-read; job = 1; cell = 63 }) ∷ []
