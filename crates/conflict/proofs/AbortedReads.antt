@@ -1,4 +1,4 @@
--- What Adya calls an aborted read is dirty; and a dirty read need not be one: a committed write in between leaves what is read, and does not cleanse (02, No. 2).
+-- What Adya calls an aborted read is dirty. A dirty read need not be an aborted one: a committed write in between overwrites the value, but the read stays dirty (02, No. 2).
 -- Assumes nothing.
 use Prim.Native.Nat.{ℕ, zero, suc, _≤_, _<_}
 use mathlib.Core.Path.{_≡_, refl, sym, ap, _∙_, subst, subst₂}
@@ -58,7 +58,7 @@ overwritten =
     ∷ Ends GiveUp 1
     ∷ []
 
--- NOT THE OTHER WAY: its read is dirty, by 1
+-- NOT THE OTHER WAY: the read in that history is dirty, with writer 1
 pub overwritten-dirty : DirtyRead overwritten 3 0 2 1
 unfolding changes commits isCommit ended marked isEnd
 overwritten-dirty = record {
@@ -118,7 +118,7 @@ stands-three = record {
   still = λ l. (omega arith, refl);
 }
 
--- and no read in it is an aborted one
+-- and no read in that history is an aborted one
 pub overwritten-not-aborted : (p q i j : ℕ) → AbortedRead overwritten p q i j → ⊥
 overwritten-not-aborted p q i j a =
     let r = only-read p (a .read) (a .read-line) (a .reads) in

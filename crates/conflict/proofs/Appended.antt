@@ -1,4 +1,4 @@
--- What a history of two parts has of each: lines, marks, ends of runs, and jobs that end for good.
+-- A history made of two parts: its lines, marks, ends of runs, and jobs that end for good, from those of each part.
 -- Assumes nothing.
 use Prim.Native.Nat.{ℕ}
 use mathlib.Core.Path.{_≡_, refl, sym, ap, _∙_}
@@ -23,14 +23,14 @@ line-append j [] g = refl
 line-append j (Does a ∷ h) g = ap (λ b. eqb (a .job) j || b) (line-append j h g) ∙ sym (or-assoc (eqb (a .job) j) (lineOf j h) (lineOf j g))
 line-append j (Ends m i ∷ h) g = ap (λ b. eqb i j || b) (line-append j h g) ∙ sym (or-assoc (eqb i j) (lineOf j h) (lineOf j g))
 
--- and so a mark
+-- and so does a mark
 pub marked-append : (f : Mark → Bool) (j : ℕ) (h g : History) → marked f j (h ++ g) ≡ (marked f j h || marked f j g)
 unfolding marked
 marked-append f j [] g = refl
 marked-append f j (Does a ∷ h) g = marked-append f j h g
 marked-append f j (Ends m i ∷ h) g = ap (λ b. (eqb i j && f m) || b) (marked-append f j h g) ∙ sym (or-assoc (eqb i j && f m) (marked f j h) (marked f j g))
 
--- a run has ended in the whole if it has in a part
+-- a run has ended in the whole if it has ended in one of the parts
 pub ended-append : (j : ℕ) (h g : History) → ended j (h ++ g) ≡ (ended j h || ended j g)
 unfolding ended
 ended-append j h g = marked-append isEnd j h g
@@ -42,7 +42,7 @@ last-is Commit = refl
 last-is GiveUp = refl
 last-is Back = refl
 
--- jobs end for good in the whole if they do in each part and none with a c or an a in the first has a line in the second
+-- jobs end for good in the whole if they do in each part and no job with a c or an a in the first has a line in the second
 pub ends-append : (h g : History) → endsForGood h ≡ true → endsForGood g ≡ true → ((j : ℕ) → marked isLast j h ≡ true → lineOf j g ≡ false) → endsForGood (h ++ g) ≡ true
 unfolding endsForGood marked
 ends-append [] g e d apart = d

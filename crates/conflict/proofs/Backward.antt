@@ -1,4 +1,4 @@
--- Swaps keep each job's actions and every edge, so each edge goes forward in a serial order, and a knot refutes that there is one (000, 18.2.2 and 18.2.3).
+-- Swaps keep each job's actions and every edge. So each edge goes forward in every serial order, and a schedule with a knot has no serial order (000, 18.2.2 and 18.2.3).
 -- Assumes nothing.
 use Prim.Native.Nat.{ℕ, _<_}
 use mathlib.Core.Path.{_≡_, refl, sym, ap, ap₂, _∙_}
@@ -107,11 +107,11 @@ order-forward s c =
       ahead = backward s c;
     }
 
--- a schedule is conflict-serializable exactly where there is an order in which every edge goes forward (000, 18.2.3)
+-- a schedule is conflict-serializable exactly if there is an order in which every edge goes forward (000, 18.2.3)
 pub decided : (s : Schedule) → ConflictSerializable s ↔ ((order : List ℕ) × Forward order s)
 decided s = (λ c. (c .order, order-forward s c), λ f. forward-serializable (f .0) s (f .1))
 
--- along edges that go forward every way goes forward
+-- if every edge goes forward, every path along edges does
 path-ahead : (order : List ℕ) (e : ℕ → ℕ → Bool) → ((i j : ℕ) → e i j ≡ true → pos order i < pos order j) → (i : ℕ) (js : List ℕ) (k : ℕ) → path e i js k ≡ true → pos order i < pos order k
 unfolding path
 path-ahead order e ahead i [] k h = ahead i k h

@@ -1,4 +1,4 @@
--- The book's own examples: Figure 18.8's swaps, the graph and the order of Examples 18.7 and 18.8, and the knot of Example 18.9. A is cell 0 and B cell 1.
+-- The book's own examples: the swaps of Figure 18.8, the graph and the order of Examples 18.7 and 18.8, and the knot of Example 18.9. A is cell 0 and B is cell 1.
 -- Assumes nothing.
 use Prim.Native.Nat.{ℕ, _<_}
 use mathlib.Core.Path.{_≡_, refl, sym}

@@ -1,4 +1,4 @@
--- Strictness of a history of two parts: each part is strict, and the second disturbs no action of the first whose run has not ended there.
+-- Strictness of a history made of two parts: each part is strict, and the second disturbs no action of the first whose run is still open.
 -- Assumes nothing.
 use Prim.Native.Nat.{ℕ}
 use mathlib.Core.Path.{_≡_, refl, sym, ap, ap₂, _∙_}
@@ -20,7 +20,7 @@ calm [] g = true
 calm (Does a ∷ h) g = (ended (a .job) h || undisturbed a g) && calm h g
 calm (Ends m i ∷ h) g = calm h g
 
--- until its run ends nothing of the first part disturbs an action, nor, if its run has not ended there, of the second
+-- nothing in the first part disturbs an action until its run ends; nor does anything in the second, if its run has not ended in the first
 pub undisturbed-append : (a : Action) (h g : History) → undisturbed a (h ++ g) ≡ (undisturbed a h && (ended (a .job) h || undisturbed a g))
 unfolding undisturbed ended marked isEnd
 undisturbed-append a [] g = refl
@@ -36,7 +36,7 @@ regroup true true s c t = refl
 regroup true false true c t = refl
 regroup true false false c t = refl
 
--- strict as a whole
+-- a history of two parts is strict exactly if both are and the second disturbs nothing of the first
 pub strict-append : (h g : History) → strict (h ++ g) ≡ ((strict h && calm h g) && strict g)
 unfolding strict calm
 strict-append [] g = refl
@@ -55,12 +55,12 @@ calm-mark (Does a ∷ h) m j =
     (calm-mark h m j)
 calm-mark (Ends n i ∷ h) m j = calm-mark h m j
 
--- a history with one more mark is strict as it was
+-- one more mark leaves a history as strict as it was
 pub strict-mark : (h : History) (m : Mark) (j : ℕ) → strict (h ++ Ends m j ∷ []) ≡ strict h
 unfolding strict
 strict-mark h m j = strict-append h (Ends m j ∷ []) ∙ and-true (strict h && calm h (Ends m j ∷ [])) ∙ ap (λ b. strict h && b) (calm-mark h m j) ∙ and-true (strict h)
 
--- a history with one more action is strict if it was and no open action of it is disturbed by that one
+-- a history with one more action is strict if it was before and that action disturbs no open action
 pub strict-action : (h : History) (b : Action) → strict (h ++ Does b ∷ []) ≡ (strict h && calm h (Does b ∷ []))
 unfolding strict undisturbed
 strict-action h b = strict-append h (Does b ∷ []) ∙ and-true (strict h && calm h (Does b ∷ []))

@@ -1,4 +1,4 @@
--- Sets of cells as bits: what joining and meeting two sets does to each cell, and the set of one cell.
+-- Sets of cells as bits: which cells the union and the intersection of two sets have, and the set of one cell.
 -- Assumes nothing.
 use Prim.Native.Nat.{ℕ, zero, suc, _+_, _-_, _*_, _/_, _%_, _^_, _≤_, _<_}
 use mathlib.Core.Path.{_≡_, refl, ap, _∙_}
@@ -51,12 +51,12 @@ low-or x y =
     let z : y % 2 ≡ 0 = omega (arith, eqb-false (y % 2) 1 g) in
     rw (f, g) (ne-eqb (bitOr x y % 2) 1 (λ e. omega (arith, rw (w, z) at (or-step x y))))))
 
--- a cell is in what two sets share where it is in both
+-- a cell is in the intersection of two sets exactly if it is in both
 pub in-both : (a b c : ℕ) → inSet (bitAnd a b) c ≡ (inSet a c && inSet b c)
 unfolding inSet
 in-both a b c = ap (λ n. eqb (n % 2) 1) (and-shr a b c) ∙ low-and (a / 2 ^ c) (b / 2 ^ c)
 
--- a cell is in two sets joined where it is in one of them
+-- a cell is in the union of two sets exactly if it is in one of them
 pub in-either : (a b c : ℕ) → inSet (bitOr a b) c ≡ (inSet a c || inSet b c)
 unfolding inSet
 in-either a b c = ap (λ n. eqb (n % 2) 1) (or-shr a b c) ∙ low-or (a / 2 ^ c) (b / 2 ^ c)
@@ -76,7 +76,7 @@ in-one k c =
     ap (λ n. 2 ^ n / 2 ^ c) q ∙ ap (λ n. n / 2 ^ c) (pow-add 2 (suc (k - c - 1)) c) ∙ shl-shr (2 ^ suc (k - c - 1)) c ∙ pow-suc 2 (k - c - 1) in
     ne-eqb (2 ^ k / 2 ^ c % 2) 1 (λ e. omega arith))))
 
--- what has one of two and of the same two each
+-- and distributes over or
 both-either : (a b c : Bool) → (a && (b || c)) ≡ ((a && b) || (a && c))
 both-either true b c = refl
 both-either false b c = refl
@@ -87,26 +87,26 @@ pub meeting-tells : (a b : Touched) (c : ℕ) →
 unfolding canConflict someKind actsOn agree
 meeting-tells a b c = simp (in-either, in-both, both-either, and-true, and-false, or-false)
 
--- a set with one cell more
+-- a set with one more cell
 pub cell-more : (set cell : ℕ) → cell < 64 → (c : ℕ) → inSet (bitOr set ((1 * 2 ^ cell) % 2 ^ 64)) c ≡ ((eqb cell c && ltb cell 64) || inSet set c)
 cell-more set cell h c =
     rw (shl-exact {a = 1} 1 cell 64 (omega arith) (omega arith), lt-ltb cell 64 h, in-either set (1 * 2 ^ cell) c, one-mul (2 ^ cell), in-one cell c, and-true (eqb cell c))
     (or-comm (inSet set c) (eqb cell c))
 
--- what is no cell changes nothing
+-- a number that is not a cell changes nothing
 pub cell-none : (set cell : ℕ) → 64 ≤ cell → (c : ℕ) → inSet set c ≡ ((eqb cell c && ltb cell 64) || inSet set c)
 cell-none set cell h c = rw (le-ltb cell 64 h, and-false (eqb cell c))
 
--- a bit looked at
+-- a cell is in a set exactly if its bit is set
 pub cell-there : (set cell : ℕ) → cell < 64 → eqb (bitAnd (set / 2 ^ cell) 1) 1 ≡ (ltb cell 64 && inSet set cell)
 unfolding inSet
 cell-there set cell h = rw (lt-ltb cell 64 h) (ap (λ n. eqb n 1) (and-mask (set / 2 ^ cell) 1))
 
--- what is no cell is in no set
+-- a number that is not a cell is in no set
 pub cell-nowhere : (set cell : ℕ) → 64 ≤ cell → false ≡ (ltb cell 64 && inSet set cell)
 cell-nowhere set cell h = rw (le-ltb cell 64 h)
 
--- sets with the same cells are the same, however many bits are looked at
+-- sets with the same cells are equal, however many bits are looked at
 same-set : (n a b : ℕ) → a ≤ n → b ≤ n → ((c : ℕ) → inSet a c ≡ inSet b c) → a ≡ b
 unfolding inSet
 same-set zero a b h g e = omega arith
@@ -122,7 +122,7 @@ same-set (suc n) a b h g e =
 pub same-cells : (a b : ℕ) → ((c : ℕ) → inSet a c ≡ inSet b c) → a ≡ b
 same-cells a b e = same-set (a + b) a b (omega arith) (omega arith) e
 
--- a test that some kind passes holds of some kind
+-- if one kind passes a test, some kind does
 some-kind : (f : Kind → Bool) (k : Kind) → f k ≡ true → someKind f ≡ true
 unfolding someKind
 some-kind f Read t = rw t

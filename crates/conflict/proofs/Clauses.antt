@@ -1,4 +1,4 @@
--- The definitions of schedules and of what is recorded, clause by clause: what crates above use of them in place of the definitions (01, The judge's rules).
+-- The definitions of schedules and of what is recorded, clause by clause: crates above use these in place of the definitions (01, The judge's rules).
 -- Assumes nothing.
 use Prim.Native.Nat.{ℕ}
 use mathlib.Core.Path.{_≡_, refl}
@@ -13,22 +13,22 @@ use Rattle.conflict.specs.Schedule.{Schedule, conflicts, keep, touches, 
 use Rattle.conflict.specs.Dirty.{changes}
 use Rattle.conflict.specs.NumberOrder.{reads}
 
--- of a read a history records a read
+-- for a read a history records a read
 pub records-read : recorded asks-read ≡ Read
 unfolding recorded
 records-read = refl
 
--- of a write a write
+-- for a write a write
 pub records-write : recorded asks-write ≡ Write
 unfolding recorded
 records-write = refl
 
--- of a read with intent to write a read (02, No. 1)
+-- for a read with intent to write a read (02, No. 1)
 pub records-update : recorded asks-update ≡ Read
 unfolding recorded
 records-update = refl
 
--- and of an increment an increment
+-- and for an increment an increment
 pub records-increment : recorded asks-increment ≡ Increment
 unfolding recorded
 records-increment = refl
@@ -48,12 +48,12 @@ pub touches-none : (a : Action) (j : ℕ) → touches a j [] ≡ false
 unfolding touches
 touches-none a j = refl
 
--- where job j is the first of a longer one, its action does, or a later one
+-- if the first action is job j's, it conflicts with a, or a later one does
 pub touches-own : (a : Action) (j : ℕ) (b : Action) (s : Schedule) → eqb (b .job) j ≡ true → touches a j (b ∷ s) ≡ (conflicts a b || touches a j s)
 unfolding touches
 touches-own a j b s t = rw t
 
--- where another is, a later one does
+-- if the first action is another job's, only a later one can
 pub touches-past : (a : Action) (j : ℕ) (b : Action) (s : Schedule) → eqb (b .job) j ≡ false → touches a j (b ∷ s) ≡ touches a j s
 unfolding touches
 touches-past a j b s f = rw f

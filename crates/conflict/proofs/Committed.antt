@@ -1,4 +1,4 @@
--- The committed part: the handier form is the paper's where jobs end for good, its jobs are those of the order of commits, and that order names none twice.
+-- The committed part: if jobs end for good, its handier form equals the paper's, its jobs are those in the order of commits, and that order names no job twice.
 -- Assumes nothing.
 use Prim.Native.Nat.{ℕ}
 use mathlib.Core.Path.{_≡_, refl, sym, ap, ap₂, _∙_}
@@ -18,7 +18,7 @@ use Rattle.conflict.specs.History.{History, isCommit, isBack, marked, pa
 use Rattle.conflict.proofs.CommittedJobs.{names-wider}
 use Rattle.conflict.proofs.Marks.{unmarked, listed, commits-marked, commits-is, ended-alone, ends-rest}
 
--- what has gone by of the whole has no c of a job that still has lines: such a job has a c in the whole exactly if it has one in the rest
+-- no job that still has lines has a c among the lines gone by: such a job has a c in the whole exactly if it has one in the rest
 abbrev Ahead : History → History → Type 0
 Ahead whole h = (j : ℕ) → lineOf j h ≡ true → marked isCommit j whole ≡ marked isCommit j h
 
@@ -51,7 +51,7 @@ part-is whole (Does a ∷ h) e ahead =
     (part-is whole h e (λ j l. ahead j (or-second (eqb (a .job) j) (lineOf j h) l)))
 part-is whole (Ends m i ∷ h) e ahead = part-is whole h (ends-rest m i h e) (past-mark whole m i h e ahead)
 
--- the actions whose run ends with a commit are the paper's committed part
+-- if jobs end for good, the actions whose run ends with a commit are the paper's committed part
 pub committed-is : (h : History) → endsForGood h ≡ true → committedPart h ≡ committed h
 unfolding committedPart
 committed-is h e = part-is h h e (λ j l. refl)
@@ -67,7 +67,7 @@ committed-has (Does a ∷ h) =
 committed-has (Ends m i ∷ h) =
     by-test (isCommit m) (λ t. rw t (names-wider (commitOrder h) (i ∷ commitOrder h) (committed h) (λ j m. member-more i (commitOrder h) j m) (committed-has h))) (λ f. rw f (committed-has h))
 
--- where jobs end for good, none commits twice
+-- if jobs end for good, no job commits twice
 pub commit-order-once : (h : History) → endsForGood h ≡ true → distinct (commitOrder h) ≡ true
 unfolding distinct commitOrder endsForGood put
 commit-order-once [] e = refl

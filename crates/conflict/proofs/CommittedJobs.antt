@@ -1,4 +1,4 @@
--- The jobs of the committed part are jobs with a c, and a list that names more jobs names those of a schedule too.
+-- The jobs of the committed part are jobs with a c; and a list that has all jobs of a list that names a schedule's jobs names them too.
 -- Assumes nothing.
 use Prim.Native.Nat.{ℕ}
 use mathlib.Core.Path.{_≡_, refl}

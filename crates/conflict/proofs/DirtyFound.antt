@@ -1,4 +1,4 @@
--- The test finds the first dirty read, with the latest action that makes it so, exactly where the history is dirty as the request words it; and there is no second (02, No. 2).
+-- The test finds the first dirty read, with the latest action that makes it dirty, exactly if the history is dirty in the request's words. There is only one such answer (02, No. 2).
 -- Assumes nothing.
 use Prim.Native.Nat.{ℕ, suc, _≤_, _<_}
 use mathlib.Core.Path.{_≡_, refl, sym, ap, _∙_, subst}
@@ -62,12 +62,12 @@ module _ (h : History) (n : ℕ) where
 
   -- an action that stands at place n
   module _ (seen : History) (a : Action) (rest : History) (l : inOrder seen (Does a ∷ rest) ≡ h) (s : length seen ≡ n) where
-    -- what looking back from it finds is all that there is
+    -- looking back from the read finds every action that makes it dirty
     from-back : (reader : ℕ) (o : Option ℕ) → Back h n (length seen) reader o → Here reader o
     from-back reader none b = λ x i j d. omega (arith, b x i j d, write-ahead d)
     from-back reader (some writer) b = subst (λ m. Latest h n m reader writer) s b
 
-    -- where it is no read in a run that commits nothing makes it dirty
+    -- if it is not a read in a run that commits, nothing makes it dirty
     unread : (not (changes (a .kind)) && commits (a .job) rest) ≡ false → (x i j : ℕ) → DirtyRead h n x i j → ⊥
     unread f x i j d =
         let r = read-parts d (inOrder seen []) (Does a) rest (sym l ∙ order-append seen (Does a ∷ rest)) (omega (arith, order-length seen [])) in
@@ -76,7 +76,7 @@ module _ (h : History) (n : ℕ) where
         let done : commits (a .job) rest ≡ true = subst (λ z. commits (a .job) z ≡ true) (r .1) (subst (λ z. commits (z .job) (d .after) ≡ true) e (read-commits d)) in
         not-both (and-both (not (changes (a .kind))) (commits (a .job) rest) (ap not keeps) done) f
 
-    -- the writer told of it is its own
+    -- the writer told for the read is the right one
     told : Here (a .job) (writerOf seen a rest)
     unfolding writerOf
     told =
@@ -86,7 +86,7 @@ module _ (h : History) (n : ℕ) where
         (looked h n a rest (not-true (changes (a .kind)) (and-first (not (changes (a .kind))) (commits (a .job) rest) t)) (and-second (not (changes (a .kind))) (commits (a .job) rest) t) seen [] l (omega arith))))
         (λ f. rw f (unread f))
 
-  -- a mark is no read
+  -- a mark is not a read
   mark-unread : (seen : History) (e : Event) (rest : History) → inOrder seen (e ∷ rest) ≡ h → length seen ≡ n → ((a : Action) → Does a ≡ e → ⊥) → (x i j : ℕ) → DirtyRead h n x i j → ⊥
   mark-unread seen e rest l s no′ x i j d =
       no′ (d .read) (read-parts d (inOrder seen []) e rest (sym l ∙ order-append seen (e ∷ rest)) (omega (arith, order-length seen [])) .0)
@@ -99,7 +99,7 @@ found h seen (Does a ∷ rest) l = from-line h (length seen) (a .job) (writerOf 
 found h seen (Ends m k ∷ rest) l =
     from-later h (length seen) (mark-unread h (length seen) seen (Ends m k) rest l refl (λ a e. let z : _≡_ {A = ℕ} 0 1 = cc in omega arith)) (dirtyFrom (Ends m k ∷ seen) rest) (found h (Ends m k ∷ seen) rest l)
 
--- what is found of all lines is the first
+-- what is found over all lines is the first dirty read
 from-first : (h : History) (i j : ℕ) → FirstFrom h 0 i j → FirstDirty h i j
 from-first h i j f = record {
   read-at = f .at;
@@ -128,12 +128,12 @@ first-dirty-one h i j k l f g =
     one-pair h (g .read-at) (g .write-at) i j k l (subst (λ y. DirtyRead h (g .read-at) y i j) q d) (g .dirty-read)
 
 module _ (h : History) where
-  -- what the test finds of a history is the first, or there is none
+  -- the test finds the first dirty read of a history, or there is none
   by-found : (o : Option ReadOf) → dirtyOf h ≡ o → From h 0 o
   unfolding dirtyOf inOrder
   by-found o e = subst (From h 0) e (found h [] h refl)
 
-  -- what it tells is the first dirty read, where it tells one
+  -- if the test tells a dirty read, it is the first
   told-first : (i j : ℕ) → dirtyOf h ≡ some (record { reader = i; writer = j }) → FirstDirty h i j
   told-first i j e = from-first h i j (by-found (some (record { reader = i; writer = j })) e)
 
@@ -150,7 +150,7 @@ module _ (h : History) where
   by-told none e one′ two′ = one′ e
   by-told (some r) e one′ two′ = two′ (r .reader) (r .writer) e
 
-  -- THE TEST: it tells reader and writer of the first dirty read exactly
+  -- THE TEST: it tells reader and writer exactly if they are those of the first dirty read
   pub dirty-exactly : (i j : ℕ) → FirstDirty h i j ↔ (dirtyOf h ≡ some (record { reader = i; writer = j }))
   dirty-exactly i j = (
     λ f. by-told (dirtyOf h) refl (λ n. absurd (told-none n (first-is-dirty i j f)))
@@ -158,7 +158,7 @@ module _ (h : History) where
     told-first i j,
   )
 
-  -- and nothing exactly where the history is not dirty
+  -- and it tells nothing exactly if the history is not dirty
   pub clean-exactly : (IsDirty h → ⊥) ↔ (dirtyOf h ≡ none)
   clean-exactly = (
     λ c. by-told (dirtyOf h) refl (λ n. n) (λ i j e. absurd (c (first-is-dirty i j (told-first i j e)))),

@@ -1,4 +1,4 @@
--- A dirty read by its two places: what a history must be there, and what makes one (02, No. 2).
+-- A dirty read by its two places in the history: what must stand there, and what makes a read dirty (02, No. 2).
 -- Assumes nothing.
 use Prim.Native.Nat.{ℕ, _+_, _<_}
 use mathlib.Core.Path.{_≡_, refl, sym, _∙_}
@@ -19,7 +19,7 @@ use Rattle.conflict.specs.History.{History, commits}
 use Rattle.conflict.specs.Runs.{ended}
 use Rattle.conflict.specs.Dirty.{changes, DirtyRead, spoils}
 
--- a list is parted at one place in one way
+-- a list splits at a given place in only one way
 pub parted-once : {A : Type 0} (x y : List A) (a b : A) (s t : List A) → x ++ a ∷ s ≡ y ++ b ∷ t → length x ≡ length y → (x ≡ y) × (a ≡ b) × (s ≡ t)
 parted-once [] [] a b s t e l = (refl, cc, cc)
 parted-once [] (d ∷ y) a b s t e l = absurd (omega arith)
@@ -31,7 +31,7 @@ parted-once (c ∷ x) (d ∷ y) a b s t e l =
     let two′ : x ≡ y = r .0 in
     (cc, r .1, r .2)
 
--- a read does not change a cell, and what does not is a read
+-- a read does not change a cell, and an action that does not change a cell is a read
 pub read-keeps : (k : Kind) → k ≡ Read → changes k ≡ false
 unfolding changes
 read-keeps k e = rw e
@@ -43,7 +43,7 @@ keeps-read Write e = not-both refl e
 keeps-read Increment e = not-both refl e
 
 module _ {h : History} {p q i j : ℕ} (d : DirtyRead h p q i j) where
-  -- the place of the read stands in the history, and behind that of the write
+  -- the place of the read is within the history, and after that of the write
   pub read-within : p < length h
   read-within =
       rw (d .lines)
@@ -60,7 +60,7 @@ module _ {h : History} {p q i j : ℕ} (d : DirtyRead h p q i j) where
       (omega (arith, length-append (d .before) (Does (d .write) ∷ d .between), d .read-place)) in
       (r .1, r .2)
 
-  -- what stands at both places, between them and behind
+  -- what stands at both places, between them and after them
   pub parts : (ahead : History) (e : Event) (between : History) (f : Event) (after : History) → h ≡ ahead ++ e ∷ (between ++ f ∷ after) → length ahead ≡ q → p ≡ q + 1 + length between →
       (Does (d .write) ≡ e) × (d .between ≡ between) × (Does (d .read) ≡ f) × (d .after ≡ after)
   parts ahead e between f after l s t =
@@ -69,7 +69,7 @@ module _ {h : History} {p q i j : ℕ} (d : DirtyRead h p q i j) where
       let u = parted-once (d .between) between (Does (d .read)) f (d .after) after (r .2) (omega (arith, d .read-place, d .write-place)) in
       (r .1, u .0, u .1, u .2)
 
-  -- its write makes it dirty by the test
+  -- the write makes the read dirty by the test
   pub write-spoils : spoils (d .write) (d .between) (d .read) (d .after) ≡ true
   unfolding spoils
   write-spoils =
@@ -86,7 +86,7 @@ module _ {h : History} {p q i j : ℕ} (d : DirtyRead h p q i j) where
   pub read-commits : commits (d .read .job) (d .after) ≡ true
   read-commits = rw (d .reads-by) (d .reader-commits)
 
--- an action that makes a read dirty by the test does
+-- an action that makes a read dirty by the test makes a dirty read
 pub spoils-read : (h : History) (p q : ℕ) (before : History) (a : Action) (between : History) (read : Action) (after : History) → h ≡ before ++ Does a ∷ between ++ Does read ∷ after → q ≡ length before → p ≡ length before + 1 + length between →
     spoils a between read after ≡ true → changes (read .kind) ≡ false → commits (read .job) after ≡ true → DirtyRead h p q (read .job) (a .job)
 unfolding spoils

@@ -1,4 +1,4 @@
--- A dirty read by runs is a dirty read as the request words it, and the other way round; so the first one and its latest writer are the same (02, No. 2).
+-- A dirty read by runs is a dirty read in the request's words, and the other way round. So both accounts have the same first dirty read and the same latest writer (02, No. 2).
 -- Assumes nothing.
 use Prim.Native.Nat.{ℕ, suc, _+_, _-_, _<_}
 use mathlib.Core.Path.{_≡_, refl, sym, ap, _∙_}
@@ -32,7 +32,7 @@ changes-writes Read e = not-both e refl
 changes-writes Write e = inl refl
 changes-writes Increment e = inr refl
 
--- what stands between two parts stands in its line
+-- the event between two parts is the line at that place
 mid-line : (h u : History) (x : Event) (l : History) (p : ℕ) → h ≡ u ++ x ∷ l → length u ≡ p → LineAt h p x
 mid-line h u x l p q s = (omega (arith, s, ap length q, length-append u (x ∷ l)), ap (λ g. getD g p x) q ∙ getD-at u x l x p s)
 

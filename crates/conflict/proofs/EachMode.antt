@@ -1,4 +1,4 @@
--- A law of modes is proved by trying it: a test that holds when it is tried on every mode, kind or ask holds of all of them.
+-- A law of modes is proved by trying it: a test that passes for every mode, kind or request holds for all of them.
 -- Assumes nothing.
 use mathlib.Core.Path.{_≡_, refl}
 use mathlib.Core.Bool.{Bool, true, false, not, _&&_}
@@ -11,15 +11,15 @@ use Rattle.conflict.specs.declared.action.Kind.the-variants.{Read, Write
 use Rattle.conflict.specs.declared.modes.Mode.{Mode}
 use Rattle.conflict.specs.declared.modes.Mode.the-variants.{Free, S, X, I, U}
 
--- the test holds of every mode
+-- the test passes for every mode
 abbrev pub eachMode : (Mode → Bool) → Bool
 eachMode f = f Free && (f S && (f X && (f I && f U)))
 
--- of every kind
+-- for every kind
 abbrev pub eachKind : (Kind → Bool) → Bool
 eachKind f = f Read && (f Write && f Increment)
 
--- of everything that can be asked
+-- for every request
 abbrev pub eachAsk : (Ask → Bool) → Bool
 eachAsk f = f asks-read && (f asks-write && (f asks-increment && f asks-update))
 
@@ -31,7 +31,7 @@ implies a b = pick a b true
 abbrev pub alike : Bool → Bool → Bool
 alike a b = pick a b (not b)
 
--- so it holds of any mode
+-- so it holds for any mode
 pub of-modes : (f : Mode → Bool) → eachMode f ≡ true → (m : Mode) → f m ≡ true
 of-modes f h Free = and-first (f Free) _ h
 of-modes f h S = and-first (f S) _ (and-second (f Free) _ h)
@@ -39,28 +39,28 @@ of-modes f h X = and-first (f X) _ (and-second (f S) _ (and-second (f Free) _ h)
 of-modes f h I = and-first (f I) _ (and-second (f X) _ (and-second (f S) _ (and-second (f Free) _ h)))
 of-modes f h U = and-second (f I) _ (and-second (f X) _ (and-second (f S) _ (and-second (f Free) _ h)))
 
--- of any kind
+-- for any kind
 pub of-kinds : (f : Kind → Bool) → eachKind f ≡ true → (k : Kind) → f k ≡ true
 of-kinds f h Read = and-first (f Read) _ h
 of-kinds f h Write = and-first (f Write) _ (and-second (f Read) _ h)
 of-kinds f h Increment = and-second (f Write) _ (and-second (f Read) _ h)
 
--- of anything asked
+-- for any request
 pub of-asks : (f : Ask → Bool) → eachAsk f ≡ true → (a : Ask) → f a ≡ true
 of-asks f h asks-read = and-first (f asks-read) _ h
 of-asks f h asks-write = and-first (f asks-write) _ (and-second (f asks-read) _ h)
 of-asks f h asks-increment = and-first (f asks-increment) _ (and-second (f asks-write) _ (and-second (f asks-read) _ h))
 of-asks f h asks-update = and-second (f asks-increment) _ (and-second (f asks-write) _ (and-second (f asks-read) _ h))
 
--- of any two modes
+-- for any two modes
 pub of-two : (f : Mode → Mode → Bool) → eachMode (λ m. eachMode (f m)) ≡ true → (m n : Mode) → f m n ≡ true
 of-two f h m = of-modes (f m) (of-modes (λ m. eachMode (f m)) h m)
 
--- of any three
+-- for any three
 pub of-three : (f : Mode → Mode → Mode → Bool) → eachMode (λ m. eachMode (λ n. eachMode (f m n))) ≡ true → (m n o : Mode) → f m n o ≡ true
 of-three f h m = of-two (f m) (of-modes (λ m. eachMode (λ n. eachMode (f m n))) h m)
 
--- what follows wherever something holds follows where it does
+-- if one test implies another and the first holds, the second holds
 pub follows : {a b : Bool} → implies a b ≡ true → a ≡ true → b ≡ true
 follows h g = rw g at h
 

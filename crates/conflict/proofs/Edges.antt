@@ -22,7 +22,7 @@ pub touches-later : (a : Action) (j : ℕ) (b : Action) (s : Schedule) → touch
 unfolding touches
 touches-later a j b s h = or-second (eqb (b .job) j && conflicts a b) (touches a j s) h
 
--- and in no other way
+-- and there is no other way
 pub touches-cases : {P : Type 0} (a : Action) (j : ℕ) (b : Action) (s : Schedule) → touches a j (b ∷ s) ≡ true → (eqb (b .job) j ≡ true → conflicts a b ≡ true → P) → (touches a j s ≡ true → P) → P
 unfolding touches
 touches-cases a j b s h next later′ =

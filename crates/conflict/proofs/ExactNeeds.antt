@@ -1,4 +1,4 @@
--- The modes by their names: what each request needs, what covers it, what a promotion asks for, and what is told of it in a history (01, The desk's rules; 01, rule 2; 02, No. 1).
+-- The modes by their names: what each request needs, what covers it, what a promotion asks for, and what a history records of it (01, The desk's rules; 01, rule 2; 02, No. 1).
 -- Assumes nothing.
 use mathlib.Core.Path.{_≡_, refl, sym, _∙_}
 use mathlib.Core.Logic.{_↔_, _⊎_, inl, inr, ⊎-elim}
@@ -36,7 +36,7 @@ u-covers a = (only-u-covers a, ⊎-elim (λ e. rw e) (λ e. rw e))
 pub x-covers : (a : Ask) → covers X (needed a) ≡ true
 x-covers a = covers-all (needed a)
 
--- a held mode that does not cover what is asked becomes what the names say
+-- a held mode that does not cover the request becomes the mode named
 becomes-asked : (held : Mode) (a : Ask) → isFree held ≡ false → covers held (needed a) ≡ false → Becomes held a (asked held (needed a))
 unfolding asked covers needed isFree
 becomes-asked Free a f n = not-both refl f
@@ -57,7 +57,7 @@ becomes-asked U Write f n = u-write
 becomes-asked U Increment f n = u-increment
 becomes-asked U Update f n = not-both refl n
 
--- and what the names say is what is asked for where a held mode does not cover the need
+-- and the mode named is the one asked for, if the held mode does not cover the need
 asked-becomes : {held new : Mode} {a : Ask} → Becomes held a new → (isFree held ≡ false) × (covers held (needed a) ≡ false) × (new ≡ asked held (needed a))
 unfolding asked covers needed isFree
 asked-becomes s-write = (refl, refl, refl)
@@ -69,15 +69,15 @@ asked-becomes i-update = (refl, refl, refl)
 asked-becomes u-write = (refl, refl, refl)
 asked-becomes u-increment = (refl, refl, refl)
 
--- a promotion asks for exactly what the names say: S with u for U, and every other for X (02, No. 1)
+-- a promotion asks for exactly the mode named: U for S with u, and X for every other (02, No. 1)
 pub promotion-asks : (held new : Mode) (a : Ask) → Becomes held a new ↔ (isFree held ≡ false) × (covers held (needed a) ≡ false) × (new ≡ asked held (needed a))
 promotion-asks held new a = (asked-becomes, λ h. rw (h .2) (becomes-asked held a (h .0) (h .1)))
 
--- so a held mode becomes one mode by what is asked
+-- so a held mode and a request fix the mode it becomes
 pub becomes-one : {held new other : Mode} {a : Ask} → Becomes held a new → Becomes held a other → new ≡ other
 becomes-one p q = asked-becomes p .2 ∙ sym (asked-becomes q .2)
 
--- a promotion to X is granted next to another job exactly where that one holds nothing: "no other holder" of rule 2 is this case
+-- a promotion to X is granted beside another job exactly if that job holds nothing: this is "no other holder" of rule 2
 pub promotion-alone : (other : Mode) → grants other X ≡ isFree other
 unfolding grants isFree
 promotion-alone Free = refl
@@ -95,7 +95,7 @@ only-to-u X h = not-both h refl
 only-to-u I h = not-both h refl
 only-to-u U h = not-both h refl
 
--- a promotion to U is granted next to another job exactly where that one holds nothing or S (02, No. 1)
+-- a promotion to U is granted beside another job exactly if that job holds nothing or S (02, No. 1)
 pub promotion-to-u : (other : Mode) → grants other U ≡ true ↔ (other ≡ Free) ⊎ (other ≡ S)
 unfolding grants
 promotion-to-u other = (only-to-u other, ⊎-elim (λ e. rw e) (λ e. rw e))
@@ -123,7 +123,7 @@ agrees-by a b = equal _ _ (of-asks (test a) (of-asks (λ a. eachAsk (test a)) re
     test : Ask → Ask → Bool
     test a b = alike (agree (recorded a) (recorded b)) (beside (needed a) (needed b) || (intends a && intends b))
 
--- two actions agree in a history exactly where their needs may be held together, or both are reads with intent, which the desk keeps apart: one account of conflicts for desk and judge (01, The judge's rules; 02, No. 1)
+-- two actions agree in a history exactly if their needs may be held together, or both are reads with intent to write, which the desk keeps apart: one account of conflicts for desk and judge (01, The judge's rules; 02, No. 1)
 pub needs-agree : (a b : Ask) → agree (recorded a) (recorded b) ≡ true ↔ (beside (needed a) (needed b) ≡ true) ⊎ ((a ≡ Update) × (b ≡ Update))
 needs-agree a b = (λ h. or-either (beside (needed a) (needed b)) (intends a && intends b) (sym (agrees-by a b) ∙ h) inl both, ⊎-elim (λ h. agrees-by a b ∙ rw h) reads)
   where

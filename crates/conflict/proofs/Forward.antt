@@ -28,7 +28,7 @@ goes-behind j a (b ∷ s) t f n =
     (λ e. rw e (after (here (λ q. eqb-false (a .job) j f (q ∙ eqb-true (b .job) j e)) (rw e at first)) (equivalent-later (goes-behind j a s t f rest))))
     (λ g. rw g (goes-behind j a s t f rest))
 
--- a job that no edge enters goes to the front, its actions in their order, and the others behind it in theirs
+-- a job that no edge enters can move to the front: its actions keep their order, and so do the others behind it
 pub to-front : (j : ℕ) (s : Schedule) → ((i : ℕ) → edge s i j ≡ false) → Equivalent s (own j s ++ others j s)
 unfolding own others keep edge
 to-front j [] n = done
@@ -47,7 +47,7 @@ touches-others j k a (b ∷ s) h =
     (λ f. touches-cases a k b (others j s) (rw f at h) (λ m c. touches-here a k b s m c)
     (λ l. touches-later a k b s (touches-others j k a s l)))
 
--- an edge that is left without job j is an edge of the whole, and none of j's
+-- an edge of the schedule without job j is an edge of the whole, and does not touch j
 pub edge-others : (j : ℕ) (s : Schedule) (i k : ℕ) → edge (others j s) i k ≡ true → (edge s i k ≡ true) × (eqb j i ≡ false)
 unfolding edge others keep
 edge-others j [] i k h = not-both h refl
@@ -57,7 +57,7 @@ edge-others j (a ∷ s) i k h =
     (λ m t. (edge-here a s i k m (touches-others j k a s t), same-sym j i ∙ (rw (eqb-true (a .job) i m) at f)))
     (λ l. let r = edge-others j s i k l in (edge-later a s i k (r .0), r .1)))
 
--- the rest of the order goes forward for the others
+-- the rest of the order is forward for the other jobs
 pub forward-rest : (j : ℕ) (order : List ℕ) (s : Schedule) → Forward (j ∷ order) s → Forward order (others j s)
 forward-rest j order s f =
     record {

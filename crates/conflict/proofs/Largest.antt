@@ -1,4 +1,4 @@
--- The largest job number that has acted on a cell: one event more, two histories joined, and that it is what it is called, with no second (02, No. 6).
+-- The largest job number that has acted on a cell: with one more event, over two joined histories, and that it is the only number that fits its description (02, No. 6).
 -- Crates above use these laws in place of the definitions.
 -- Assumes nothing.
 use Prim.Native.Nat.{ℕ, _≤_}
@@ -22,12 +22,12 @@ use Rattle.conflict.specs.History.{History}
 use Rattle.conflict.specs.NumberOrder.{largest, HasActed, IsLargest}
 
 module _ (f : Kind → Bool) (c : ℕ) where
-  -- in an empty history nobody has acted
+  -- in an empty history no job has acted
   pub largest-none : largest f c [] ≡ 0
   unfolding largest
   largest-none = refl
 
-  -- an action in front counts where it is on the cell and of such a kind
+  -- an action in front counts if it is on the cell and of such a kind
   pub largest-does : (a : Action) (h : History) → largest f c (Does a ∷ h) ≡ pick (eqb (a .cell) c && f (a .kind)) (larger (a .job) (largest f c h)) (largest f c h)
   unfolding largest
   largest-does a h = refl
@@ -37,7 +37,7 @@ module _ (f : Kind → Bool) (c : ℕ) where
   unfolding largest
   largest-ends m j h = refl
 
-  -- of two histories, one behind the other, it is the larger of the two
+  -- over two histories, one after the other, it is the larger of the two
   pub largest-append : (h g : History) → largest f c (h ++ g) ≡ larger (largest f c h) (largest f c g)
   unfolding largest
   largest-append [] g = sym (larger-is-second 0 (largest f c g) (omega arith))
@@ -47,16 +47,16 @@ module _ (f : Kind → Bool) (c : ℕ) where
       (λ n. rw n (largest-append h g))
   largest-append (Ends m j ∷ h) g = largest-append h g
 
-  -- nothing lowers it
+  -- no event lowers it
   pub largest-grows : (h g : History) → largest f c h ≤ largest f c (h ++ g)
   largest-grows h g = omega (arith, largest-append h g, larger-first (largest f c h) (largest f c g))
 
-  -- a mark behind changes nothing of it
+  -- a mark at the end does not change it
   pub largest-then-ends : (h : History) (m : Mark) (j : ℕ) → largest f c (h ++ Ends m j ∷ []) ≡ largest f c h
   unfolding largest
   largest-then-ends h m j = largest-append h (Ends m j ∷ []) ∙ larger-is-first (largest f c h) 0 (omega arith)
 
-  -- nor does an action behind that is on another cell, or of another kind
+  -- nor does an action at the end that is on another cell, or of another kind
   pub largest-then-other : (h : History) (a : Action) → (eqb (a .cell) c && f (a .kind)) ≡ false → largest f c (h ++ Does a ∷ []) ≡ largest f c h
   unfolding largest
   largest-then-other h a n = largest-append h (Does a ∷ []) ∙ rw n (larger-is-first (largest f c h) 0 (omega arith))
@@ -66,7 +66,7 @@ module _ (f : Kind → Bool) (c : ℕ) where
   unfolding largest
   largest-then-does h a t = largest-append h (Does a ∷ []) ∙ rw t (ap (larger (largest f c h)) (larger-is-first (a .job) 0 (omega arith)))
 
-  -- nobody who has acted so has a larger number
+  -- no job that has acted so has a larger number
   pub largest-most : (h : History) (k : ℕ) → HasActed f c h k → k ≤ largest f c h
   unfolding largest
   largest-most h k d =
@@ -76,17 +76,17 @@ module _ (f : Kind → Bool) (c : ℕ) where
       ap (largest f c) (d .lines) ∙ largest-append (d .before) (Does (d .act) ∷ d .after) in
       omega (arith, d .by-job, larger-first (d .act .job) (largest f c (d .after)), larger-second (largest f c (d .before)) (largest f c (Does (d .act) ∷ d .after)))
 
-  -- the same of an action where it stands
+  -- the same for an action at its place in the history
   pub largest-over : (h before : History) (a : Action) (after : History) → h ≡ before ++ Does a ∷ after → a .cell ≡ c → f (a .kind) ≡ true → a .job ≤ largest f c h
   largest-over h before a after e on′ of′ =
       largest-most h (a .job) (record { before = before; act = a; after = after; lines = e; on-cell = on′; of-kind = of′; by-job = refl })
 
-  -- who has acted so has acted so with one more event in front
+  -- a job that has acted so still has with one more event in front
   acted-later : (e : Event) (h : History) (n : ℕ) → HasActed f c h n → HasActed f c (e ∷ h) n
   acted-later e h n d =
       record { before = e ∷ d .before; act = d .act; after = d .after; lines = ap (λ g. e ∷ g) (d .lines); on-cell = d .on-cell; of-kind = d .of-kind; by-job = d .by-job }
 
-  -- what is 0 or has acted so is so with one more event in front
+  -- a number that is 0 or has acted so still is or has with one more event in front
   attained-later : (e : Event) (h : History) (n : ℕ) → (n ≡ 0) ⊎ HasActed f c h n → (n ≡ 0) ⊎ HasActed f c (e ∷ h) n
   attained-later e h n (inl z) = inl z
   attained-later e h n (inr d) = inr (acted-later e h n d)
@@ -104,7 +104,7 @@ module _ (f : Kind → Bool) (c : ℕ) where
       (λ n. rw n rest)
   largest-attained (Ends m j ∷ h) = attained-later (Ends m j) h (largest f c h) (largest-attained h)
 
-  -- it is what it is called, and there is no second such number
+  -- it fits the description of the largest, and no second number does
   pub largest-exactly : (h : History) (n : ℕ) → IsLargest f c h n ↔ (largest f c h ≡ n)
   largest-exactly h n = (
     λ l.

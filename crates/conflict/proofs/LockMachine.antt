@@ -1,4 +1,4 @@
--- The histories of the lock machine are strict: nothing is released before the run ends, so what a job did keeps out all that conflicts with it until then.
+-- The histories of the lock machine are strict: nothing is released before the run ends, so until then a job's locks keep out every action that conflicts with its own.
 -- Assumes nothing.
 use Prim.Native.Nat.{ℕ}
 use mathlib.Core.Path.{_≡_, refl, sym, _∙_}
@@ -29,7 +29,7 @@ held t [] = true
 held t (Does a ∷ h) = (ended (a .job) h || allows t a) && held t h
 held t (Ends m i ∷ h) = held t h
 
--- what holds at every table that the machine comes to, and of the history up to it
+-- what holds for every table that the machine reaches, with the history up to it
 pub record Kept (t : Table) (h : History) : Type 0 where
   pub together : Together t
   pub under : held t h ≡ true
@@ -53,7 +53,7 @@ not-ended i h m j n q =
     let last : ended i (Ends m j ∷ []) ≡ false = nor-second (ended i h) (ended i (Ends m j ∷ [])) (sym (ended-append i h (Ends m j ∷ [])) ∙ n) in
     not-both refl (rw (q, same-refl) at last)
 
--- a table in which nobody holds less still allows every action whose run has not ended
+-- a table in which no job holds less still allows every action whose run has not ended
 held-grows : (t u : Table) (h : History) → ((j : ℕ) → AtLeast u t j) → held t h ≡ true → held u h ≡ true
 unfolding held
 held-grows t u [] more e = refl
@@ -71,7 +71,7 @@ held-acts t (Does a ∷ h) b l e =
     (ended-more (a .job) h (Does b ∷ [])) (λ n p. p) (held-acts t h b l) e
 held-acts t (Ends m i ∷ h) b l e = held-acts t h b l e
 
--- and after the end of a run, where nobody else holds less than before
+-- and so does the table after the end of a run, if no other job holds less than before
 held-stops : (t u : Table) (h : History) (m : Mark) (j : ℕ) → ((i : ℕ) → i ≢ j → AtLeast u t i) → held t h ≡ true → held u (h ++ Ends m j ∷ []) ≡ true
 unfolding held
 held-stops t u [] m j more e = refl

@@ -1,4 +1,4 @@
--- The lock machine: a table of who holds what, the moves that change it, and the history that they write (01, The desk's rules; 000, 18.3 and 18.4).
+-- The lock machine: a table of which job holds what, the moves that change it, and the history that they write (01, The desk's rules; 000, 18.3 and 18.4).
 -- Assumes nothing.
 use Prim.Native.Nat.{ℕ}
 use mathlib.Core.Path.{_≡_}
@@ -33,7 +33,7 @@ Together t = (i j c : ℕ) → i ≢ j → beside (t i c) (t j c) ≡ true
 abbrev pub allows : Table → Action → Bool
 allows t a = lets (t (a .job) (a .cell)) (a .kind)
 
--- the tables that the machine comes to, each with the history written on the way: it starts with nothing held, jobs are granted more, a job acts under what it holds, and at the end of its run it holds nothing, while the others may be granted more
+-- the tables that the machine reaches, each with the history written on the way: it starts with nothing held; jobs are granted more; a job acts under what it holds; at the end of its run a job holds nothing, and the others may be granted more
 pub data Ran : Table → History → Type 0 where
   start : {t : Table} → ((j : ℕ) → Nothing t j) → Ran t []
   grows : {t u : Table} {h : History} → Ran t h → ((j : ℕ) → AtLeast u t j) → Together u → Ran u h

@@ -18,12 +18,12 @@ use Rattle.conflict.specs.History.{History, commits}
 use Rattle.conflict.specs.Dirty.{changes, DirtyRead, spoils, lookBack}
 use Rattle.conflict.proofs.DirtyReads.{parts, write-spoils, spoils-read}
 
--- the lines seen, the last of them first, in their order and in front of others
+-- the lines seen (kept last first), put back in order in front of the others
 unfoldable pub inOrder : History → History → History
 inOrder [] h = h
 inOrder (e ∷ seen) h = inOrder seen (e ∷ h)
 
--- that is what was seen, and then the others
+-- that is the lines seen, and then the others
 pub order-append : (seen h : History) → inOrder seen h ≡ inOrder seen [] ++ h
 unfolding inOrder
 order-append [] h = refl
@@ -36,13 +36,13 @@ unfolding inOrder
 order-length [] h = omega arith
 order-length (e ∷ seen) h = omega (arith, order-length seen (e ∷ h))
 
--- an action of the first n places that makes the read at place p dirty, the latest of them
+-- the latest action in the first n places that makes the read at place p dirty
 pub record Latest (h : History) (p n reader writer : ℕ) : Type 0 where
   pub at : ℕ
   pub dirty-read : DirtyRead h p at reader writer
   pub last : (x i j : ℕ) → DirtyRead h p x i j → (x ≤ at) ⊎ (n ≤ x)
 
--- the latest that there is, or that there is none
+-- the latest such action, or that there is none
 abbrev pub Back : History → ℕ → ℕ → ℕ → Option ℕ → Type 0
 Back h p n reader none = (x i j : ℕ) → DirtyRead h p x i j → n ≤ x
 Back h p n reader (some writer) = Latest h p n reader writer
@@ -56,7 +56,7 @@ module _ (h : History) (p n : ℕ) (apart : (x i j : ℕ) → DirtyRead h p x i 
   past : (x i j : ℕ) → DirtyRead h p x i j → n ≤ x → suc n ≤ x
   past x i j d g = by-test (eqb x n) (λ t. absurd (apart x i j d (eqb-true x n t))) (λ f. omega (arith, eqb-false x n f))
 
-  -- what is so of n places is so of one more where that one makes no read at p dirty
+  -- an answer for n places is one for n + 1 if the next place does not make the read at p dirty
   back-more : (reader : ℕ) (o : Option ℕ) → Back h p n reader o → Back h p (suc n) reader o
   back-more reader none b = λ x i j d. past x i j d (b x i j d)
   back-more reader (some writer) b = record { at = b .at; dirty-read = b .dirty-read; last = λ x i j d. more x i j d (b .last x i j d) }
@@ -66,7 +66,7 @@ module _ (h : History) (p n : ℕ) (apart : (x i j : ℕ) → DirtyRead h p x i 
       more x i j d (inr g) = inr (past x i j d g)
 
 module _ (h : History) (p : ℕ) (read : Action) (after : History) (k : changes (read .kind) ≡ false) (c : commits (read .job) after ≡ true) where
-  -- where a line is no action that makes the read dirty, its place is none that does
+  -- a line that is not an action making the read dirty is passed over
   passed-over : (seen : History) (e : Event) (between : History) → inOrder seen (e ∷ (between ++ Does read ∷ after)) ≡ h → p ≡ length seen + 1 + length between →
       ((a : Action) → Does a ≡ e → spoils a between read after ≡ false) → (x i j : ℕ) → DirtyRead h p x i j → x ≡ length seen → ⊥
   passed-over seen e between l s harmless x i j d q =

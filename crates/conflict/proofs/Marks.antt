@@ -1,4 +1,4 @@
--- The marks that a history has of a job: none where no line of the job stands; and where jobs end for good, its next mark is a commit exactly if it has a c and no k.
+-- The marks of a job in a history: a job without lines has none. If jobs end for good, a job's next mark is a commit exactly if the job has a c and no k.
 -- Assumes nothing.
 use Prim.Native.Nat.{ℕ}
 use mathlib.Core.Path.{_≡_, refl, sym, ap, _∙_}
@@ -15,7 +15,7 @@ use Rattle.conflict.specs.declared.action.Mark.the-variants.{Commit, Giv
 use Rattle.conflict.specs.declared.action.Event.the-variants.{Does, Ends}
 use Rattle.conflict.specs.History.{History, isCommit, isBack, marked, commits, commitOrder, lineOf, endsForGood}
 
--- a job of which no line stands has no mark
+-- a job without a line has no mark
 pub unmarked : (f : Mark → Bool) (j : ℕ) (h : History) → lineOf j h ≡ false → marked f j h ≡ false
 unfolding marked lineOf
 unmarked f j [] e = refl
@@ -36,12 +36,12 @@ commits-marked j [] e = e
 commits-marked j (Does a ∷ h) e = commits-marked j h e
 commits-marked j (Ends m i ∷ h) e = by-test (eqb i j) (λ t. rw t (let g : isCommit m ≡ true = rw t at e in rw g)) (λ f. rw f (commits-marked j h (rw f at e)))
 
--- where jobs end for good, no line of a job follows its mark, if that is not a k
+-- if jobs end for good, no line of a job follows its mark, unless the mark is a k
 pub ended-alone : (m : Mark) (i : ℕ) (h : History) → endsForGood (Ends m i ∷ h) ≡ true → isBack m ≡ false → lineOf i h ≡ false
 unfolding endsForGood
 ended-alone m i h e b = not-true (lineOf i h) (rw b at (and-first (isBack m || not (lineOf i h)) (endsForGood h) e))
 
--- where jobs end for good, the lines after a mark are such too
+-- if jobs end for good, they also do in the lines after a mark
 pub ends-rest : (m : Mark) (i : ℕ) (h : History) → endsForGood (Ends m i ∷ h) ≡ true → endsForGood h ≡ true
 unfolding endsForGood
 ends-rest m i h e = and-second (isBack m || not (lineOf i h)) (endsForGood h) e
@@ -53,7 +53,7 @@ at-mark Commit i h alone = rw (unmarked isBack i h (alone refl))
 at-mark GiveUp i h alone = rw (unmarked isCommit i h (alone refl))
 at-mark Back i h alone = and-false (marked isCommit i h)
 
--- where jobs end for good, the next mark of a job is a commit exactly if it has a c and no k
+-- if jobs end for good, the next mark of a job is a commit exactly if it has a c and no k
 pub commits-is : (j : ℕ) (h : History) → endsForGood h ≡ true → (marked isCommit j h && not (marked isBack j h)) ≡ commits j h
 unfolding marked commits endsForGood
 commits-is j [] e = refl

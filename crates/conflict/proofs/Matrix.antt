@@ -35,7 +35,7 @@ only-beside-u X h = not-both h refl
 only-beside-u I h = not-both h refl
 only-beside-u U h = not-both h refl
 
--- beside a held U nothing is (02, No. 1)
+-- beside a held U nothing is granted (02, No. 1)
 pub beside-held-u : (m : Mode) → grants U m ≡ true ↔ (m ≡ Free)
 unfolding grants
 beside-held-u m = (only-beside-u m, λ e. rw e)
@@ -49,7 +49,7 @@ only-beside-x X h = not-both h refl
 only-beside-x I h = not-both h refl
 only-beside-x U h = not-both h refl
 
--- beside a held X nothing is (01, The desk's rules; 02, No. 1)
+-- beside a held X nothing is granted (01, The desk's rules; 02, No. 1)
 pub beside-held-x : (m : Mode) → grants X m ≡ true ↔ (m ≡ Free)
 unfolding grants
 beside-held-x m = (only-beside-x m, λ e. rw e)
@@ -68,7 +68,7 @@ pub beside-held-i : (m : Mode) → grants I m ≡ true ↔ (m ≡ Free) ⊎ (m �
 unfolding grants
 beside-held-i m = (only-beside-i m, ⊎-elim (λ e. rw e) (λ e. rw e))
 
--- I and U never go together: neither beside the other, nor held at once (02, No. 1)
+-- I and U never go together: neither is granted beside the other, and they are not held at once (02, No. 1)
 pub i-and-u-never : (grants I U ≡ false) × (grants U I ≡ false) × (beside I U ≡ false) × (beside U I ≡ false)
 unfolding beside grants
 i-and-u-never = (refl, refl, refl, refl)
@@ -83,7 +83,7 @@ pub figure-18-19 :
 unfolding grants
 figure-18-19 = refl
 
--- Figure 18.22 of the book, likewise of S, X and I (000, 18.4.5)
+-- Figure 18.22 of the book, the same for S, X and I (000, 18.4.5)
 pub figure-18-22 :
     (grants S S ∷ grants S X ∷ grants S I ∷ [])
     ∷ (grants X S ∷ grants X X ∷ grants X I ∷ [])
@@ -93,7 +93,7 @@ pub figure-18-22 :
 unfolding grants
 figure-18-22 = refl
 
--- a U looks like an S to whoever asks for it, and like an X to whoever comes after: the columns of U and S are the same, and so are the rows of U and X (000, 18.4.4)
+-- a U looks like an S when it is asked for, and like an X to a job that asks later: the columns of U and S are the same, and so are the rows of U and X (000, 18.4.4)
 pub u-asked-as-s : (m : Mode) → grants m U ≡ grants m S
 unfolding grants
 u-asked-as-s m = equal (grants m U) (grants m S) (of-modes (λ m. alike (grants m U) (grants m S)) refl m)
@@ -135,6 +135,6 @@ all-agreeing m n =
     (⊎-elim (λ e. rw e (beside-free m))
     (⊎-elim (λ e. rw (e .0, e .1)) (⊎-elim (λ e. rw (e .0, e .1)) (⊎-elim (λ e. rw (e .0, e .1)) (λ e. rw (e .0, e .1))))))
 
--- two jobs may hold a cell together exactly where one of them holds nothing, both hold S, both hold I, or one holds S and the other U
+-- two jobs may hold a cell together exactly if one of them holds nothing, both hold S, both hold I, or one holds S and the other U
 pub together : (m n : Mode) → beside m n ≡ true ↔ Agreeing m n
 together m n = (only-agreeing m n, all-agreeing m n)

@@ -1,4 +1,4 @@
--- Histories in which nothing of a job follows any mark of it, a k neither, as where being sent back closes the job (02, No. 6): one event more, and that jobs then end for good.
+-- Histories in which no line of a job follows any mark of it, not even a k, as where being sent back closes the job (02, No. 6): with one more event, and that jobs then end for good.
 -- Assumes nothing.
 use Prim.Native.Nat.{ℕ}
 use mathlib.Core.Path.{_≡_, refl, sym, ap, _∙_}
@@ -19,12 +19,12 @@ use Rattle.conflict.proofs.Marks.{unmarked}
 use Rattle.conflict.proofs.OneEvent.{line-none, good-none, good-does, good-ends}
 use Rattle.conflict.proofs.Appended.{line-append, ended-append}
 
--- nobody has ended in an empty history
+-- in an empty history no job has ended
 pub none-ended : (j : ℕ) → ended j [] ≡ false
 unfolding ended marked
 none-ended j = refl
 
--- an action ends nobody
+-- an action ends no job
 pub does-ends-not : (j : ℕ) (a : Action) (h : History) → ended j (Does a ∷ h) ≡ ended j h
 unfolding ended marked
 does-ends-not j a h = refl
@@ -34,12 +34,12 @@ pub mark-ends : (j : ℕ) (m : Mark) (i : ℕ) (h : History) → ended j (Ends m
 unfolding ended marked isEnd
 mark-ends j m i h = rw and-true
 
--- who has ended has a line
+-- a job that has ended has a line
 pub ended-line : (j : ℕ) (h : History) → ended j h ≡ true → lineOf j h ≡ true
 unfolding ended
 ended-line j h t = by-test (lineOf j h) (λ l. l) (λ n. not-both t (unmarked isEnd j h n))
 
--- nothing of a job follows a mark of it
+-- no line of a job follows a mark of it
 abbrev pub NothingAfter : History → Type 0
 NothingAfter h = (before : History) (m : Mark) (j : ℕ) (after : History) → h ≡ before ++ Ends m j ∷ after → lineOf j after ≡ false
 
@@ -47,13 +47,13 @@ NothingAfter h = (before : History) (m : Mark) (j : ℕ) (after : History) → h
 pub nothing-after-none : NothingAfter []
 nothing-after-none before m j after e = not-empty-mid before (Ends m j) after e
 
--- who has a mark in a history has ended there
+-- a job that has a mark in a history has ended there
 mark-ended : (h before : History) (m : Mark) (j : ℕ) (after : History) → h ≡ before ++ Ends m j ∷ after → ended j h ≡ true
 mark-ended h before m j after e =
     ap (ended j) e ∙ ended-append j before (Ends m j ∷ after)
     ∙ or-second (ended j before) (ended j (Ends m j ∷ after)) (mark-ends j m j after ∙ or-first (eqb j j) (ended j after) (same-refl j))
 
--- one event more keeps it, if it is of nobody who has ended
+-- one more event keeps this, if its job has not ended
 pub nothing-after-more : (h : History) (e : Event) → NothingAfter h → ((j : ℕ) → ended j h ≡ true → lineOf j (e ∷ []) ≡ false) → NothingAfter (h ++ e ∷ [])
 nothing-after-more h e k apart before m j after q =
     last-split h e before (Ends m j) after q
@@ -64,7 +64,7 @@ nothing-after-more h e k apart before m j after q =
     rest w p =
         tail-same (append-cancel-left before (Ends m j ∷ w ++ e ∷ []) (Ends m j ∷ after) (sym (append-assoc before (Ends m j ∷ w) (e ∷ [])) ∙ ap (λ g. g ++ e ∷ []) (sym p) ∙ q))
 
--- where nothing follows a mark, jobs end for good
+-- if nothing follows a mark, jobs end for good
 pub nothing-after-good : (h : History) → NothingAfter h → endsForGood h ≡ true
 nothing-after-good [] k = good-none
 nothing-after-good (Does a ∷ h) k = good-does a h ∙ nothing-after-good h (λ before m j after e. k (Does a ∷ before) m j after (ap (λ g. Does a ∷ g) e))

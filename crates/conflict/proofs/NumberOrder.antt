@@ -1,4 +1,4 @@
--- Conflicting actions in number order: the committed part is so where the history is, every edge rises, and ascending numbers are a serial order (02, No. 6).
+-- Conflicting actions in number order: if the history is in number order, so is its committed part; every edge rises; and ascending numbers are a serial order (02, No. 6).
 -- Assumes nothing.
 use Prim.Native.Nat.{ℕ, _<_}
 use mathlib.Core.Path.{_≡_, refl, sym, ap, _∙_}
@@ -64,11 +64,11 @@ ascending-forward order s up all o =
       ahead = λ i j e. let ends = edge-names order s i j all e in ascending-ahead order up i j (ends .0) (ends .1) (rising-edges s o i j e);
     }
 
--- the jobs with a c in ascending order: each once
+-- the ascending list of the jobs with a c has each once
 pub ascending-commits-once : (h : History) → distinct (sorted (commitOrder h)) ≡ true
 ascending-commits-once h = ascending-once (sorted (commitOrder h)) (sorted-ascending (commitOrder h))
 
--- and exactly these
+-- and has exactly these jobs
 pub ascending-commits : (h : History) (j : ℕ) → member j (sorted (commitOrder h)) ≡ marked isCommit j h
 ascending-commits h j = sorted-member (commitOrder h) j ∙ listed j h
 

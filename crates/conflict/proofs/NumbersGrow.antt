@@ -1,4 +1,4 @@
--- A history in number order stays so with one more event: with any mark, and with an action whose job is not below the numbers that it is held against (02, No. 6).
+-- A history in number order stays so with one more event: with any mark, and with an action whose job is not below the numbers it is compared with (02, No. 6).
 -- Assumes nothing.
 use Prim.Native.Nat.{ℕ, _≤_, _<_}
 use mathlib.Core.Path.{_≡_, refl, sym, subst}
@@ -36,7 +36,7 @@ by-disagreeing Increment l f one′ two′ = one′ refl
 pub number-order-none : ActsInNumberOrder []
 number-order-none = record { rises = λ before a between b after e c. not-empty-mid (before ++ Does a ∷ between) (Does b) after e }
 
--- a history in number order stays so with one more event, if it is no action that conflicts with an earlier one by a number that is not smaller
+-- a history in number order stays so with one more event, unless that is an action that conflicts with an earlier one of a job whose number is not smaller
 one-more : (h : History) (e : Event) → ActsInNumberOrder h → ((before : History) (a : Action) (after : History) (b : Action) → h ≡ before ++ Does a ∷ after → e ≡ Does b → conflicts a b ≡ true → a .job < b .job) → ActsInNumberOrder (h ++ e ∷ [])
 one-more h e o new =
     record {
@@ -49,7 +49,7 @@ one-more h e o new =
 pub number-order-ends : (h : History) (m : Mark) (j : ℕ) → ActsInNumberOrder h → ActsInNumberOrder (h ++ Ends m j ∷ [])
 number-order-ends h m j o = one-more h (Ends m j) o (λ before a after b p r c. let z : _≡_ {A = ℕ} 0 1 = cc in absurd (omega arith))
 
--- with an action whose job is not below the largest that has changed its cell nor, where it changes the cell itself, below the largest that has read it
+-- with an action whose job is not below the largest that has changed its cell, nor, if the action changes the cell, below the largest that has read it
 pub number-order-grows : (h : History) (b : Action) → ActsInNumberOrder h → largest changes (b .cell) h ≤ b .job → (changes (b .kind) ≡ true → largest reads (b .cell) h ≤ b .job) → ActsInNumberOrder (h ++ Does b ∷ [])
 number-order-grows h b o over-writers over-readers =
     one-more h (Does b) o

@@ -1,4 +1,4 @@
--- What one more event in front of a history does to its lines and marks, to its committed part and its order of commits, and to whether jobs end for good there.
+-- What one more event in front of a history does to its lines and marks, its committed part, its order of commits, and to whether jobs end for good.
 -- Crates above use these clauses in place of the definitions.
 -- Assumes nothing.
 use Prim.Native.Nat.{ℕ}
@@ -43,12 +43,12 @@ pub marked-none : (f : Mark → Bool) (j : ℕ) → marked f j [] ≡ false
 unfolding marked
 marked-none f j = refl
 
--- an action is no mark
+-- an action is not a mark
 pub marked-does : (f : Mark → Bool) (j : ℕ) (a : Action) (h : History) → marked f j (Does a ∷ h) ≡ marked f j h
 unfolding marked
 marked-does f j a h = refl
 
--- a mark is one of its job
+-- a mark is a mark of its job
 pub marked-ends : (f : Mark → Bool) (j : ℕ) (m : Mark) (i : ℕ) (h : History) → marked f j (Ends m i ∷ h) ≡ ((eqb i j && f m) || marked f j h)
 unfolding marked
 marked-ends f j m i h = refl
@@ -58,12 +58,12 @@ pub good-none : endsForGood [] ≡ true
 unfolding endsForGood
 good-none = refl
 
--- an action in front changes nothing of it
+-- an action in front does not change this
 pub good-does : (a : Action) (h : History) → endsForGood (Does a ∷ h) ≡ endsForGood h
 unfolding endsForGood
 good-does a h = refl
 
--- a c or an a in front wants that no line of its job follows
+-- with a c or an a in front, no line of its job may follow
 pub good-ends : (m : Mark) (i : ℕ) (h : History) → endsForGood (Ends m i ∷ h) ≡ ((isBack m || not (lineOf i h)) && endsForGood h)
 unfolding endsForGood
 good-ends m i h = refl
@@ -73,17 +73,17 @@ pub back-not-last : isLast Back ≡ false
 unfolding isLast
 back-not-last = refl
 
--- a c is no k
+-- a c is not a k
 pub commit-not-back : isBack Commit ≡ false
 unfolding isBack
 commit-not-back = refl
 
--- and an a is none
+-- and an a is not a k
 pub give-up-not-back : isBack GiveUp ≡ false
 unfolding isBack
 give-up-not-back = refl
 
--- a k is one
+-- a k is a k
 pub back-is-back : isBack Back ≡ true
 unfolding isBack
 back-is-back = refl
@@ -93,12 +93,12 @@ pub commit-is-commit : isCommit Commit ≡ true
 unfolding isCommit
 commit-is-commit = refl
 
--- an a is none
+-- an a is not a commit
 pub give-up-not-commit : isCommit GiveUp ≡ false
 unfolding isCommit
 give-up-not-commit = refl
 
--- and a k is none
+-- and a k is not a commit
 pub back-not-commit : isCommit Back ≡ false
 unfolding isCommit
 back-not-commit = refl
@@ -108,17 +108,17 @@ pub any-ends : (m : Mark) → isEnd m ≡ true
 unfolding isEnd
 any-ends m = refl
 
--- a job's run has ended where a mark of it stands
+-- a job's run has ended exactly if the job has a mark
 pub ended-is : (j : ℕ) (h : History) → ended j h ≡ marked isEnd j h
 unfolding ended
 ended-is j h = refl
 
--- by no lines no run commits
+-- with no lines no run commits
 pub commits-none : (j : ℕ) → commits j [] ≡ false
 unfolding commits
 commits-none j = refl
 
--- an action in front changes nothing of it
+-- an action in front does not change this
 pub commits-does : (j : ℕ) (a : Action) (h : History) → commits j (Does a ∷ h) ≡ commits j h
 unfolding commits
 commits-does j a h = refl
@@ -128,12 +128,12 @@ pub commits-ends : (j : ℕ) (m : Mark) (i : ℕ) (h : History) → commits j (E
 unfolding commits
 commits-ends j m i h = refl
 
--- of no lines nothing is in the committed part
+-- with no lines the committed part is empty
 pub part-none : (whole : History) → partOf whole [] ≡ []
 unfolding partOf
 part-none whole = refl
 
--- an action is in it if its job has a c in the whole and no k after it
+-- an action is in it if its job has a c in the whole and no k after the action
 pub part-does : (whole : History) (a : Action) (h : History) → partOf whole (Does a ∷ h) ≡ keep (marked isCommit (a .job) whole && not (marked isBack (a .job) h)) a (partOf whole h)
 unfolding partOf
 part-does whole a h = refl
@@ -148,12 +148,12 @@ pub part-whole : (h : History) → committedPart h ≡ partOf h h
 unfolding committedPart
 part-whole h = refl
 
--- in an empty history none commits
+-- in an empty history no job commits
 pub order-none : commitOrder [] ≡ []
 unfolding commitOrder
 order-none = refl
 
--- an action in front changes nothing of the order of commits
+-- an action in front does not change the order of commits
 pub order-does : (a : Action) (h : History) → commitOrder (Does a ∷ h) ≡ commitOrder h
 unfolding commitOrder
 order-does a h = refl
@@ -163,10 +163,10 @@ pub order-ends : (m : Mark) (i : ℕ) (h : History) → commitOrder (Ends m i �
 unfolding commitOrder
 order-ends m i h = refl
 
--- an action is one other action only if they are the same
+-- two actions are equal events only if they are the same action
 pub same-action : {x y : Action} → Does x ≡ Does y → x ≡ y
 same-action e = cc
 
--- and no mark is one
+-- and an action is never a mark
 pub no-mark : {P : Type 0} {x : Action} {m : Mark} {j : ℕ} → Does x ≡ Ends m j → P
 no-mark e = let z : _≡_ {A = ℕ} 0 1 = cc in absurd (omega arith)

@@ -25,7 +25,7 @@ own-append j [] t = refl
 own-append j (a ∷ s) t =
     by-test (eqb (a .job) j) (λ e. rw e (ap (λ u. a ∷ u) (own-append j s t))) (λ f. rw f (own-append j s t))
 
--- of a job's actions, all are that job's
+-- every action in a job's actions is that job's
 pub own-same : (j : ℕ) (s : Schedule) → own j (own j s) ≡ own j s
 unfolding own keep
 own-same j [] = refl
@@ -38,11 +38,11 @@ unfolding own keep
 own-more k true a s h = rw (h refl)
 own-more k false a s h = refl
 
--- who is one job is not another
+-- one job is not another
 same-other : (i j k : ℕ) → eqb j k ≡ false → eqb i j ≡ true → eqb i k ≡ false
 same-other i j k f e = rw (eqb-true i j e) f
 
--- of a job's actions, none is another's
+-- and none is another job's
 pub own-other : (j k : ℕ) (s : Schedule) → eqb j k ≡ false → own k (own j s) ≡ []
 unfolding own
 own-other j k [] f = refl
@@ -94,7 +94,7 @@ own-serial (j ∷ order) k s d m =
 pub serial-again : (order : List ℕ) (s : Schedule) → distinct order ≡ true → serial order s ≡ serial order (serial order s)
 serial-again order s d = serial-alike order s (serial order s) (λ k m. sym (own-serial order k s d m))
 
--- every job of two schedules, one behind the other, is in the order where it is for each
+-- if every job of each of two schedules is in the order, so is every job of the two joined
 pub names-append : (order : List ℕ) (s t : Schedule) → names order s ≡ true → names order t ≡ true → names order (s ++ t) ≡ true
 unfolding names
 names-append order [] t h g = g
@@ -102,7 +102,7 @@ names-append order (a ∷ s) t h g =
     and-both (member (a .job) order) (names order (s ++ t)) (and-first (member (a .job) order) (names order s) h)
     (names-append order s t (and-second (member (a .job) order) (names order s) h) g)
 
--- the actions of a job of the order are of a job of the order
+-- the actions of a job in the order are actions of jobs in the order
 pub names-own : (order : List ℕ) (j : ℕ) (s : Schedule) → member j order ≡ true → names order (own j s) ≡ true
 unfolding names own keep
 names-own order j [] m = refl
@@ -133,7 +133,7 @@ names-others j order (a ∷ s) h =
     (sym (member-later j order (a .job) (same-sym j (a .job) ∙ f)) ∙ and-first (member (a .job) (j ∷ order)) (names (j ∷ order) s) h)
     rest))
 
--- an order of no job names every job of the empty schedule alone
+-- an empty order names every job only of the empty schedule
 pub names-none : (s : Schedule) → names [] s ≡ true → s ≡ []
 unfolding names member
 names-none [] h = refl

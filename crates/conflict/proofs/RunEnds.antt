@@ -1,4 +1,4 @@
--- What the lines behind a line say of the run that it is in: whether that run's end is a commit, and whether it has ended.
+-- What the lines after a line say of the run that it is in: whether that run ends with a commit, and whether it has ended.
 -- Assumes nothing.
 use Prim.Native.Nat.{ℕ, zero, suc, _+_, _-_, _<_}
 use mathlib.Core.Path.{_≡_, refl, sym, ap, _∙_, subst}
@@ -39,7 +39,7 @@ commits-none j (Ends o i ∷ l) f =
     by-test (eqb i j) (λ t. absurd (f 0 (o, (omega arith, ap (Ends o) (eqb-true i j t)))))
     (λ g. rw g (commits-none j l (λ k x. f (suc k) (x .0, (omega (arith, x .1 .0), x .1 .1)))))
 
--- a job has a mark exactly where one stands
+-- if no line is a mark of a job, its run has not ended
 pub ended-none : (j : ℕ) (l : History) → ((k : ℕ) → MarkAt l k j → ⊥) → ended j l ≡ false
 unfolding ended marked isEnd
 ended-none j [] f = refl
@@ -65,7 +65,7 @@ commit-is GiveUp e = not-both e refl
 commit-is Back e = not-both e refl
 
 module _ (h u : History) (x : Event) (l : History) (p j b t : ℕ) (q : h ≡ u ++ x ∷ l) (s : length u ≡ p) (r : InRun h j p b t) where
-  -- the end of a run that line p is in, in the lines behind it
+  -- the end of the run that line p is in, counted in the lines after p
   pub end-behind : (m : Mark) → LineAt h t (Ends m j) → LineAt l (t - suc p) (Ends m j)
   end-behind m a = let n : t ≡ suc (p + (t - suc p)) = omega (arith, r .before) in shifted-back h u x l p q s (t - suc p) (Ends m j) (subst (λ k. LineAt h k (Ends m j)) n a)
 
@@ -73,7 +73,7 @@ module _ (h u : History) (x : Event) (l : History) (p j b t : ℕ) (q : h ≡ u 
   none-before : (k : ℕ) → k < t - suc p → MarkAt l k j → ⊥
   none-before k g m = r .run .unbroken (suc (p + k)) (omega (arith, r .behind)) (omega arith) (m .0, shifted h u x l p q s k (Ends (m .0) j) (m .1))
 
-  -- the run commits exactly where its end is a commit
+  -- the run commits exactly if its end is a commit
   pub run-commits : (commits j l ≡ true) ↔ LineAt h t (Ends Commit j)
   unfolding isCommit
   run-commits = (

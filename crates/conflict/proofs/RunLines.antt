@@ -1,4 +1,4 @@
--- Runs as pairs of lines: what stands in a line, whether it is a mark of a job, and that every action is in a run of each job.
+-- Runs as pairs of lines: what stands in a line, whether it is a mark of a job, and that for each job every action is in one of its runs.
 -- Assumes nothing.
 use Prim.Native.Nat.{ℕ, zero, suc, _+_, _-_, _≤_, _<_}
 use mathlib.Core.Path.{_≡_, refl, sym, ap, _∙_, subst}
@@ -18,7 +18,7 @@ use Rattle.conflict.specs.declared.action.Event.the-variants.{Does, Ends
 use Rattle.conflict.specs.History.{History}
 use Rattle.conflict.specs.DirtyRuns.{LineAt, MarkAt, Run, InRun}
 
--- no action is a mark
+-- an action is not a mark
 pub act-no-mark : {P : Type 0} {a : Action} {m : Mark} {j : ℕ} → Does a ≡ Ends m j → P
 act-no-mark e = let z : _≡_ {A = ℕ} 0 1 = cc in absurd (omega arith)
 
@@ -28,7 +28,7 @@ any-line [] k x y l = absurd (omega arith)
 any-line (e ∷ h) zero x y l = refl
 any-line (e ∷ h) (suc k) x y l = any-line h k x y (omega arith)
 
--- a line is one event
+-- a line holds one event
 pub line-one : (h : History) (k : ℕ) (x y : Event) → LineAt h k x → LineAt h k y → x ≡ y
 line-one h k x y a b = sym (a .1) ∙ any-line h k x y (a .0) ∙ b .1
 
@@ -38,11 +38,11 @@ line-some h k l =
     let none′ : Event = Ends Commit 0 in
     (getD h k none′, (l, any-line h k (getD h k none′) none′ l))
 
--- an action is no mark
+-- a line that is an action is not a mark
 pub act-unmarked : (h : History) (k : ℕ) (a : Action) (j : ℕ) → LineAt h k (Does a) → MarkAt h k j → ⊥
 act-unmarked h k a j l m = act-no-mark (line-one h k (Does a) (Ends (m .0) j) l (m .1))
 
--- the lines behind one stand as many places further in the whole
+-- the lines after one are found that many places further on in the whole
 pub shifted : (h u : History) (x : Event) (l : History) (p : ℕ) → h ≡ u ++ x ∷ l → length u ≡ p → (k : ℕ) (e : Event) → LineAt l k e → LineAt h (suc (p + k)) e
 shifted h u x l p q s k e a =
     let n : suc (p + k) ≡ length u + suc k = omega arith in
@@ -66,7 +66,7 @@ by-event h k j (Ends m i) s one′ two′ =
     by-test (eqb i j) (λ t. one′ (m, subst (λ x. LineAt h k (Ends m x)) (eqb-true i j t) s))
     (λ f. two′ (λ n. eqb-false i j f (same-job (line-one h k (Ends m i) (Ends (n .0) j) s (n .1)))))
 
--- whether a line is
+-- whether a line is a mark of a job
 pub by-mark : {P : Type 0} (h : History) (k j : ℕ) → k < length h → (MarkAt h k j → P) → ((MarkAt h k j → ⊥) → P) → P
 by-mark h k j l one′ two′ = by-event h k j (line-some h k l .0) (line-some h k l .1) one′ two′
 
@@ -98,7 +98,7 @@ run-end h j (suc n) p l =
       r .3,
     ))
 
--- so an action is in a run of any job
+-- so for any job an action is in one of its runs
 pub in-run : (h : History) (j p : ℕ) (a : Action) → LineAt h p (Does a) → (b : ℕ) × (t : ℕ) × InRun h j p b t
 in-run h j p a s =
     let x = run-begin h j p (omega (arith, s .0)) in

@@ -1,4 +1,4 @@
--- The modes U and X: beside them nothing is granted, no two of them are held at once, and who holds a cell beside one of them holds S beside a U (02, No. 1).
+-- The modes U and X: beside them nothing is granted, no two of them are held at once, and a job that holds a cell beside one of them holds S, beside a U (02, No. 1).
 -- Assumes nothing.
 use mathlib.Core.Path.{_≡_, refl, sym, _∙_}
 use mathlib.Core.Logic.{_↔_, _⊎_, inl, inr, ⊎-elim}
@@ -43,25 +43,25 @@ unfolding shutsOut covers
 shut-grows m n h g =
     follows (of-two (λ m n. implies (covers n m && shutsOut m) (shutsOut n)) refl m n) (and-both (covers n m) (shutsOut m) h g)
 
--- no two of them are held together
+-- no two of these modes are held together
 pub shut-alone : (m n : Mode) → shutsOut m ≡ true → shutsOut n ≡ true → beside m n ≡ false
 unfolding shutsOut beside grants
 shut-alone m n h g =
     equal (beside m n) false (follows (of-two (λ m n. implies (shutsOut m && shutsOut n) (alike (beside m n) false)) refl m n) (and-both (shutsOut m) (shutsOut n) h g))
 
--- what becomes of such a mode where it does not cover a need is held alone
+-- if such a mode does not cover a need, the mode it is promoted to is held alone
 pub shut-promoted : (m need n : Mode) → shutsOut m ≡ true → covers m need ≡ false → beside n (asked m need) ≡ true → isFree n ≡ true
 unfolding shutsOut covers beside grants asked isFree
 shut-promoted m need n h f b =
     follows (of-three (λ m need n. implies (shutsOut m && (alike (covers m need) false && beside n (asked m need))) (isFree n)) refl m need n)
     (and-both (shutsOut m) (alike (covers m need) false && beside n (asked m need)) h (and-both (alike (covers m need) false) (beside n (asked m need)) (rw f) b))
 
--- such a mode is held
+-- a job with such a mode holds something
 pub shut-held : (m : Mode) → shutsOut m ≡ true → isFree m ≡ false
 unfolding shutsOut isFree
 shut-held m h = equal (isFree m) false (follows (of-modes (λ m. implies (shutsOut m) (alike (isFree m) false)) refl m) h)
 
--- who holds a cell beside one of them holds S, and that one is a U
+-- a job that holds a cell beside one of them holds S, and that one is a U
 pub shut-beside : (m n : Mode) → shutsOut m ≡ true → beside n m ≡ true → isFree n ≡ false → (n ≡ S) × (m ≡ U)
 unfolding shutsOut beside grants isFree
 shut-beside Free n h b f = not-both h refl

@@ -1,4 +1,4 @@
--- Under the lock machine an action whose run has not ended is still one that its job's mode lets it do.
+-- In the lock machine, while the run of an action has not ended, its job's mode still lets it do that action.
 -- Assumes nothing.
 use mathlib.Core.Path.{_≡_}
 use mathlib.Core.Bool.{true, false, _||_}
@@ -12,7 +12,7 @@ use Rattle.conflict.specs.Runs.{ended}
 use Rattle.conflict.proofs.LockTable.{Table, allows, Ran}
 use Rattle.conflict.proofs.LockMachine.{held, machine-keeps}
 
--- what holds of every action holds of one of them
+-- what holds for every action holds for one of them
 held-one : (t : Table) (h g : History) (a : Action) → held t (h ++ Does a ∷ g) ≡ true → (ended (a .job) g || allows t a) ≡ true
 unfolding held
 held-one t [] g a e = and-first (ended (a .job) g || allows t a) (held t g) e

@@ -1,4 +1,4 @@
--- In a strict history every edge of the committed part goes forward in the order of commits, so that part is conflict-equivalent to its jobs one after another in that order.
+-- In a strict history every edge of the committed part goes forward in the order of commits. So that part is conflict-equivalent to its jobs run one after another in that order.
 -- Assumes nothing.
 use Prim.Native.Nat.{ℕ, _<_}
 use mathlib.Core.Path.{_≡_, refl, _∙_}
@@ -70,11 +70,11 @@ edges-ahead (Ends m k ∷ h) s d i j e =
 pub strict-forward : (h : History) → strict h ≡ true → distinct (commitOrder h) ≡ true → Forward (commitOrder h) (committed h)
 strict-forward h s d = record { once = d; all = committed-has h; ahead = edges-ahead h s d }
 
--- the committed part of a strict history is conflict-equivalent to its jobs one after another in the order of their commits
+-- the committed part of a strict history is conflict-equivalent to its jobs run one after another in the order of their commits
 pub strict-serial : (h : History) → strict h ≡ true → distinct (commitOrder h) ≡ true → Equivalent (committed h) (serial (commitOrder h) (committed h))
 strict-serial h s d = forward (commitOrder h) (committed h) (strict-forward h s d)
 
--- and so is the committed part in the paper's words, where no line of a job follows its c or a
+-- and so is the committed part in the paper's words, if no line of a job follows its c or a
 pub strict-serial-paper : (h : History) → strict h ≡ true → endsForGood h ≡ true → Equivalent (committedPart h) (serial (commitOrder h) (committedPart h))
 strict-serial-paper h s e = rw (committed-is h e) (strict-serial h s (commit-order-once h e))
 

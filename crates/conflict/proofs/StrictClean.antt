@@ -1,4 +1,4 @@
--- A strict history is not dirty: while the run of a write or an increment has not ended nobody else reads its cell (02, No. 2).
+-- A strict history is not dirty: while the run of a write or an increment has not ended, no other job reads its cell (02, No. 2).
 -- Assumes nothing.
 use Prim.Native.Nat.{ℕ}
 use mathlib.Core.Path.{_≡_, refl, sym, ap, _∙_}
@@ -33,7 +33,7 @@ dirty-conflicts d =
     let k = changes-disagrees (d .write .kind) (d .read .kind) (d .writes) (d .reads) in
     rw (c, j, k)
 
--- in a strict history an action stands only after the run of every earlier one that conflicts with it has ended
+-- in a strict history, an action comes only after the run of every earlier action that conflicts with it has ended
 pub strict-ended : (h : History) → strict h ≡ true → (before : History) (a : Action) (between : History) (b : Action) (after : History) → h ≡ before ++ Does a ∷ between ++ Does b ∷ after → conflicts a b ≡ true → ended (a .job) between ≡ true
 unfolding strict undisturbed
 strict-ended h s before a between b after l c =
@@ -44,13 +44,13 @@ strict-ended h s before a between b after l c =
     or-either (ended (a .job) between) (undisturbed a (Does b ∷ after)) (and-second (undisturbed a between) (ended (a .job) between || undisturbed a (Does b ∷ after)) until) (λ t. t)
     (λ u. not-both c (not-true (conflicts a b) (and-first (not (conflicts a b)) (undisturbed a after) u)))
 
--- NOT DIRTY: what is strict is not
+-- NOT DIRTY: a strict history is not dirty
 pub strict-clean : (h : History) → strict h ≡ true → IsDirty h → ⊥
 strict-clean h s dirty =
     let d = dirty .dirty-read in
     let over : ended (d .write .job) (d .between) ≡ true = strict-ended h s (d .before) (d .write) (d .between) (d .read) (d .after) (d .lines) (dirty-conflicts d) in
     not-both over (rw (d .writes-by) (d .not-ended))
 
--- nor was it at any moment before: a part from its start on is strict too
+-- nor was it dirty at any earlier moment: every beginning of a strict history is strict
 pub strict-part : (x y : History) → strict (x ++ y) ≡ true → strict x ≡ true
 strict-part x y s = and-first (strict x) (calm x y) (and-first (strict x && calm x y) (strict y) (sym (strict-append x y) ∙ s))

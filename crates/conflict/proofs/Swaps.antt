@@ -1,4 +1,4 @@
--- Swaps are the book's: two neighbours in the midst of a schedule change places. They can be taken back, and so equivalence goes both ways, in steps, and behind anything.
+-- Swaps are the book's: two neighbours anywhere in a schedule change places. A swap can be undone, so equivalence is symmetric; it is transitive, and holds behind any other actions.
 -- Assumes nothing.
 use mathlib.Core.Path.{_≡_, refl, sym, ap, _∙_, subst₂}
 use mathlib.Core.Logic.{_≢_}
@@ -12,7 +12,7 @@ use Rattle.conflict.specs.Schedule.{Schedule, agree, conflicts, Swap, Eq
 use Rattle.conflict.specs.Schedule.Swap.{here, later}
 use Rattle.conflict.specs.Schedule.Equivalent.{done, after}
 
--- the book's swap: the schedules are alike but for two neighbours of different jobs that do not conflict, and stand the other way round (000, 18.2.1)
+-- the book's swap: the schedules are alike except for two neighbours of different jobs that do not conflict and change places (000, 18.2.1)
 pub record Neighbours (s t : Schedule) : Type 0 where
   pub before : Schedule
   pub first : Action
@@ -23,7 +23,7 @@ pub record Neighbours (s t : Schedule) : Type 0 where
   pub others : first .job ≢ second .job
   pub agreeing : conflicts first second ≡ false
 
--- a swap behind anything
+-- a swap behind any other actions
 pub swap-behind : (before : Schedule) {s t : Schedule} → Swap s t → Swap (before ++ s) (before ++ t)
 swap-behind [] w = w
 swap-behind (a ∷ before) w = later (swap-behind before w)
@@ -58,17 +58,17 @@ pub conflicts-sym : (a b : Action) → conflicts a b ≡ conflicts b a
 unfolding conflicts
 conflicts-sym a b = simp (same-sym (a .cell) (b .cell), same-sym (a .job) (b .job), agree-sym (a .kind) (b .kind))
 
--- a swap is taken back by a swap
+-- a swap is undone by a swap
 pub swap-back : {s t : Schedule} → Swap s t → Swap t s
 swap-back (here {a} {b} o f) = here (λ e. o (sym e)) (conflicts-sym b a ∙ f)
 swap-back (later w) = later (swap-back w)
 
--- equivalence in two steps is equivalence
+-- equivalence is transitive
 pub equivalent-trans : {s t u : Schedule} → Equivalent s t → Equivalent t u → Equivalent s u
 equivalent-trans done f = f
 equivalent-trans (after w e) f = after w (equivalent-trans e f)
 
--- equivalence goes both ways
+-- equivalence is symmetric
 pub equivalent-sym : {s t : Schedule} → Equivalent s t → Equivalent t s
 equivalent-sym done = done
 equivalent-sym (after w e) = equivalent-trans (equivalent-sym e) (after (swap-back w) done)

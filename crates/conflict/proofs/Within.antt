@@ -1,4 +1,4 @@
--- Schedules whose actions stand in a history, in their order: the committed part is one, and each of its actions stands somewhere in the history.
+-- Schedules whose actions are in a history, in their order: the committed part is one, and each of its actions is somewhere in the history.
 -- Assumes nothing.
 use Prim.Native.Nat.{ℕ}
 use mathlib.Core.Path.{_≡_, ap}
@@ -33,7 +33,7 @@ unfolding keep
 keep-within true w = with-it w
 keep-within false w = past-it w
 
--- those that are in the committed part stand in the lines that are left
+-- the committed actions of the lines that are left are in those lines
 part-within : (whole h : History) → Within (partOf whole h) h
 unfolding partOf
 part-within whole [] = nothing

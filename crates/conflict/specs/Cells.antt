@@ -1,4 +1,4 @@
--- Cells that a job's actions are on, kept as sets of bits, and the cells on which two jobs can conflict (01, The judge's rules).
+-- The cells that a job's actions are on, kept as sets of bits, and the cells on which two jobs can conflict (01, The judge's rules).
 use Prim.Native.Nat.{ℕ, _/_, _%_, _^_}
 use mathlib.Core.Bool.{Bool, not, _&&_, _||_}
 use lib.Dec.{eqb}
@@ -7,7 +7,7 @@ use Rattle.conflict.specs.declared.action.Kind.the-variants.{Read, Write
 use Rattle.conflict.specs.declared.cells.Touched.{Touched}
 use Rattle.conflict.specs.Schedule.{agree}
 
--- cell c is in a set that is kept as a number: its bit is set
+-- cell c is in a set that is kept as a number: bit c is set
 unfoldable pub inSet : ℕ → ℕ → Bool
 inSet set c = eqb (set / 2 ^ c % 2) 1
 

@@ -1,4 +1,4 @@
--- Dirty histories: a run that commits has read what another run had written that does not commit and had not ended yet; as the request words it, and as it is looked for line by line (02, No. 2).
+-- Dirty histories: a run that commits has read what another run had written, and that run had not ended yet and does not commit. In the request's words, and as it is looked for line by line (02, No. 2).
 use Prim.Native.Nat.{ℕ, _+_, _≤_}
 use mathlib.Core.Path.{_≡_}
 use mathlib.Core.Logic.{_≢_}
@@ -22,7 +22,7 @@ changes Write = true
 changes Increment = true
 
 -- a dirty read: a job's read of a cell, in a run that commits, stands after another job's write or increment of that cell, in a run that does not commit,
--- and before that run's end if it has one (02, No. 2). The places of the two in the history are counted from 0
+-- and before that run's end if it has one (02, No. 2). Both places are counted from 0
 pub record DirtyRead (h : History) (read-at write-at reader writer : ℕ) : Type 0 where
   pub before : History
   pub write : Action
@@ -50,7 +50,7 @@ pub record IsDirty (h : History) : Type 0 where
   pub writer : ℕ
   pub dirty-read : DirtyRead h read-at write-at reader writer
 
--- reader and writer of the first dirty read, no read before it being dirty, and of the latest action that makes it so (02, No. 2)
+-- the first dirty read, by its reader and its writer: no read before it is dirty, and the writer's action is the latest that makes it dirty (02, No. 2)
 pub record FirstDirty (h : History) (reader writer : ℕ) : Type 0 where
   pub read-at : ℕ
   pub write-at : ℕ
@@ -58,32 +58,32 @@ pub record FirstDirty (h : History) (reader writer : ℕ) : Type 0 where
   pub first : (p q i j : ℕ) → DirtyRead h p q i j → read-at ≤ p
   pub latest : (q i j : ℕ) → DirtyRead h read-at q i j → q ≤ write-at
 
--- who read, and who wrote
+-- the job that read, and the job that wrote
 pub record ReadOf : Type 0 where
   pub reader : ℕ
   pub writer : ℕ
 
--- whether an earlier action makes a read dirty, by the lines between the two and those after the read
+-- whether an earlier action makes a read dirty, given the lines between the two and the lines after the read
 unfoldable pub spoils : Action → History → Action → History → Bool
 spoils a between read after =
     changes (a .kind) && (eqb (a .cell) (read .cell) && (not (eqb (a .job) (read .job)) && (not (commits (a .job) (between ++ Does read ∷ after)) && not (ended (a .job) between))))
 
--- back from a read over the lines before it, the last of them first: the job of the first action met that makes it dirty
+-- looking back from a read over the lines before it, the last line first: the job of the first action found that makes the read dirty
 unfoldable pub lookBack : History → History → Action → History → Option ℕ
 lookBack [] between read after = none
 lookBack (Does a ∷ seen) between read after = pick (spoils a between read after) (some (a .job)) (lookBack seen (Does a ∷ between) read after)
 lookBack (Ends m j ∷ seen) between read after = lookBack seen (Ends m j ∷ between) read after
 
--- the writer that makes an action dirty, where it is a read in a run that commits
+-- the writer that makes an action dirty, if the action is a read in a run that commits
 unfoldable pub writerOf : History → Action → History → Option ℕ
 writerOf seen a after = pick (not (changes (a .kind)) && commits (a .job) after) (lookBack seen [] a after) none
 
--- this read with its writer where it has one, else what is found later
+-- this read with its writer if it has one, else what is found later
 unfoldable pub readOrLater : ℕ → Option ℕ → Option ReadOf → Option ReadOf
 readOrLater reader none later = later
 readOrLater reader (some writer) later = some (record { reader = reader; writer = writer })
 
--- the first dirty read of the lines that are left, those before them being seen, the last of them first
+-- the first dirty read among the lines that are left, given the lines already seen, the last of them first
 unfoldable pub dirtyFrom : History → History → Option ReadOf
 dirtyFrom seen [] = none
 dirtyFrom seen (Does a ∷ h) = readOrLater (a .job) (writerOf seen a h) (dirtyFrom (Does a ∷ seen) h)

@@ -34,7 +34,7 @@ marked f j [] = false
 marked f j (Does a ∷ h) = marked f j h
 marked f j (Ends m i ∷ h) = (eqb i j && f m) || marked f j h
 
--- of the lines that are left, the actions of jobs with a c in the whole history and no k after them
+-- among the lines that are left, the actions of jobs that have a c in the whole history and no k after the action
 unfoldable pub partOf : History → History → Schedule
 partOf whole [] = []
 partOf whole (Does a ∷ h) = keep (marked isCommit (a .job) whole && not (marked isBack (a .job) h)) a (partOf whole h)
@@ -80,7 +80,7 @@ undisturbed a [] = true
 undisturbed a (Does b ∷ h) = not (conflicts a b) && undisturbed a h
 undisturbed a (Ends m i ∷ h) = pick (eqb i (a .job)) true (undisturbed a h)
 
--- strict: from each action to the end of its run nothing of another job conflicts with it (01, The desk's rules: nothing is released before the run ends)
+-- strict: from each action to the end of its run, no action of another job conflicts with it (01, The desk's rules: nothing is released before the run ends)
 unfoldable pub strict : History → Bool
 strict [] = true
 strict (Does a ∷ h) = undisturbed a h && strict h

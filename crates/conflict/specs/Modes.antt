@@ -1,4 +1,4 @@
--- Lock modes: what each kind needs, what covers what and what is granted beside what is held, both as they are printed, and what may be held together (01, The desk's rules; 02, No. 1 and No. 4).
+-- Lock modes: what each kind needs; what covers what, and what is granted beside what, both as printed tables; and what may be held together (01, The desk's rules; 02, No. 1 and No. 4).
 use Prim.Native.Nat.{ℕ}
 use mathlib.Core.Bool.{Bool, true, false, _||_}
 use lib.Dec.{eqb}
@@ -17,7 +17,7 @@ needed asks-write = X
 needed asks-increment = I
 needed asks-update = U
 
--- the kind of action that a history records of what is asked (01, Lines: the history's letters); of a read with intent to write it records a read (02, No. 1)
+-- the kind of action that a history records for a request (01, Lines: the history's letters); for a read with intent to write it records a read (02, No. 1)
 unfoldable pub recorded : Ask → Kind
 recorded asks-read = Read
 recorded asks-write = Write
@@ -31,7 +31,7 @@ Y = true
 abbrev pub N : Bool
 N = false
 
--- a row of a printed table, its columns being S, X, I and U: what it says of a mode. Nothing has no column, and every row says yes of it
+-- a row of a printed table, with the columns S, X, I and U: what it says of a mode. `Free` has no column, and every row says yes to it
 abbrev pub row : Bool → Bool → Bool → Bool → Mode → Bool
 row s x i u Free = Y
 row s x i u S = s
@@ -39,8 +39,8 @@ row s x i u X = x
 row s x i u I = i
 row s x i u U = u
 
--- what covers what, a row for each mode that a job holds, a column for each that it needs: S covers S, I covers I, X every need (01, The desk's rules), U covers U and S (02, No. 1).
--- Nothing held covers no need, and where nothing is needed, anything covers it
+-- what covers what: a row for each mode that a job holds, a column for each mode that it needs. S covers S, I covers I, X covers every need (01, The desk's rules), U covers U and S (02, No. 1).
+-- Holding nothing covers no need; needing nothing is covered by anything
 unfoldable pub covers : Mode → Mode → Bool
 covers Free m = row N N N N m
 --               S X I U   needed
@@ -49,8 +49,8 @@ covers X m = row Y Y Y Y m
 covers I m = row N N Y N m
 covers U m = row Y N N Y m
 
--- the compatibility matrix as it is printed, a row for each mode that another job holds, a column for each that is asked for (02, No. 4; 000, 18.4.2):
--- beside a held S an S or a U is granted, beside a held I an I, beside a held X or U nothing (01, The desk's rules; 02, No. 1; 000, 18.4.4). Beside a job that holds nothing everything is, and who asks for nothing gets it
+-- the compatibility matrix as it is printed: a row for each mode that another job holds, a column for each mode that is asked for (02, No. 4; 000, 18.4.2).
+-- Beside a held S an S or a U is granted, beside a held I an I, beside a held X or U nothing (01, The desk's rules; 02, No. 1; 000, 18.4.4). Beside a job that holds nothing everything is granted, and a job that asks for nothing gets it
 unfoldable pub grants : Mode → Mode → Bool
 grants Free m = Y
 --               S X I U   asked for
@@ -63,11 +63,11 @@ grants U m = row N N N N m
 unfoldable pub beside : Mode → Mode → Bool
 beside m n = grants m n || grants n m
 
--- what a job asks for: what it holds where that covers its need, what it needs where that covers what it holds, and X else (01, rules 2 and 3; 02, No. 1)
+-- what a job asks for: the mode it holds if that covers its need, the mode it needs if that covers what it holds, else X (01, rules 2 and 3; 02, No. 1)
 unfoldable pub asked : Mode → Mode → Mode
 asked held need = pick (covers held need) held (pick (covers need held) need X)
 
--- what becomes of a held mode that does not cover what is asked, by names: S with u becomes U, with write or increment X; U with write or increment becomes X; I with read, write or u becomes X (01, rule 2; 02, No. 1)
+-- what a held mode becomes if it does not cover the request, by names: S with u becomes U, with write or increment X; U with write or increment becomes X; I with read, write or u becomes X (01, rule 2; 02, No. 1)
 pub data Becomes : Mode → Ask → Mode → Type 0 where
   s-write : Becomes S asks-write X
   s-increment : Becomes S asks-increment X
@@ -92,7 +92,7 @@ lets U Read = true
 lets U Write = false
 lets U Increment = false
 
--- whether a mode is one beside which no other job gets a lock: U and X (02, No. 1)
+-- whether a mode keeps every other job from getting a lock: U and X do (02, No. 1)
 unfoldable pub shutsOut : Mode → Bool
 shutsOut Free = false
 shutsOut S = false
@@ -116,7 +116,7 @@ codeOf X = 2
 codeOf I = 3
 codeOf U = 4
 
--- the mode that a number stands for: the one whose code it is, and nothing held for any other number
+-- the mode that a number stands for: the mode with that code, or nothing held for any other number
 unfoldable pub modeOf : ℕ → Mode
 modeOf n =
     pick (eqb n (codeOf S)) S (pick (eqb n (codeOf X)) X (pick (eqb n (codeOf I)) I (pick (eqb n (codeOf U)) U Free)))

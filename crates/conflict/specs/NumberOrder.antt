@@ -1,4 +1,4 @@
--- Conflicting actions in number order, and the largest job number that has read or changed a cell, as the timestamp method has them (02, No. 6).
+-- Conflicting actions in number order, and the largest job number that has read or changed a cell, as in the timestamp method (02, No. 6).
 use Prim.Native.Nat.{ℕ, _≤_, _<_}
 use mathlib.Core.Path.{_≡_}
 use mathlib.Core.Logic.{_⊎_}
@@ -14,23 +14,23 @@ use Rattle.conflict.specs.declared.action.Event.the-variants.{Does, Ends
 use Rattle.conflict.specs.Schedule.{Schedule, conflicts}
 use Rattle.conflict.specs.History.{History}
 
--- of two conflicting actions of a schedule the earlier is by the smaller job number (02, No. 6: conflicting actions stand in number order)
+-- of any two conflicting actions of a schedule, the earlier is by the smaller job number (02, No. 6: conflicting actions stand in number order)
 pub record InNumberOrder (s : Schedule) : Type 0 where
   pub rises : (before : Schedule) (a : Action) (between : Schedule) (b : Action) (after : Schedule) →
       s ≡ before ++ a ∷ between ++ b ∷ after → conflicts a b ≡ true → a .job < b .job
 
--- the same of all actions of a history, whatever becomes of their runs (02, No. 6)
+-- the same for all actions of a history, whatever becomes of their runs (02, No. 6)
 pub record ActsInNumberOrder (h : History) : Type 0 where
   pub rises : (before : History) (a : Action) (between : History) (b : Action) (after : History) →
       h ≡ before ++ Does a ∷ between ++ Does b ∷ after → conflicts a b ≡ true → a .job < b .job
 
--- whether an action of this kind reads: an increment counts as a read and a write (02, No. 6); `changes` of Dirty.antt says which write
+-- whether an action of this kind reads: an increment counts as a read and a write (02, No. 6); `changes` of Dirty.antt says which kinds write
 unfoldable pub reads : Kind → Bool
 reads Read = true
 reads Write = false
 reads Increment = true
 
--- the largest job number with an action of such a kind on the cell, whatever became of its run; 0 where there is none (02, No. 6)
+-- the largest job number with an action of such a kind on the cell, whatever became of its run; 0 if there is none (02, No. 6)
 unfoldable pub largest : (Kind → Bool) → ℕ → History → ℕ
 largest f c [] = 0
 largest f c (Does a ∷ h) = pick (eqb (a .cell) c && f (a .kind)) (larger (a .job) (largest f c h)) (largest f c h)
@@ -46,7 +46,7 @@ pub record HasActed (f : Kind → Bool) (c : ℕ) (h : History) (n : ℕ) : Type
   pub of-kind : f (act .kind) ≡ true
   pub by-job : act .job ≡ n
 
--- what the largest is, with no way to find it: nobody who has acted so has a larger number, and it has acted so itself, or is 0 at first (02, No. 6)
+-- what the largest number is, with no way to find it: no job that has acted so has a larger number, and this one has acted so itself, or is 0 at first (02, No. 6)
 pub record IsLargest (f : Kind → Bool) (c : ℕ) (h : History) (n : ℕ) : Type 0 where
   pub most : (k : ℕ) → HasActed f c h k → k ≤ n
   pub attained : (n ≡ 0) ⊎ HasActed f c h n

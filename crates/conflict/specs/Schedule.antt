@@ -1,4 +1,4 @@
--- Schedules as the book has them: conflicts, swaps of adjacent actions, serial schedules, the precedence graph (000, 18.1 and 18.2; 01, Where the rules come from).
+-- Schedules as in the book: conflicts, swaps of adjacent actions, serial schedules, the precedence graph (000, 18.1 and 18.2; 01, Where the rules come from).
 use Prim.Native.Nat.{ℕ, _<_}
 use mathlib.Core.Path.{_≡_}
 use mathlib.Core.Logic.{_≢_}
@@ -28,17 +28,17 @@ agree Increment Increment = true
 unfoldable pub conflicts : Action → Action → Bool
 conflicts a b = eqb (a .cell) (b .cell) && not (eqb (a .job) (b .job)) && not (agree (a .kind) (b .kind))
 
--- two adjacent actions of different jobs change places, which they may unless they conflict (000, 18.2.1)
+-- two adjacent actions of different jobs change places; they may, unless they conflict (000, 18.2.1)
 pub data Swap : Schedule → Schedule → Type 0 where
   here : {a b : Action} {s : Schedule} → a .job ≢ b .job → conflicts a b ≡ false → Swap (a ∷ b ∷ s) (b ∷ a ∷ s)
   later : {a : Action} {s t : Schedule} → Swap s t → Swap (a ∷ s) (a ∷ t)
 
--- conflict-equivalent: one is turned into the other by a sequence of such swaps (000, 18.2.1)
+-- conflict-equivalent: a sequence of such swaps turns one schedule into the other (000, 18.2.1)
 pub data Equivalent : Schedule → Schedule → Type 0 where
   done : {s : Schedule} → Equivalent s s
   after : {s t u : Schedule} → Swap s t → Equivalent t u → Equivalent s u
 
--- the action and then the rest where it is kept, else the rest alone
+-- the action and then the rest if the action is kept, else the rest alone
 unfoldable pub keep : Bool → Action → Schedule → Schedule
 keep true a s = a ∷ s
 keep false a s = s
@@ -82,12 +82,12 @@ pub record Forward (order : List ℕ) (s : Schedule) : Type 0 where
   pub all : names order s ≡ true
   pub ahead : (i j : ℕ) → edge s i j ≡ true → pos order i < pos order j
 
--- a way along edges from i through the listed jobs to k
+-- a path along edges from i through the listed jobs to k
 unfoldable pub path : (ℕ → ℕ → Bool) → ℕ → List ℕ → ℕ → Bool
 path e i [] k = e i k
 path e i (j ∷ js) k = e i j && path e j js k
 
--- a knot: from its first job along edges through the others and back to the first (01, The judge's rules)
+-- a knot, a cycle in the precedence graph: from its first job along edges through the others and back to the first (01, The judge's rules)
 unfoldable pub knot : (ℕ → ℕ → Bool) → List ℕ → Bool
 knot e [] = false
 knot e (j ∷ js) = path e j js j

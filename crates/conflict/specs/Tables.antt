@@ -18,7 +18,7 @@ pub record Column (table : Table) (m : Mode) (column : Row) : Type 0 where
   pub of-i : column .2 ≡ inRow (table .2) m
   pub of-u : column .3 ≡ inRow (table .3) m
 
--- what the row of a held mode says of another; where nothing is held, the row that comes beside the table
+-- what the row of a held mode says of another mode; if nothing is held, what the extra row beside the table says
 abbrev pub lookUp : Table → Row → Mode → Mode → Bool
 lookUp table unheld Free other = inRow unheld other
 lookUp table unheld S other = inRow (table .0) other

@@ -21,11 +21,11 @@ pub struct Action {
 
 // What ends a run: c, a or k in a history.
 pub enum Mark {
-    // c: for good, and what was done counts
+    // c: the job ends for good, and what it did counts
     Commit,
-    // a: for good
+    // a: the job ends for good
     GiveUp,
-    // k: the job may come again
+    // k: the job is sent back, and may come again
     Back,
 }
 
@@ -37,7 +37,7 @@ pub enum Event {
     Ends(Mark, u32),
 }
 
-// Whether two kinds agree, as two reads or two increments do: actions on one cell by different jobs conflict unless their kinds agree.
+// Whether two kinds agree: both are reads, or both are increments. Actions of different jobs on one cell conflict unless their kinds agree.
 pub fn kinds_agree(a: Kind, b: Kind) -> bool
     ensures { λ r. ⌜ r ≡ agree a b ⌝ }
 {

@@ -14,7 +14,7 @@ pub struct Touched {
     pub increments: u64,
 }
 
-// A set with one cell more. What is no cell is in no set.
+// A set with one more cell. A number that is not a cell leaves the set as it is.
 pub fn with_cell(set: u64, cell: u32) -> u64
     ensures { λ r. ⌜ ((c : ℕ) → inSet r c ≡ ((eqb cell c && ltb cell cells) || inSet set c)) ⌝ }
 {
@@ -34,7 +34,7 @@ pub fn has_cell(set: u64, cell: u32) -> bool
     (set >> cell) & 1 == 1
 }
 
-// The cells on which actions of two jobs can conflict, as a set: each has an action there, and their kinds do not agree.
+// The cells on which two jobs can conflict, as a set: both jobs have an action there, and the kinds of the two do not agree.
 pub fn meeting_cells(a: Touched, b: Touched) -> u64
     ensures { λ r. ⌜ ((c : ℕ) → inSet r c ≡ canConflict a b c) ⌝ }
 {

@@ -1,4 +1,4 @@
-// Lock modes: what each need is, what covers it, what is granted beside it (by the tables of `tables.rt`) and what a promotion asks for (01, The desk's rules; 02, No. 1 and No. 4).
+// Lock modes: what each request needs, what covers it, what is granted beside it (by the tables of `tables.rt`), and what a promotion asks for (01, The desk's rules; 02, No. 1 and No. 4).
 use crate::action::Kind;
 use crate::tables::COVERS;
 use crate::tables::GRANTS;
@@ -20,7 +20,7 @@ pub enum Mode {
     X,
     // an increment lock, under which it may increment
     I,
-    // an update lock, under which it may read, and beside which nobody else gets a lock
+    // an update lock: its job may read, and no other job gets a lock beside it
     U,
 }
 
@@ -35,7 +35,7 @@ pub const INCREMENTING: u8 = 3;
 
 pub const UPDATING: u8 = 4;
 
-// The mode that what is asked needs.
+// The mode that a request needs.
 pub fn needed_mode(a: Ask) -> Mode
     ensures { λ r. ⌜ r ≡ needed a ⌝ }
 {
@@ -47,7 +47,7 @@ pub fn needed_mode(a: Ask) -> Mode
     }
 }
 
-// The kind that the history records of what is asked.
+// The kind of action that the history records for a request.
 pub fn recorded_kind(a: Ask) -> Kind
     ensures { λ r. ⌜ r ≡ recorded a ⌝ }
 {
@@ -59,21 +59,21 @@ pub fn recorded_kind(a: Ask) -> Kind
     }
 }
 
-// Whether a held mode covers a needed one, as the table `COVERS` says; nothing held covers no need.
+// Whether a held mode covers a needed one, as the table `COVERS` says. Holding nothing covers no need.
 pub fn mode_covers(held: Mode, need: Mode) -> bool
     ensures { λ r. ⌜ r ≡ covers held need ⌝ }
 {
     look(COVERS, Row(N, N, N, N), held, need)
 }
 
-// Whether a mode that one job holds lets another be granted the mode that it asks for, as the matrix `GRANTS` says; beside nothing held everything is granted.
+// Whether a mode that one job holds lets another job have the mode that it asks for, as the matrix `GRANTS` says. Beside a job that holds nothing, everything is granted.
 pub fn mode_grants(held: Mode, asks: Mode) -> bool
     ensures { λ r. ⌜ r ≡ grants held asks ⌝ }
 {
     look(GRANTS, Row(Y, Y, Y, Y), held, asks)
 }
 
-// The mode that a job asks for, given what it holds and what it needs: the one of the two that covers the other, or X.
+// The mode that a job asks for: of the mode it holds and the mode it needs, the one that covers the other, or X.
 pub fn asked_mode(held: Mode, need: Mode) -> Mode
     ensures { λ r. ⌜ r ≡ asked held need ⌝ }
 {
@@ -86,7 +86,7 @@ pub fn asked_mode(held: Mode, need: Mode) -> Mode
     Mode::X
 }
 
-// Whether a mode is that of a job that holds nothing.
+// Whether a mode is `Free`: the job holds nothing.
 pub fn mode_is_free(m: Mode) -> bool
     ensures { λ r. ⌜ r ≡ isFree m ⌝ }
 {

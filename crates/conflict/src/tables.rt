@@ -1,4 +1,4 @@
-// The compatibility matrix as it is printed for training, what covers what laid out likewise, and how both are looked up (02, No. 4; 000, 18.4.2).
+// The compatibility matrix as it is printed for training, the table of what covers what in the same layout, and how both are looked up (02, No. 4; 000, 18.4.2).
 use crate::modes::Mode;
 use crate::modes::mode_is_free;
 ghost use mathlib.Core.Path.{_≡_};
@@ -26,7 +26,7 @@ pub const GRANTS: Table = Table(
     Row(N, N, N, N), // U held
 );
 
-// What covers what: a row for each mode that a job holds, a column for each mode that it needs. Has it what it needs?
+// What covers what: a row for each mode that a job holds, a column for each mode that it needs. Does the job have what it needs?
 //
 //      S  X  I  U   needed
 pub const COVERS: Table = Table(
@@ -36,7 +36,7 @@ pub const COVERS: Table = Table(
     Row(Y, N, N, Y), // has U
 );
 
-// What a row says of a mode. Nothing has no column, and every row says yes of it.
+// What a row says of a mode. `Free` has no column, and every row says yes to it.
 fn says(r: Row, m: Mode) -> bool
     ensures { λ b. ⌜ b ≡ inRow r m ⌝ }
 {
@@ -61,8 +61,8 @@ fn column_of(table: Table, m: Mode) -> Row
     )
 }
 
-// What the row of a held mode says of another. Nothing has no column, and yes is said of it; where nothing is held the table has no row, and the one that stands for it comes beside it.
-// Else the column of the other mode is asked for the held one: it stays the same while one holder after another is looked at.
+// What the row of a held mode says of another mode. `Free` has no column, and the answer to it is yes. `Free` has no row in the table either: `unheld` is its row.
+// Otherwise the column of the other mode is asked about the held one: the column stays the same while one holder after another is looked at.
 pub fn look(table: Table, unheld: Row, held: Mode, other: Mode) -> bool
     ensures { λ b. ⌜ b ≡ lookUp table unheld held other ⌝ }
 {

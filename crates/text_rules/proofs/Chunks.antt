@@ -1,4 +1,4 @@
--- How a text is cut into chunks does not matter: run after run of bytes is one run.
+-- How a text is cut into chunks does not matter: several runs of bytes, one after another, act as one run.
 -- Assumes nothing.
 use mathlib.Core.Path.{_≡_, refl, sym, ap, ap₂, _∙_}
 use mathlib.Core.List.{List, [], _∷_, _++_, append-assoc}
@@ -6,7 +6,7 @@ use Prim.Native.Nat.{ℕ}
 use Rattle.text_rules.specs.declared.splitter.Splitter.{Splitter}
 use Rattle.text_rules.specs.Split.{taken, joined, afterAll, Found, foundNow, foundLast, foundIn, foundOver}
 
--- going through one run and then another is going through both as one
+-- going through one run and then another is the same as going through both as one
 pub after-append : (s : Splitter) (a b : List ℕ) → afterAll s (a ++ b) ≡ afterAll (afterAll s a) b
 unfolding afterAll
 after-append s [] b = refl

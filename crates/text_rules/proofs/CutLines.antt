@@ -1,4 +1,4 @@
--- A line cut off: so many of its bytes decide it whatever follows them, sixteen in all, field by field (01, Lines; 02, No. 5).
+-- A line cut off: a fixed number of its first bytes decides how it reads, whatever follows; sixteen for a line, counted field by field (01, Lines; 02, No. 5).
 -- Assumes nothing.
 use Prim.Native.Nat.{ℕ, suc, _+_, _^_, _≤_, _<_}
 use mathlib.Core.Path.{_≡_, refl, sym, ap}
@@ -56,14 +56,14 @@ plain-after (b ∷ t) h =
 parts-length : (t : List ℕ) → length (fieldAhead t) + length (afterField t) ≡ length t
 parts-length t = omega (arith, length-append (fieldAhead t) (afterField t), ap length (field-then t))
 
--- a field of too many digits is no number that is small enough
+-- a field of too many digits is not a number that is small enough
 long-no-number : (d most : ℕ) (f : List ℕ) → most < 10 ^ suc d → suc d < length f → isNumber most f ≡ false
 long-no-number d most f h g =
     by-test (isNumber most f)
     (λ n. let i = is-number most f n in let v = i .1 in absurd (omega (arith, ap length (i .0), digits-at-most d (valueFrom 0 f) (omega arith))))
     (λ n. n)
 
--- what is asked of a text is decided by so many of its bytes, if none is a newline, whatever follows
+-- a reading of a text is decided by this many of its bytes, if none is a newline, whatever follows
 abbrev Decided : ℕ → (List ℕ → Reading) → Type 0
 Decided n f = (t q : List ℕ) → noNewline t ≡ true → n ≤ length t → f (t ++ q) ≡ f t
 
@@ -130,7 +130,7 @@ job-decided l t q h g =
     (λ e. rw e (number-decided 9 lastNumber 3 Second (omega arith) (cellPart l) (cell-decided l) t q h g))
     (λ e. rw e (cell-decided l 0 t q h (omega arith)))
 
--- a field of two bytes is no letter
+-- a field of two bytes is not a letter
 long-no-letter : (f : List ℕ) → 2 ≤ length f → letterIn f ≡ Unknown
 unfolding letterIn
 long-no-letter [] h = refl
@@ -144,7 +144,7 @@ letter-one [] l e = omega arith
 letter-one (b ∷ []) l e = omega arith
 letter-one (b ∷ c ∷ f) l e = let z : _≡_ {A = ℕ} 0 1 = cc in absurd (omega arith)
 
--- a line: sixteen
+-- a line is decided by sixteen bytes
 pub line-decided : (which : Letter → Bool) → Decided 16 (readLine which)
 unfolding readLine letterPart
 line-decided which t q h g = go (afterField t) refl

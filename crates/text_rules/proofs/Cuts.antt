@@ -1,4 +1,4 @@
--- Cut by cut a caller comes where byte by byte leads, and finds the same lines.
+-- Cutting a chunk line by line ends in the same state as going byte by byte, and finds the same lines.
 -- Assumes nothing.
 use Prim.Native.Nat.{ℕ, zero, suc, _+_, _-_, _≤_, _<_}
 use mathlib.Core.Path.{_≡_, refl, sym, ap, _∙_}
@@ -22,13 +22,13 @@ unfolding through afterAll used
 through-all s [] = refl
 through-all s (b ∷ t) = by-test (eqb b newline) (λ e. simp e) (λ e. simp (e, through-all (taken s b) t))
 
--- after a byte the line has ended exactly where the byte is a newline
+-- after a byte the line has ended exactly if the byte is a newline
 pub taken-ended : (s : Splitter) (b : ℕ) → taken s b .ended ≡ eqb b newline
 unfolding taken
 taken-ended s b =
     by-test (s .ended) (λ e. rw e) (λ e. rw e (by-test (ltb (s .len) kept) (λ f. rw f) (λ f. rw f)))
 
--- so a byte that is no newline gives no line
+-- so a byte that is not a newline ends no line
 none-now : (s : Splitter) (b : ℕ) → eqb b newline ≡ false → foundNow (taken s b) ≡ []
 unfolding foundNow
 none-now s b e = rw (taken-ended s b, e)
@@ -43,7 +43,7 @@ none-inside s (b ∷ t) (suc i) h =
     (λ e. absurd (omega (arith, rw e at h)))
     (λ e. let g : suc i < suc (used t) = rw e at h in rw (none-now s b e) (none-inside (taken s b) t i (omega arith)))
 
--- nor has it ended there, once a byte has come
+-- nor has the line ended there, once a byte has come
 pub open-inside : (s : Splitter) (t : List ℕ) (i : ℕ) → suc i < used t → afterAll s (take (suc i) t) .ended ≡ false
 unfolding used afterAll
 open-inside s [] i h = absurd (omega arith)
@@ -54,14 +54,14 @@ open-inside s (b ∷ t) (suc i) h =
     (λ e. absurd (omega (arith, rw e at h)))
     (λ e. let g : suc (suc i) < suc (used t) = rw e at h in open-inside (taken s b) t i (omega arith))
 
--- after a cut the rest of the chunk leads where the whole does
+-- going on with the rest of the chunk after a cut leads where the whole chunk leads
 pub after-cut : (s : Splitter) (t : List ℕ) → afterAll s t ≡ afterAll (through s t) (drop (used t) t)
 after-cut s t =
     ap (afterAll s) (sym (take-append-drop (used t) t))
     ∙ after-append s (take (used t) t) (drop (used t) t)
     ∙ ap (λ (x : Splitter). afterAll x (drop (used t) t)) (sym (through-all s t))
 
--- the lines that end in a chunk are that which the cut finds, if it finds one, and those that end in the rest
+-- the lines that end in a chunk are the line that the cut finds, if any, and those that end in the rest
 pub found-cut : (s : Splitter) (t : List ℕ) → 0 < length t → foundIn s t ≡ foundNow (through s t) ++ foundIn (through s t) (drop (used t) t)
 unfolding foundIn through used
 found-cut s [] h = absurd (omega arith)
@@ -72,25 +72,25 @@ found-cut s (b ∷ c ∷ t) h =
     (λ e. rw e (ap (λ (r : List Found). r ++ foundIn (taken s b) (c ∷ t)) (none-now s b e) ∙ found-cut (taken s b) (c ∷ t) (omega arith)))
 
 module _ (s : Splitter) (chunk : List ℕ) (from : ℕ) where
-  -- the same of a cut from a place of a chunk on
+  -- the same for a cut from a place of a chunk
   pub cut-after : afterAll s (drop from chunk) ≡ afterAll (cutOf s chunk from .splitter) (drop (cutOf s chunk from .next) chunk)
   unfolding cutOf
   cut-after = after-cut s (drop from chunk) ∙ rw drop-drop
 
-  -- and of the lines that it finds
+  -- and for the lines that it finds
   pub cut-found : from < length chunk →
       foundIn s (drop from chunk) ≡ foundNow (cutOf s chunk from .splitter) ++ foundIn (cutOf s chunk from .splitter) (drop (cutOf s chunk from .next) chunk)
   unfolding cutOf
   cut-found h = found-cut s (drop from chunk) (omega (arith, length-drop from chunk)) ∙ rw drop-drop
 
-  -- a cut gets ahead, and not past the chunk's end
+  -- a cut moves forward, and not past the chunk's end
   pub cut-ahead : from < length chunk → (from < cutOf s chunk from .next) × (cutOf s chunk from .next ≤ length chunk)
   unfolding cutOf
   cut-ahead h =
       let l : length (drop from chunk) ≡ length chunk - from = length-drop from chunk in
       omega (arith, used-some (drop from chunk) (omega arith), used-within (drop from chunk))
 
--- where nothing is left of the chunk the splitter stays
+-- if nothing is left of the chunk, the splitter stays as it is
 pub after-end : (s : Splitter) (chunk : List ℕ) (from : ℕ) → length chunk ≤ from → afterAll s (drop from chunk) ≡ s
 unfolding afterAll
 after-end s chunk from h = rw (drop-of-length-le chunk h)
@@ -100,7 +100,7 @@ pub found-end : (s : Splitter) (chunk : List ℕ) (from : ℕ) → length chunk 
 unfolding foundIn
 found-end s chunk from h = rw (drop-of-length-le chunk h)
 
--- cuts from place to place until nothing is left, of which one for each byte is enough, lead where the bytes lead
+-- cuts from place to place until nothing is left lead where the bytes lead; one cut for each byte is enough
 pub cuts-after : (n : ℕ) (s : Splitter) (chunk : List ℕ) (from : ℕ) → length chunk ≤ from + n → afterCuts n s chunk from ≡ afterAll s (drop from chunk)
 unfolding afterCuts
 cuts-after zero s chunk from h = sym (after-end s chunk from (omega arith))
@@ -111,7 +111,7 @@ cuts-after (suc n) s chunk from h =
     rw e (cuts-after n (cutOf s chunk from .splitter) chunk (cutOf s chunk from .next) (omega arith) ∙ sym (cut-after s chunk from)))
     (λ e. rw e (sym (after-end s chunk from (ltb-false from (length chunk) e))))
 
--- and find exactly the lines that end in the chunk from the place on
+-- and they find exactly the lines that end in the chunk from the place on
 pub cuts-find : (n : ℕ) (s : Splitter) (chunk : List ℕ) (from : ℕ) → length chunk ≤ from + n → foundCuts n s chunk from ≡ foundIn s (drop from chunk)
 unfolding foundCuts
 cuts-find zero s chunk from h = sym (found-end s chunk from (omega arith))
@@ -124,7 +124,7 @@ cuts-find (suc n) s chunk from h =
     rw e (ap (λ (r : List Found). foundNow (cutOf s chunk from .splitter) ++ r) q ∙ sym (cut-found s chunk from l)))
     (λ e. rw e (sym (found-end s chunk from (ltb-false from (length chunk) e))))
 
--- so a caller who cuts every chunk finds what is found byte by byte
+-- so a caller that cuts every chunk finds what is found byte by byte
 pub cuts-do-not-matter : (s : Splitter) (chunks : List (List ℕ)) → foundByCuts s chunks ≡ foundOver s chunks
 unfolding foundByCuts foundOver
 cuts-do-not-matter s [] = refl

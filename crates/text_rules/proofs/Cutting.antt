@@ -1,4 +1,4 @@
--- What one cut goes through: the bytes up to and with the next newline, which are a part of the chunk by themselves.
+-- What one cut goes through: the bytes up to and including the next newline, as a part of the chunk by themselves.
 -- Assumes nothing.
 use Prim.Native.Nat.{ℕ, _+_, _-_, _≤_, _<_}
 use mathlib.Core.Path.{_≡_, refl, sym, ap, ap₂, _∙_}
@@ -33,7 +33,7 @@ unfolding used
 line-alone [] = refl
 line-alone (b ∷ t) = by-test (eqb b newline) (λ e. simp e) (λ e. simp (e, line-alone t))
 
--- what comes after the line changes nothing
+-- what comes after the line does not matter
 through-line : (s : Splitter) (t : List ℕ) → through s (take (used t) t) ≡ through s t
 unfolding used through
 through-line s [] = refl
@@ -60,7 +60,7 @@ unfolding underWay
 going s e = λ i. record { kept = s .kept; len = s .len; ended = e i; line = s .line }
 
 module _ (t : List ℕ) (from next : ℕ) (h : next ≡ from + used (drop from t)) where
-  -- nothing is left of the chunk
+  -- a cut with nothing left of the chunk
   pub cut-none : (s : Splitter) → next ≡ from → _≡_ {A = Cut} (record { splitter = s; next = next }) (cutOf s t from)
   unfolding cutOf
   cut-none s e =
@@ -80,11 +80,11 @@ module _ (t : List ℕ) (from next : ℕ) (h : next ≡ from + used (drop from t
     part-long : length (part t from next) ≡ used (drop from t)
     part-long = ap length part-is ∙ length-take-le (used (drop from t)) (drop from t) (used-within (drop from t))
 
-    -- they are bytes, and have no newline before the last
+    -- the bytes of a cut have no newline before the last
     pub cut-part : (0 < length (part t from next)) × (used (part t from next) ≡ length (part t from next))
     cut-part = (omega (arith, part-long), ap used part-is ∙ line-alone (drop from t) ∙ sym part-long)
 
-    -- a line goes on in the chunk
+    -- a cut with a line that goes on in the chunk
     pub cut-on : (s : Splitter) (g : Splitter) → s .ended ≡ false → g ≡ through (underWay (s .kept) (s .len) (s .line)) (part t from next) →
         _≡_ {A = Cut} (record { splitter = g; next = next }) (cutOf s t from)
     unfolding cutOf
@@ -92,7 +92,7 @@ module _ (t : List ℕ) (from next : ℕ) (h : next ≡ from + used (drop from t
         let r : g ≡ through s (drop from t) = q ∙ ap₂ through (sym (going s e)) part-is ∙ through-line s (drop from t) in
         λ i. record { splitter = r i; next = h i }
 
-    -- a line begins in the chunk
+    -- a cut with a line that begins in the chunk
     pub cut-new : (s : Splitter) (g : Splitter) (l : ℕ) → s .ended ≡ true → l ≡ following (s .line) → g ≡ through (underWay (s .kept) 0 l) (part t from next) →
         _≡_ {A = Cut} (record { splitter = g; next = next }) (cutOf s t from)
     unfolding cutOf

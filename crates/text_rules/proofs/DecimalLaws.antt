@@ -24,7 +24,7 @@ unfolding digitsOnly
 only-append [] es h g = g
 only-append (d ∷ ds) es h g = by-test (isDigit d) (λ e. rw e (only-append ds es (rw e at h) g)) (λ e. not-both (rw e at h) refl)
 
--- of digits only, the first is one and the others are
+-- in a text of digits only, the first byte is a digit and so are the others
 pub only-parts : (d : ℕ) (ds : List ℕ) → digitsOnly (d ∷ ds) ≡ true → (isDigit d ≡ true) × (digitsOnly ds ≡ true)
 unfolding digitsOnly
 only-parts d ds h = by-test (isDigit d) (λ e. (e, rw e at h)) (λ e. not-both (rw e at h) refl)
@@ -37,7 +37,7 @@ digits-only (suc p) n =
     by-test (ltb n 10) (λ s. rw (s, digit-is n (ltb-true n 10 s)))
     (λ s. rw s (only-append (digitsIn p (n / 10)) (digit (n % 10) ∷ []) (digits-only p (n / 10)) (rw (digit-is (n % 10) (omega arith)))))
 
--- digits are read on where others end
+-- reading digits after digits goes on from the value of the first
 pub value-append : (v : ℕ) (ds es : List ℕ) → valueFrom v (ds ++ es) ≡ valueFrom (valueFrom v ds) es
 unfolding valueFrom
 value-append v [] es = refl
@@ -51,7 +51,7 @@ value-in (suc p) n h =
     by-test (ltb n 10) (λ s. rw s (omega arith))
     (λ s. rw (s, value-append 0 (digitsIn p (n / 10)) (digit (n % 10) ∷ []), value-in p (n / 10) (omega arith)) (omega arith))
 
--- whether digits begin with another than zero
+-- whether digits begin with one other than zero
 unfoldable pub leads : List ℕ → Bool
 leads [] = false
 leads (d ∷ ds) = not (eqb d 48)
@@ -126,7 +126,7 @@ pub decimal-value : (n : ℕ) → valueFrom 0 (decimal n) ≡ n
 unfolding decimal
 decimal-value n = value-in (suc n) n (omega (arith, below-tens n))
 
--- no other digits that are shortest stand for a number
+-- no other shortest digits stand for the number
 pub decimal-unique : (ds : List ℕ) → digitsOnly ds ≡ true → shortest ds ≡ true → decimal (valueFrom 0 ds) ≡ ds
 unfolding valueFrom shortest
 decimal-unique [] o s = not-both s refl

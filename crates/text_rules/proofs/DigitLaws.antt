@@ -1,4 +1,4 @@
--- How the digits of a number are counted from the last one on, and how they are written from the last one on.
+-- How the digits of a number are counted, and written, from the last one.
 -- Assumes nothing.
 use Prim.Native.Nat.{ℕ, zero, suc, _+_, _-_, _/_, _%_, _^_, _≤_, _<_, zero-le}
 use mathlib.Core.Path.{_≡_, refl, sym, ap, _∙_}
@@ -33,7 +33,7 @@ below-power (suc p) (suc k) n h =
     let ih = below-power p k (n / 10) (div-lt-iff-lt-mul (zero-lt-suc 9) .1 (rw pow-suc at h)) in
     by-test (ltb n 10) (λ t. rw t (omega arith)) (λ f. rw f (rw length-append (omega arith)))
 
--- the same of a number in decimal
+-- the same for a number in decimal
 pub digits-at-most : (k n : ℕ) → n < 10 ^ suc k → length (decimal n) ≤ suc k
 unfolding decimal
 digits-at-most k n h = below-power (suc n) k n h
@@ -48,7 +48,7 @@ some-digit n =
     by-test (ltb n 10) (λ t. rw (decimal-below-ten n (ltb-true n 10 t)) (omega arith))
     (λ f. rw (decimal-from-ten n (ltb-false n 10 f), length-append) (omega arith))
 
--- so many digits have been counted of n when the digits of rest are still to be counted, the last of them as one already
+-- this many digits of n have been counted while the digits of rest are still to be counted, the last of them already as one
 pub record Counting (n w rest : ℕ) : Type 0 where
   pub most : length (decimal n) ≤ 20
   pub some : 1 ≤ length (decimal rest)
@@ -75,7 +75,7 @@ counting-two n w rest k h =
     let e : rest / 10 / 10 ≡ rest / 100 = omega arith in
     record { most = k .most; some = rw e at (b .some); sum = omega (arith, rw e at (b .sum)) }
 
--- a number of four digits or more three more than its thousandth
+-- a number of four digits or more has three digits more than its thousandth
 pub counting-three : (n w rest : ℕ) → Counting n w rest → 1_000 ≤ rest → Counting n (w + 3) (rest / 1_000)
 counting-three n w rest k h =
     let a = counting-two n w rest k (omega arith) in
@@ -83,7 +83,7 @@ counting-three n w rest k h =
     let e : rest / 100 / 10 ≡ rest / 1_000 = omega arith in
     record { most = k .most; some = rw e at (b .some); sum = omega (arith, rw e at (b .sum)) }
 
--- and a number of five digits or more four more than its ten thousandth
+-- a number of five digits or more has four digits more than its ten thousandth
 pub counting-four : (n w rest : ℕ) → Counting n w rest → 10_000 ≤ rest → Counting n (w + 4) (rest / 10_000)
 counting-four n w rest k h =
     let a = counting-two n w rest k (omega arith) in
@@ -95,7 +95,7 @@ counting-four n w rest k h =
 pub counting-last : (n w rest : ℕ) → Counting n w rest → rest < 10 → w ≡ length (decimal n)
 counting-last n w rest k h = let e = ap length (decimal-below-ten rest h) in omega arith
 
--- the last so many digits of n, with zeros in front where there are no more
+-- the last digits of n, this many, with zeros in front if it has fewer
 unfoldable pub lastDigits : ℕ → ℕ → List ℕ
 lastDigits zero n = []
 lastDigits (suc k) n = lastDigits k (n / 10) ++ digit (n % 10) ∷ []
@@ -119,14 +119,14 @@ pub all-to-write : (n w : ℕ) (l : List ℕ) → w ≡ length (decimal n) → l
 unfolding decimal
 all-to-write n w l e = ap (λ t. t ++ drop w l) (ap (λ k. lastDigits k n) e ∙ sym (digits-are-last (suc n) n))
 
--- one more digit stands at its place: what is still to be written and what stands already make the same list as before
+-- one more digit is at its place: what is still to be written and what is already there make the same list as before
 pub one-more : (i rest : ℕ) (l whole : List ℕ) → 0 < i → i ≤ length l → lastDigits i rest ++ drop i l ≡ whole →
     lastDigits (i - 1) (rest / 10) ++ drop (i - 1) (set l (i - 1) (digit (rest % 10))) ≡ whole
 unfolding lastDigits
 one-more zero rest l whole p h e = absurd (omega arith)
 one-more (suc i) rest l whole p h e = rw (sub-one, drop-written l i (digit (rest % 10)) h) (rw append-assoc at e)
 
--- after the last digit: the list is the whole
+-- after the last digit, the list is complete
 pub none-to-write : (i rest : ℕ) (l whole : List ℕ) → i ≤ 0 → lastDigits i rest ++ drop i l ≡ whole → l ≡ whole
 unfolding lastDigits
 none-to-write zero rest l whole h e = e

@@ -1,4 +1,4 @@
--- Digits read one by one: what is left of them decides as the whole does.
+-- Digits read one by one: reading the rest decides as reading the whole does.
 -- Assumes nothing.
 use Prim.Native.Nat.{ℕ, suc, _+_, _-_, _*_, _<_, _≤_}
 use mathlib.Core.Path.{_≡_, refl, ap, _∙_}
@@ -53,7 +53,7 @@ pub stop-here : (most v at : ℕ) (line : List ℕ) → at < length line → isD
 unfolding digitAhead endAhead
 stop-here most v at line h d p small = ap (digitsAt most v at) (byte-here line at h) ∙ digits-none most v at _ d p small
 
--- another byte at a place of a line: the field is no number
+-- another byte at a place of a line: the field is not a number
 pub torn-here : (most v at : ℕ) (line : List ℕ) → at < length line → isDigit (getD line at 0) ≡ false → parts (getD line at 0) ≡ false → digitsAt most v at (drop at line) ≡ Missing
 unfolding digitAhead endAhead
 torn-here most v at line h d p = ap (digitsAt most v at) (byte-here line at h) ∙ digits-torn most v at _ d p

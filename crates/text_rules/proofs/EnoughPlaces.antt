@@ -1,4 +1,4 @@
--- A number has places enough for its digits, so shortest decimal needs no word of places: a number's digits are those of its tenth, and then its last.
+-- There are always enough places for the digits of a number, so shortest decimal can be told without places: the digits of its tenth, and then its last digit.
 -- Assumes nothing.
 use Prim.Native.Nat.{ℕ, zero, suc, _*_, _/_, _%_, _<_, _≤_}
 use mathlib.Core.Path.{_≡_, ap, _∙_}
@@ -9,7 +9,7 @@ use borrow.Author.Tests.{lt-ltb, le-ltb}
 use Rattle.laws.specs.Choice.{by-test}
 use Rattle.text_rules.specs.Decimal.{digit, digitsIn, decimal}
 
--- ten to the power of so many places
+-- ten to the power of the number of places
 abbrev pub tens : ℕ → ℕ
 tens zero = 1
 tens (suc k) = 10 * tens k

@@ -42,12 +42,12 @@ pub mark-within : (last : ℕ) (m : Mark) (j : ℕ) → within last (Ends m j) �
 unfolding within
 mark-within last m j w = (leb-true 1 j (and-first (leb 1 j) (leb j last) w), leb-true j last (and-second (leb 1 j) (leb j last) w))
 
--- an action with such bounds is within the limits
+-- an action within those bounds is within the limits
 pub within-action : (last : ℕ) (a : Action) → 1 ≤ a .job → a .job ≤ last → a .cell < cells → within last (Does a) ≡ true
 unfolding within
 within-action last a h g c = rw (le-leb 1 (a .job) h, le-leb (a .job) last g, lt-ltb (a .cell) cells c)
 
--- and such a mark
+-- and so is such a mark
 pub within-mark : (last : ℕ) (m : Mark) (j : ℕ) → 1 ≤ j → j ≤ last → within last (Ends m j) ≡ true
 unfolding within
 within-mark last m j h g = rw (le-leb 1 j h, le-leb j last g)
@@ -90,7 +90,7 @@ unfolding eventLine
 line-short (Does a) w = let b = action-within lastNumber a w in line-at-most-16 (Asks (askBy (a .kind))) (a .job) (a .cell) (omega arith) (omega arith)
 line-short (Ends m j) w = let b = mark-within lastNumber m j w in line-at-most-16 (markLetter m) j 0 (omega arith) (omega arith)
 
--- so is the text: 16 bytes for each record are enough
+-- and the text of a history is short: 16 bytes for each record are enough
 pub text-short : (h : History) → allWithin lastNumber h ≡ true → length (textOf h) ≤ 16 * length h
 unfolding textOf allWithin
 text-short [] w = omega arith

@@ -1,4 +1,4 @@
--- THE FIELD AT FAULT, EXACTLY: a line is bad at a field exactly where that field is at fault, for every text of bytes, and good exactly where none is (02, No. 5; 01, Lines).
+-- THE FIELD AT FAULT, EXACTLY: for every text of bytes, a line is bad at a field exactly if that field is at fault, and good exactly if none is (02, No. 5; 01, Lines).
 -- Assumes nothing.
 use Prim.Native.Nat.{ℕ}
 use mathlib.Core.Path.{_≡_, sym, subst, _∙_}
@@ -54,29 +54,29 @@ bad-fault which bytes at e =
     (λ f a. subst (AtFault which bytes) (same-bad f at (sym (fault-bad which bytes f a) ∙ e)) a)
     (λ l r. let g = all-good which bytes l (r .0) (r .1) (r .2) (r .3) in not-bad (sym e ∙ g .2))
 
--- THE FIELD AT FAULT: a line is bad at a field exactly where those before it are right and it is not (02, No. 5: the lowest faulty field counts)
+-- THE FIELD AT FAULT: a line is bad at a field exactly if the fields before it are right and it is not (02, No. 5: the lowest faulty field counts)
 pub field-exactly : (which : Letter → Bool) (bytes : List ℕ) (at : Field) → (readLine which bytes ≡ Bad at) ↔ AtFault which bytes at
 field-exactly which bytes at = (bad-fault which bytes at, fault-bad which bytes at)
 
--- no two fields are at fault: one is the lowest
+-- no two fields are at fault: only the lowest is
 pub one-fault : (which : Letter → Bool) (bytes : List ℕ) (a b : Field) → AtFault which bytes a → AtFault which bytes b → a ≡ b
 one-fault which bytes a b x y = same-bad a b (sym (fault-bad which bytes a x) ∙ fault-bad which bytes b y)
 
--- 1: the first field is no letter of such lines
+-- 1: the first field is not a letter of such lines
 pub first-at-fault : (which : Letter → Bool) (bytes : List ℕ) → (readLine which bytes ≡ Bad First) ↔ ((l : Letter) → LetterRight which bytes l → ⊥)
 first-at-fault which bytes = (λ e. told (bad-fault which bytes First e), λ n. fault-bad which bytes First (letter-wrong n))
   where
     told : AtFault which bytes First → (l : Letter) → LetterRight which bytes l → ⊥
     told (letter-wrong n) = n
 
--- 2: the first field is a letter that has a job, and the second is no job
+-- 2: the first field is a letter that has a job, and the second is not a job
 pub second-at-fault : (which : Letter → Bool) (bytes : List ℕ) → (readLine which bytes ≡ Bad Second) ↔ ((l : Letter) × LetterRight which bytes l × (JobRight bytes l → ⊥))
 second-at-fault which bytes = (λ e. told (bad-fault which bytes Second e), λ w. job-bad which bytes (w .0) (w .1) (w .2))
   where
     told : AtFault which bytes Second → (l : Letter) × LetterRight which bytes l × (JobRight bytes l → ⊥)
     told (job-wrong l a n) = (l, a, n)
 
--- 3: letter and job are right, the letter has a cell, and the third field is no cell
+-- 3: letter and job are right, the letter has a cell, and the third field is not a cell
 pub third-at-fault : (which : Letter → Bool) (bytes : List ℕ) → (readLine which bytes ≡ Bad Third) ↔ ((l : Letter) × LetterRight which bytes l × JobRight bytes l × (CellRight bytes l → ⊥))
 third-at-fault which bytes = (λ e. told (bad-fault which bytes Third e), λ w. cell-bad which bytes (w .0) (w .1) (w .2) (w .3))
   where
@@ -90,7 +90,7 @@ fourth-at-fault which bytes = (λ e. told (bad-fault which bytes Fourth e), λ w
     told : AtFault which bytes Fourth → (l : Letter) × LetterRight which bytes l × JobRight bytes l × CellRight bytes l × (EndRight bytes l → ⊥)
     told (end-wrong l a j c n) = (l, a, j, c, n)
 
--- NOTHING IS AT FAULT: a line is good, of this letter, exactly where all four are right
+-- NOTHING IS AT FAULT: a line is good, with this letter, exactly if all four are right
 pub right-exactly : (which : Letter → Bool) (bytes : List ℕ) (l : Letter) → ((job cell : ℕ) × (readLine which bytes ≡ Good l job cell)) ↔ (LetterRight which bytes l × JobRight bytes l × CellRight bytes l × EndRight bytes l)
 right-exactly which bytes l = (
   λ g. by-fault which bytes (λ f a. not-bad (sym (fault-bad which bytes f a) ∙ g .2))

@@ -1,4 +1,4 @@
--- A further field, where there is one and where there is none, each with its length.
+-- A further field, present or absent, with its length.
 -- Assumes nothing.
 use Prim.Native.Nat.{ℕ, suc, _+_, _^_, _≤_, _<_}
 use mathlib.Core.Path.{_≡_, refl, sym, ap, _∙_}
@@ -16,25 +16,25 @@ use Rattle.text_rules.specs.Decimal.{decimal}
 use Rattle.text_rules.proofs.DigitLaws.{decimal-at-most-20, digits-at-most}
 use Rattle.text_rules.specs.Records.{tabbed, wordLine, given, field, answerRecord, lineRecord}
 
--- a field that is there is a tab and its number
+-- a field that is present is a tab and its number
 pub field-there : (there : Bool) (n : ℕ) → there ≡ true → field there n ≡ tab ∷ decimal n
 unfolding field
 field-there there n e = rw e
 
--- a field that is not there has no bytes
+-- a field that is absent has no bytes
 pub field-none : (there : Bool) (n : ℕ) → there ≡ false → field there n ≡ []
 unfolding field
 field-none there n e = rw e
 
--- a field that is there has one byte more than its number has digits
+-- a field that is present has one byte more than its number has digits
 pub field-length : (there : Bool) (n : ℕ) → there ≡ true → length (field there n) ≡ length (decimal n) + 1
 field-length there n e = rw (field-there there n e) (omega arith)
 
--- a field that is not there has length 0
+-- a field that is absent has length 0
 pub no-field-length : (there : Bool) (n : ℕ) → there ≡ false → length (field there n) ≡ 0
 no-field-length there n e = rw (field-none there n e)
 
--- a field whose number is below a power of ten has at most one byte more than the power says
+-- a field whose number is below a power of ten has at most one byte more than the exponent
 pub field-at-most : (k : ℕ) (there : Bool) (n : ℕ) → n < 10 ^ suc k → length (field there n) ≤ k + 2
 field-at-most k true n h = omega (arith, field-length true n refl, digits-at-most k n h)
 field-at-most k false n h = omega (arith, no-field-length false n refl)
@@ -44,12 +44,12 @@ pub field-at-most-21 : (there : Bool) (n : ℕ) → n < 2 ^ 64 → length (field
 field-at-most-21 true n h = let d = decimal-at-most-20 n h in omega (arith, field-length true n refl)
 field-at-most-21 false n h = omega (arith, no-field-length false n refl)
 
--- a number that is given where it is not 0 is a field that is there where it is not 0
+-- a number that is written unless it is 0 is a field that is present unless it is 0
 pub given-field : (n : ℕ) → tabbed (given n) ≡ field (ltb 0 n) n
 unfolding given field tabbed
 given-field n = by-test (ltb 0 n) (λ e. rw e (append-nil (tab ∷ decimal n))) (λ e. rw e)
 
--- an answer record: the line number, the word and the number behind their tabs, and the last field, where there is one, with the newline
+-- an answer record: the line number, then word and number behind their tabs, and the last field, if there is one, with the newline
 pub answer-is : (line : ℕ) (word : Word) (number fault : ℕ) →
     answerRecord line word number fault ≡ decimal line ++ tab ∷ spelt word ++ field true number ++ (field (ltb 0 fault) fault ++ newline ∷ [])
 unfolding answerRecord wordLine tabbed field
@@ -60,7 +60,7 @@ answer-is line word number fault =
     ∙ ap (λ r. decimal line ++ tab ∷ r) (append-assoc (spelt word) (n ++ f) (newline ∷ []) ∙ ap (λ r. spelt word ++ r) (append-assoc n f (newline ∷ [])))
     ∙ sym (append-assoc (decimal line ++ tab ∷ spelt word) n (f ++ newline ∷ []) ∙ append-assoc (decimal line) (tab ∷ spelt word) (n ++ (f ++ newline ∷ [])))
 
--- a letter's line: the letter, the second field where it has one, and the last field with the newline
+-- a letter's line: the letter, the second field if it has one, and the last field with the newline
 pub line-is : (l : Letter) (job cell : ℕ) →
     lineRecord l job cell ≡ (byteOf l ∷ []) ++ field (hasJob l) job ++ (field (hasCell l) cell ++ newline ∷ [])
 unfolding lineRecord

@@ -1,4 +1,4 @@
--- The fields of a line one after another: the first is the field that it begins with, and the others are those behind the tab that ends it.
+-- The fields of a line one after another: the first is the field that the line begins with, and the others come after the tab that ends it.
 -- Assumes nothing.
 use Prim.Native.Nat.{ℕ}
 use mathlib.Core.Path.{_≡_, refl}
@@ -40,7 +40,7 @@ pub third-is : (t : List ℕ) → fieldAt 3 (fieldsOf t) ≡ fieldAt 2 (more (af
 unfolding fieldAt
 third-is t = rw (fields-are t)
 
--- a line has its newline at the end where what follows its first field has
+-- a line ends with its newline if what follows its first field does
 pub ended-after : (t : List ℕ) → ended t ≡ ended (afterField t)
 unfolding ended afterField parts
 ended-after [] = refl
@@ -51,7 +51,7 @@ ended-after (b ∷ c ∷ t) =
     by-test (eqb b newline) (λ n. rw (eqb-true b newline n))
     (λ n. by-test (eqb b tab) (λ e. rw (eqb-true b tab e)) (λ e. rw (n, e) (ended-after (c ∷ t))))
 
--- a tab in front does not change that
+-- a tab in front does not change this
 pub ended-tab : (t : List ℕ) → ended (tab ∷ t) ≡ ended t
 unfolding ended
 ended-tab [] = refl

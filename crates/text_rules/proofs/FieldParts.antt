@@ -1,4 +1,4 @@
--- A text parted at its first tab or newline: the field before it, what follows, and that written fields are parted as they were written.
+-- A text split at its first tab or newline: the field before it and what follows; and written fields are split as they were written.
 -- Assumes nothing.
 use Prim.Native.Nat.{ℕ}
 use mathlib.Core.Path.{_≡_, refl, sym, ap}
@@ -31,7 +31,7 @@ unfolding afterField endAhead
 after-ends [] = refl
 after-ends (b ∷ t) = by-test (parts b) (λ p. rw p p) (λ p. rw p (after-ends t))
 
--- where a field ends at once, it is empty
+-- a field that ends at once is empty
 pub field-none : (t : List ℕ) → endAhead t ≡ true → (fieldAhead t ≡ []) × (afterField t ≡ t)
 unfolding fieldAhead afterField endAhead
 field-none [] h = (refl, refl)
@@ -64,7 +64,7 @@ letter-field [] l e = let z : _≡_ {A = ℕ} 0 1 = cc in absurd (omega arith)
 letter-field (b ∷ []) l e = ap (λ x. x ∷ []) (sym (byte-of-letter b l e))
 letter-field (b ∷ c ∷ t) l e = let z : _≡_ {A = ℕ} 0 1 = cc in absurd (omega arith)
 
--- a digit parts no fields
+-- a digit does not end a field
 pub digit-no-part : (b : ℕ) → isDigit b ≡ true → parts b ≡ false
 unfolding isDigit parts
 digit-no-part b d =
@@ -93,13 +93,13 @@ unfolding digitsOf digitsOnly
 digits-are [] = refl
 digits-are (b ∷ t) = by-test (isDigit b) (λ d. rw (d, d) (digits-are t)) (λ d. rw d)
 
--- where the field ends after the digits, it is the digits
+-- if the field ends after the digits, it is the digits
 pub digits-whole : (t : List ℕ) → endAhead (afterDigits t) ≡ true → (fieldAhead t ≡ digitsOf t) × (afterField t ≡ afterDigits t)
 digits-whole t h =
     let e = digits-before (digitsOf t) (afterDigits t) (digits-are t) h in
     rw (digits-then t) at e
 
--- where it goes on after them, it is no number
+-- if it goes on after them, it is not a number
 pub digits-not-whole : (t : List ℕ) → endAhead (afterDigits t) ≡ false → digitsOnly (fieldAhead t) ≡ false
 unfolding afterDigits endAhead fieldAhead digitsOnly
 digits-not-whole [] h = not-both refl h

@@ -1,4 +1,4 @@
--- One step of the reader at a time: what it reads where a field is right, where it is not, and where the line ends.
+-- One step of the reader at a time: what it reads if a field is right, if it is not, and at the line's end.
 -- Assumes nothing.
 use Prim.Native.Nat.{ℕ, _+_, _≤_}
 use mathlib.Core.Path.{_≡_, refl, ap, _∙_}
@@ -21,15 +21,15 @@ use Rattle.text_rules.proofs.FieldLists.{more, fields-are, first-is, en
 use Rattle.text_rules.proofs.FieldParts.{after-ends}
 use Rattle.text_rules.proofs.NumberWords.{number-test, none-no-number, by-number}
 
--- the next field is right: a number, where there should be one
+-- the next field is right: a number, if there should be one
 abbrev pub NextRight : Bool → ℕ → List ℕ → Type 0
 NextRight there most t = there ≡ true → Number most (fieldAt 1 (more t))
 
--- what is read of a text that begins with a number field, where there should be one
+-- what is read of a text that begins with a number field, if there should be one
 abbrev pub nextThen : Bool → ℕ → Field → List ℕ → (ℕ → List ℕ → Reading) → Reading
 nextThen there most at t rest = pick there (numberThen most at t rest) (rest 0 t)
 
--- where the next field is right: its number, and what is left after it
+-- the next field is right: its number, and what is left after it
 pub record Past (there : Bool) (most : ℕ) (at : Field) (t : List ℕ) (rest : ℕ → List ℕ → Reading) : Type 0 where
   pub number : ℕ
   pub left : List ℕ
@@ -62,7 +62,7 @@ past-there most at (b ∷ t) rest k =
     by-test (eqb b tab) (λ e. rw (eqb-true b tab e) (past-tab most at t rest (rw (eqb-true b tab e) at k)))
     (λ e. absurd (none-no-number most (rw e at k)))
 
--- the reader goes on behind a field that is right, and stays where there should be none
+-- the reader goes on after a field that is right, and stays if there should be none
 pub past : (there : Bool) (most : ℕ) (at : Field) (t : List ℕ) (rest : ℕ → List ℕ → Reading) → endAhead t ≡ true → NextRight there most t → Past there most at t rest
 past true most at t rest stop right = past-there most at t rest (right refl)
 past false most at t rest stop right = record {
@@ -75,7 +75,7 @@ past false most at t rest stop right = record {
   ends = refl;
 }
 
--- a number field that is missing, or is no such number
+-- a number field that is missing, or is not such a number
 not-there : (most : ℕ) (at : Field) (t : List ℕ) (rest : ℕ → List ℕ → Reading) → (Number most (fieldAt 1 (more t)) → ⊥) → numberThen most at t rest ≡ Bad at
 unfolding more numberThen
 not-there most at [] rest wrong = refl
@@ -96,7 +96,7 @@ pub by-right : {P : Type 0} (there : Bool) (most n : ℕ) (fs : List (List ℕ))
 by-right true most n fs right wrong = by-number most (fieldAt n fs) (λ k. right (λ h. k)) (λ k. wrong (λ r. k (r refl)))
 by-right false most n fs right wrong = right (λ h. not-both h refl)
 
--- a line ends well where no field follows and one newline does
+-- a line ends well if no field follows and one newline does
 pub ending-right : (t : List ℕ) (good : Reading) → endAhead t ≡ true → length (more t) ≤ 0 → ended t ≡ true → ending t good ≡ good
 unfolding endAhead more ended ending parts
 ending-right [] good stop few e = not-both e refl
@@ -107,7 +107,7 @@ ending-right (b ∷ c ∷ t) good stop few e =
     (λ k. absurd (omega (arith, ap length (fields-are (c ∷ t)), rw k at few)))
     (λ k. not-both stop (rw (k, n))))
 
--- and not elsewhere
+-- and not otherwise
 pub ending-wrong : (t : List ℕ) (good : Reading) → ((length (more t) ≤ 0) × (ended t ≡ true) → ⊥) → ending t good ≡ Bad Fourth
 unfolding more ended ending
 ending-wrong [] good wrong = refl

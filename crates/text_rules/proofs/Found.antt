@@ -1,4 +1,4 @@
--- The splitter finds the lines: from the start, however the text is cut into chunks, each line once, in order, with its number and its first bytes.
+-- The splitter finds the lines: from the start, however the text is cut into chunks, it finds each line once, in order, with its number and its first bytes.
 -- Assumes nothing.
 use Prim.Native.Nat.{ℕ, _+_, _-_, _^_, _≤_, _<_}
 use mathlib.Core.Path.{_≡_, refl, sym, ap, ap₂, _∙_}
@@ -74,7 +74,7 @@ rest-other : (s : Splitter) (b : ℕ) (t : List ℕ) → eqb b newline ≡ false
 unfolding rest foundIn afterAll foundNow
 rest-other s b t e = rw (taken-ended s b, e)
 
--- what is held of a line is what is found of it
+-- what the splitter holds of a line is what is found of it
 found-held : (s : Splitter) (p : List ℕ) (n : ℕ) → s .line ≡ n → Holds s p → foundAt s ≡ record { number = n; bytes = take kept p }
 unfolding foundAt
 found-held s p n e h = λ i. record { number = e i; bytes = h .bytes i }
@@ -178,11 +178,11 @@ one-by-one n (l ∷ []) h = refl
 one-by-one n (l ∷ m ∷ ls) h =
     ap (λ (fs : List Found). record { number = n; bytes = take kept l } ∷ fs) (ap (λ k. numberedOn k (m ∷ ls)) (following-is n (omega arith)) ∙ one-by-one (n + 1) (m ∷ ls) (omega arith))
 
--- so they are numbered from 1 where there are fewer than 2 to the power of 64
+-- so they are numbered from 1, if there are fewer than 2 to the power of 64
 pub finds-lines : (chunks : List (List ℕ)) → length (linesOf (joined chunks)) < 2 ^ 64 → foundOver fresh chunks ≡ numbered 1 (linesOf (joined chunks))
 unfolding following
 finds-lines chunks h = finds-all chunks ∙ one-by-one 1 (linesOf (joined chunks)) (omega arith)
 
--- and so are those that a caller finds who cuts every chunk
+-- and a caller that cuts every chunk finds the same lines
 pub cuts-find-lines : (chunks : List (List ℕ)) → length (linesOf (joined chunks)) < 2 ^ 64 → foundByCuts fresh chunks ≡ numbered 1 (linesOf (joined chunks))
 cuts-find-lines chunks h = cuts-do-not-matter fresh chunks ∙ finds-lines chunks h

@@ -1,4 +1,4 @@
--- A line is good only if it is the record of its letter and fields: what is read was written so, and all else is bad.
+-- A line is good only if it is the record of its letter and fields: what is read was written that way, and all else is bad.
 -- Assumes nothing.
 use Prim.Native.Nat.{ℕ, _≤_}
 use mathlib.Core.Path.{_≡_, ap, ap₂, refl, sym, _∙_}
@@ -129,7 +129,7 @@ pub good-is-record : (which : Letter → Bool) (bytes : List ℕ) (l : Letter) (
 unfolding readLine
 good-is-record which bytes l job cell e = letter-written which bytes (letterIn (fieldAhead bytes)) l job cell refl e
 
--- and the record of a letter and fields is good: a line is good exactly then
+-- and the record of a letter and fields is good: a line is good exactly if it is one
 pub good-exactly : (which : Letter → Bool) (bytes : List ℕ) (l : Letter) (job cell : ℕ) → (readLine which bytes ≡ Good l job cell) ↔ GoodLine which bytes l job cell
 good-exactly which bytes l job cell = (
   good-is-record which bytes l job cell,
@@ -149,16 +149,16 @@ all-else-bad which bytes other = go (readLine which bytes) refl
     go (Good l job cell) e = absurd (other l job cell (good-is-record which bytes l job cell e))
     go (Bad at) e = (at, e)
 
--- a bad line is no good line
+-- a bad line is not a good line
 pub bad-no-good : (which : Letter → Bool) (bytes : List ℕ) (at : Field) → readLine which bytes ≡ Bad at → (l : Letter) (job cell : ℕ) → GoodLine which bytes l job cell → ⊥
 bad-no-good which bytes at e l job cell g = not-bad (sym e ∙ good-exactly which bytes l job cell .1 g)
 
--- the field at fault of a refusal 9, and of nothing else
+-- only a refusal 9 has a field at fault
 pub nine-field : (r : Reading) (at : Field) → refusalOf r ≡ some (BadLine at) → r ≡ Bad at
 nine-field (Good l job cell) at e = let z : _≡_ {A = ℕ} 0 1 = cc in absurd (omega arith)
 nine-field (Bad field) at e = cc
 
--- ALL ELSE IS REFUSAL 9: a line is refused with 9, at some field, exactly where it is no good line
+-- ALL ELSE IS REFUSAL 9: a line is refused with 9, at some field, exactly if it is not a good line
 pub nine-exactly : (which : Letter → Bool) (bytes : List ℕ) → ((at : Field) × (refusalOf (readLine which bytes) ≡ some (BadLine at))) ↔ ((l : Letter) (job cell : ℕ) → GoodLine which bytes l job cell → ⊥)
 nine-exactly which bytes = (
   λ p. bad-no-good which bytes (p .0) (nine-field (readLine which bytes) (p .0) (p .1)),

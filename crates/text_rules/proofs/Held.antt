@@ -1,4 +1,4 @@
--- What the splitter holds after some bytes: room for 16 and no more than 16 kept, and of the line under way its first bytes.
+-- What the splitter holds after some bytes: it has room for 16 bytes, keeps no more, and these are the first of the line under way.
 -- Assumes nothing.
 use Prim.Native.Nat.{ℕ, _+_, _≤_, _<_, min}
 use mathlib.Core.Path.{_≡_, refl, sym, _∙_}
@@ -15,12 +15,12 @@ use Rattle.text_rules.specs.declared.splitter.Splitter.{Splitter}
 use Rattle.text_rules.specs.Split.{kept, fresh, taken, used, cutOf, afterAll, Sized}
 use Rattle.text_rules.proofs.Cuts.{through-all}
 
--- a splitter that has seen no byte is sized so
+-- a splitter that has seen no byte has this size
 pub fresh-sized : Sized fresh
 unfolding fresh
 fresh-sized = record { within = omega arith; room = refl }
 
--- a byte leaves it so
+-- a byte does not change that
 pub taken-sized : (s : Splitter) (b : ℕ) → Sized s → Sized (taken s b)
 unfolding taken
 taken-sized s b h =
@@ -31,22 +31,22 @@ taken-sized s b h =
     (λ f. rw (e, f) (record { within = omega (arith, ltb-true (s .len) kept f); room = length-set (s .kept) (s .len) b ∙ h .room }))
     (λ f. rw (e, f) (record { within = h .within; room = h .room })))
 
--- and so do any bytes
+-- nor do any bytes
 pub after-sized : (s : Splitter) (t : List ℕ) → Sized s → Sized (afterAll s t)
 unfolding afterAll
 after-sized s [] h = h
 after-sized s (b ∷ t) h = after-sized (taken s b) t (taken-sized s b h)
 
--- so from the start on, whatever bytes have come
+-- so it holds from the start on, whatever bytes have come
 pub fits : (t : List ℕ) → Sized (afterAll fresh t)
 fits t = after-sized fresh t fresh-sized
 
--- a cut leaves it so too
+-- nor does a cut
 pub cut-sized : (s : Splitter) (chunk : List ℕ) (from : ℕ) → Sized s → Sized (cutOf s chunk from .splitter)
 unfolding cutOf
 cut-sized s chunk from h = rw (through-all s (drop from chunk)) (after-sized s (take (used (drop from chunk)) (drop from chunk)) h)
 
--- the splitter holds the first bytes of a line of which these have come
+-- the splitter holds the first bytes of a line, given those that have come
 pub record Holds (s : Splitter) (p : List ℕ) : Type 0 where
   pub room : length (s .kept) ≡ kept
   pub many : s .len ≡ min kept (length p)

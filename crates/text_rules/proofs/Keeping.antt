@@ -1,4 +1,4 @@
--- What is kept of a part of a line, all at once: its first bytes, while there is room, from the place reached on.
+-- What is kept of a part of a line: its first bytes, while there is room, from the place reached.
 -- Assumes nothing.
 use Prim.Native.Nat.{ℕ, suc, _+_, _-_, _≤_, _<_, min}
 use mathlib.Core.Path.{_≡_, sym, ap, _∙_}
@@ -21,13 +21,13 @@ sets-snoc : (l : List ℕ) (i : ℕ) (vs : List ℕ) (b : ℕ) → sets l i (vs 
 sets-snoc l i [] b = rw add-zero
 sets-snoc l i (v ∷ vs) b = sets-snoc (set l i v) (suc i) vs b ∙ rw (add-suc, suc-add)
 
--- after i stores, the next is that of the byte at i
+-- after i stores, the next one stores byte i
 pub stored-more : (l m : List ℕ) (at i : ℕ) (vs : List ℕ) → m ≡ sets l at (take i vs) → i < length vs → set m (at + i) (getD vs i 0) ≡ sets l at (take (i + 1) vs)
 stored-more l m at i vs h lt =
     let e : length (take i vs) ≡ i = length-take-le i vs (omega arith) in
     rw h (sym (rw (add-one i, take-suc vs i 0 lt) (sets-snoc l at (take i vs) (getD vs i 0) ∙ rw e)))
 
--- the stores are done where i is n
+-- the stores are done when i is n
 pub stored-all : (l m : List ℕ) (at i n : ℕ) (vs : List ℕ) → m ≡ sets l at (take i vs) → i ≡ n → m ≡ sets l at (take n vs)
 stored-all l m at i n vs h e = rw e at h
 
@@ -36,7 +36,7 @@ taken-on : (bytes : List ℕ) (n line b : ℕ) → eqb b newline ≡ false → t
 unfolding taken underWay
 taken-on bytes n line b e = rw e
 
--- a line under way after its next m bytes, of which the last tells whether it has ended
+-- a line under way after its next m bytes; the last of them tells whether the line has ended
 abbrev pub after : List ℕ → ℕ → ℕ → List ℕ → ℕ → Splitter
 after bytes n line t m = record { kept = sets bytes n (take m t); len = n + m; ended = eqb (getD t (length t - 1) 0) newline; line = line }
 
@@ -45,7 +45,7 @@ through-one : (s : Splitter) (b : ℕ) → through s (b ∷ []) ≡ taken s b
 unfolding through
 through-one s b = by-test (eqb b newline) (λ e. rw e) (λ e. rw e)
 
--- a part of more bytes than one is no line by itself where it begins with a newline
+-- a part of more than one byte that begins with a newline is not one line
 begins : (b c : ℕ) (t : List ℕ) → used (b ∷ c ∷ t) ≡ suc (suc (length t)) → eqb b newline ≡ false
 unfolding used
 begins b c t h = by-test (eqb b newline) (λ e. absurd (omega (arith, rw e at h))) (λ e. e)
@@ -104,7 +104,7 @@ through-part (b ∷ c ∷ t) bytes n line h u =
     (λ r. rw r (through-part (c ∷ t) (set bytes n b) (n + 1) line (omega arith) u′ ∙ after-room bytes n line b c t (ltb-true n kept r)))
     (λ r. rw r (through-part (c ∷ t) bytes n line (omega arith) u′ ∙ after-full bytes n line b c t (ltb-false n kept r)))
 
--- what the stores and the sum have made is that
+-- the stores and the sum give that line
 pub grown-is : (t bytes k : List ℕ) (n line m : ℕ) → m ≡ min (length t) (kept - n) → k ≡ sets bytes n (take m t) → (0 < length t) × (used t ≡ length t) →
     _≡_ {A = Splitter} (record { kept = k; len = n + m; ended = eqb (getD t (length t - 1) 0) newline; line = line }) (through (underWay bytes n line) t)
 grown-is t bytes k n line m e f h = rw (f, e) (sym (through-part t bytes n line (h .0) (h .1)))

@@ -1,4 +1,4 @@
--- The paper's sentences on lines, each at a line of bytes: one list for each reader, and one for both, with what each line says (01, Lines; 02, No. 1 and No. 5).
+-- The paper's sentences on lines, each shown on a line of bytes: one list for each reader, and one for both, with what each line says (01, Lines; 02, No. 1 and No. 5).
 -- Assumes nothing.
 use Prim.Native.Nat.{ℕ}
 use mathlib.Core.Path.{_≡_, refl}
@@ -62,7 +62,7 @@ requests =
     ∷ record { line = 105 ∷ 9 ∷ 49 ∷ 9 ∷ 48 ∷ 10 ∷ []; says = Good (Asks Increment) 1 0 }
     -- u, 7, 5: a read with intent to write
     ∷ record { line = 117 ∷ 9 ∷ 55 ∷ 9 ∷ 53 ∷ 10 ∷ []; says = Good (Asks Update) 7 5 }
-    -- k is no request: k, 1
+    -- k is not a request: k, 1
     ∷ record { line = 107 ∷ 9 ∷ 49 ∷ 10 ∷ []; says = Bad First }
     -- a field too many: b, 1
     ∷ record { line = 98 ∷ 9 ∷ 49 ∷ 10 ∷ []; says = Bad Fourth }

@@ -1,4 +1,4 @@
--- The reader's way along a line: what it reads where the fields of the letter are right up to one that is not, and where all of them are.
+-- The reader's way along a line: what it reads if the fields are right up to one that is not, and if all of them are.
 -- Assumes nothing.
 use Prim.Native.Nat.{ℕ, _+_, _≤_}
 use mathlib.Core.Path.{_≡_, refl, sym, ap, _∙_}
@@ -35,7 +35,7 @@ past-letter : (which : Letter → Bool) (bytes : List ℕ) (l : Letter) → Lett
 unfolding readLine letterPart
 past-letter which bytes l r = rw (letter-known which bytes l r, r .0)
 
--- the first field is right for a letter, or for none, and then the line is bad at it
+-- the first field is right for some letter; or for none, and then the line is bad at it
 pub by-letter : {P : Type 0} (which : Letter → Bool) (bytes : List ℕ) → ((l : Letter) → LetterRight which bytes l → P) → (((l : Letter) → LetterRight which bytes l → ⊥) → readLine which bytes ≡ Bad First → P) → P
 unfolding readLine letterPart
 by-letter {P} which bytes right wrong = go (letterIn (fieldAhead bytes)) refl
@@ -58,7 +58,7 @@ cell-job (Asks a) h = refl
 
 -- a line that begins with a letter that it may have
 module _ (which : Letter → Bool) (bytes : List ℕ) (l : Letter) (known : LetterRight which bytes l) where
-  -- a job that is not right
+  -- the reading of a line whose job is not right
   pub job-bad : (JobRight bytes l → ⊥) → readLine which bytes ≡ Bad Second
   unfolding jobPart
   job-bad wrong =
@@ -80,7 +80,7 @@ module _ (which : Letter → Bool) (bytes : List ℕ) (l : Letter) (known : Lett
     cell-is : hasCell l ≡ true → fieldAt 3 (fieldsOf bytes) ≡ fieldAt 1 (more (behind-job .left))
     cell-is h = third-is bytes ∙ behind-job .others (cell-job l h)
 
-    -- a cell that is not right
+    -- the reading of a line whose cell is not right
     pub cell-bad : (CellRight bytes l → ⊥) → readLine which bytes ≡ Bad Third
     unfolding cellPart
     cell-bad wrong =
@@ -105,12 +105,12 @@ module _ (which : Letter → Bool) (bytes : List ℕ) (l : Letter) (known : Lett
       all-ended : ended bytes ≡ ended (behind-cell .left)
       all-ended = ended-after bytes ∙ behind-job .ends ∙ behind-cell .ends
 
-      -- an end that is not right
+      -- the reading of a line whose end is not right
       pub end-bad : (EndRight bytes l → ⊥) → readLine which bytes ≡ Bad Fourth
       end-bad wrong =
           past-cell ∙ ending-wrong (behind-cell .left) _ (λ r. let few = r .0 in wrong (omega (arith, all-fields), all-ended ∙ r .1))
 
-      -- all is right
+      -- the reading of a line that is all right
       pub all-good : EndRight bytes l → (job cell : ℕ) × (readLine which bytes ≡ Good l job cell)
       all-good end =
           let few = end .0 in

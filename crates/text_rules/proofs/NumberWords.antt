@@ -21,24 +21,24 @@ use Rattle.text_rules.proofs.WrittenFields.{number-is, is-number}
 pub same-field : (f g : List ℕ) → some f ≡ some g → f ≡ g
 same-field f g e = cc
 
--- a field is a number as written exactly where the reader takes it for one
+-- a field is a number as written exactly if the reader takes it for one
 pub number-test : (most : ℕ) (f : List ℕ) → Number most (some f) ↔ (isNumber most f ≡ true)
 number-test most f = (
   λ k. rw (same-field f (decimal (k .0)) (k .2)) (number-is most (k .0) (k .1)),
   λ h. let i = is-number most f h in (valueFrom 0 f, i .1, ap some (i .0)),
 )
 
--- a field that is not there is no number
+-- a field that is not there is not a number
 pub none-no-number : (most : ℕ) → Number most none → ⊥
 none-no-number most k = let e = k .2 in let z : _≡_ {A = ℕ} 0 1 = cc in omega arith
 
--- a field is a number, or it is none
+-- a field is a number, or it is not
 pub by-number : {P : Type 0} (most : ℕ) (field : Option (List ℕ)) → (Number most field → P) → ((Number most field → ⊥) → P) → P
 by-number most none right wrong = wrong (none-no-number most)
 by-number most (some f) right wrong =
     by-test (isNumber most f) (λ h. right (number-test most f .1 h)) (λ h. wrong (λ k. not-both (number-test most f .0 k) h))
 
--- A NUMBER: digits only, no sign and no blank, no leading zero except the single 0, and at most so large
+-- A NUMBER: digits only, no sign and no blank, no leading zero except the single 0, and not above the limit
 pub number-worded : (most : ℕ) (f : List ℕ) → Number most (some f) ↔ ((digitsOnly f ≡ true) × (shortest f ≡ true) × (valueFrom 0 f ≤ most))
 number-worded most f = (
   λ k. rw (same-field f (decimal (k .0)) (k .2), decimal-value (k .0)) (decimal-digits (k .0), decimal-shortest (k .0), k .1),

@@ -1,4 +1,4 @@
--- A line from a place on: it begins with the byte at that place, or nothing is left of it. So each definition goes by the byte at a place, as the code does.
+-- A line from a place on: it begins with the byte at that place, or nothing is left of it. So each definition can go by the byte at a place, as the code does.
 -- Assumes nothing.
 use Prim.Native.Nat.{ℕ, _+_, _<_}
 use mathlib.Core.Path.{_≡_, sym, ap, _∙_}
@@ -22,11 +22,11 @@ use Rattle.terms.specs.declared.letters.Lettered.the-variants.{Unknown}
 use Rattle.terms.specs.declared.refusals.Field.the-variants.{Fourth}
 use Rattle.terms.specs.Letters.{letterOf}
 
--- within the line, the rest begins with the byte at its place
+-- within the line, the rest begins with the byte at that place
 pub byte-here : (line : List ℕ) (at : ℕ) → at < length line → drop at line ≡ getD line at 0 ∷ drop (at + 1) line
 byte-here line at h = rw (add-one, drop-cons line at 0)
 
--- whatever is asked of the rest of a line goes by whether the place is within the line
+-- a question about the rest of a line splits by whether the place is within the line
 pub by-place : {A : Type 0} (f : List ℕ → A) (line : List ℕ) (at : ℕ) → f (drop at line) ≡ pick (ltb at (length line)) (f (getD line at 0 ∷ drop (at + 1) line)) (f [])
 by-place f line at =
     by-test (ltb at (length line)) (λ e. rw (e, byte-here line at (ltb-true _ _ e)))
@@ -42,7 +42,7 @@ pub end-placed : (line : List ℕ) (at : ℕ) (r : Bool) → r ≡ pick (ltb at 
 unfolding endAhead
 end-placed line at r e = e ∙ sym (by-place endAhead line at)
 
--- digits are shortest if the first is no zero or stands alone
+-- digits are shortest if the first is not zero or stands alone
 first-decides : (b : ℕ) (t : List ℕ) → shortest (digitsOf (b ∷ t)) ≡ pick (isDigit b) (pick (eqb b 48) (not (digitAhead t)) true) false
 unfolding shortest digitsOf digitAhead
 first-decides b [] = by-test (isDigit b) (λ d. rw d (by-test (eqb b 48) (λ z. rw z) (λ z. rw z))) (λ d. rw d)
@@ -51,7 +51,7 @@ first-decides b (c ∷ t) =
     (λ d. rw d (by-test (isDigit c) (λ e. rw e (by-test (eqb b 48) (λ z. rw z) (λ z. rw z))) (λ e. rw e (by-test (eqb b 48) (λ z. rw z) (λ z. rw z)))))
     (λ d. rw d)
 
--- a test that was computed elsewhere, turned round
+-- an equation of tests, turned round
 pub turned : (a b : Bool) → a ≡ b → not a ≡ not b
 turned a b e = ap not e
 
@@ -73,7 +73,7 @@ ending-placed line at good r e =
     ∙ sym (by-place (λ t. ending t good) line at
     ∙ ap (λ x. pick (ltb at (length line)) x (Bad Fourth)) (by-place (λ t. ending (getD line at 0 ∷ t) good) line (at + 1)))
 
--- the letter that a line begins with, where its field ends after it
+-- the letter that a line begins with, if its field ends after it
 pub letter-placed : (line : List ℕ) (r : Lettered) → r ≡ pick (ltb 0 (length line)) (pick (endAhead (drop 1 line)) (letterOf (getD line 0 0)) Unknown) Unknown → r ≡ firstLetter line
 unfolding firstLetter
 letter-placed line r e = e ∙ sym (by-place firstLetter line 0)

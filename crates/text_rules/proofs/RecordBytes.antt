@@ -100,7 +100,7 @@ pub orderly-bytes : (js : List ℕ) → wordLine Orderly js ≡ 111 ∷ 114 ∷ 
 unfolding wordLine
 orderly-bytes js = ap (λ t. 111 ∷ 114 ∷ 100 ∷ 101 ∷ 114 ∷ 108 ∷ 121 ∷ t ++ 10 ∷ []) (tabbed-bytes js)
 
--- knot, and the jobs so
+-- knot, and then the jobs the same way
 pub knot-bytes : (js : List ℕ) → wordLine Knot js ≡ 107 ∷ 110 ∷ 111 ∷ 116 ∷ joined (map (λ j. 9 ∷ decimal j) js) ++ 10 ∷ []
 unfolding wordLine
 knot-bytes js = ap (λ t. 107 ∷ 110 ∷ 111 ∷ 116 ∷ t ++ 10 ∷ []) (tabbed-bytes js)
@@ -115,7 +115,7 @@ pub refusal-bytes : (line number : ℕ) → wordLine No (line ∷ number ∷ [])
 unfolding wordLine tabbed
 refusal-bytes line number = ap (λ t. 110 ∷ 111 ∷ 9 ∷ (decimal line ++ 9 ∷ t) ++ 10 ∷ []) (append-nil (decimal number))
 
--- of refusal 9 the field at fault follows (02, No. 5)
+-- after refusal 9 comes the field at fault (02, No. 5)
 pub nine-line-bytes : (line : ℕ) (at : Field) → wordLine No (line ∷ numberOf (BadLine at) ∷ given (fieldNumber at)) ≡ 110 ∷ 111 ∷ 9 ∷ decimal line ++ 9 ∷ 57 ∷ 9 ∷ (48 + fieldNumber at) ∷ 10 ∷ []
 unfolding wordLine tabbed given decimal digitsIn
 nine-line-bytes line First = append-assoc (110 ∷ 111 ∷ 9 ∷ decimal line) (9 ∷ 57 ∷ 9 ∷ 49 ∷ []) (10 ∷ [])

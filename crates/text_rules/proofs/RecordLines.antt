@@ -24,7 +24,7 @@ use Rattle.text_rules.proofs.DecimalLaws.{decimal-digits}
 use Rattle.text_rules.proofs.TextLines.{lines-only}
 use Rattle.text_rules.specs.EventRecords.{askBy, markLetter, eventLine, textOf}
 
--- digits are no newlines
+-- digits are not newlines
 pub digits-plain : (ds : List ℕ) → digitsOnly ds ≡ true → noNewline ds ≡ true
 unfolding digitsOnly noNewline isDigit
 digits-plain [] h = refl
@@ -47,7 +47,7 @@ unfolding field noNewline
 field-plain true n = digits-plain (decimal n) (decimal-digits n)
 field-plain false n = refl
 
--- a letter is no newline
+-- a letter is not a newline
 letter-plain : (l : Letter) → eqb (byteOf l) newline ≡ false
 letter-plain Begin = refl
 letter-plain Commit = refl
@@ -88,7 +88,7 @@ unfolding eventLine
 event-line (Does a) = record-line (Asks (askBy (a .kind))) (a .job) (a .cell)
 event-line (Ends m j) = record-line (markLetter m) j 0
 
--- what holds of every line holds of all but the last
+-- what holds for every line holds for all but the last
 but-last : (f : List ℕ → Bool) (ls : List (List ℕ)) → every f ls ≡ true → every f (dropLast ls) ≡ true
 unfolding every
 but-last f [] h = refl
@@ -102,7 +102,7 @@ unfolding every
 every-event f each [] = refl
 every-event f each (e ∷ h) = and-both (f (eventLine e)) (every f (map eventLine h)) (each e) (every-event f each h)
 
--- the text of some events and then of others
+-- the text of some events followed by others
 pub text-append : (h k : History) → textOf (h ++ k) ≡ textOf h ++ textOf k
 unfolding textOf
 text-append [] k = refl

@@ -1,4 +1,4 @@
--- Whether a record fits: the test that makes no sum that could wrap, and what is told and left by it.
+-- Whether a record fits: a test without a sum that could wrap, and what is told and left by it.
 -- Assumes nothing.
 use Prim.Native.Nat.{ℕ, _+_, _-_, _≤_, _<_}
 use mathlib.Core.Path.{_≡_, sym, ap, _∙_}
@@ -14,7 +14,7 @@ use Rattle.text_rules.specs.declared.Written.the-variants.{Next, Refused
 use Rattle.text_rules.specs.Records.{fits, told, left}
 use Rattle.text_rules.specs.Wrote.{Wrote}
 
--- so many bytes fit from a place within the room exactly where they fit into what is left of it
+-- bytes fit from a place within the room exactly if they fit into what is left of it
 pub room-left : (room at len : ℕ) → at ≤ room → leb len (room - at) ≡ leb (at + len) room
 room-left room at len h =
     by-test (leb len (room - at)) (λ t. let f = leb-true len (room - at) t in t ∙ sym (le-leb (at + len) room (omega arith)))
@@ -24,7 +24,7 @@ room-left room at len h =
 pub no-room-past : (room at len : ℕ) → room < at → false ≡ leb (at + len) room
 no-room-past room at len h = sym (lt-leb (at + len) room (omega arith))
 
--- a test for so many bytes held, and the record has as many: it fits
+-- the test passed, and the record has that many bytes: it fits
 pub room-for : {r : Bool} (room at len k : ℕ) → r ≡ leb (at + len) room → r ≡ true → len ≡ k → at + k ≤ room
 room-for room at len k e t n = let h = leb-true (at + len) room (sym e ∙ t) in omega arith
 
@@ -41,7 +41,7 @@ written {at} {a} {bs} {b} {m} w =
     let t = le-leb (at + length bs) (length b) (omega arith) in
     (rw t (ap Next e), rw (t, ← e) (w .holds))
 
--- a record that does not fit: refusal 15 is told, and the buffer is left as it was
+-- a record that does not fit: refusal 15 is told, and the buffer stays as it was
 pub refused : (b : List ℕ) (at : ℕ) (bs : List ℕ) → length b < at + length bs → (Refused NoRoom ≡ told b at bs) × (b ≡ left b at bs)
 unfolding told left fits
 refused b at bs h = let t = lt-leb (at + length bs) (length b) h in (rw t, rw t)

@@ -22,7 +22,7 @@ used-other : (b : ℕ) (t : List ℕ) → (b ≡ newline → ⊥) → used (b �
 unfolding used
 used-other b t e = rw (ne-eqb b newline e)
 
--- at the end of the text, or past it, nothing is left to pass
+-- at the end of the text, or past it, the line ends there
 pub end-at-end : (t : List ℕ) (at : ℕ) → length t ≤ at → at ≡ at + used (drop at t)
 unfolding used
 end-at-end t at h = rw (drop-of-length-le t h) (sym (add-zero at))

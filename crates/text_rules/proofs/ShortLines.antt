@@ -1,4 +1,4 @@
--- The first bytes of a line, as many as the longest good one has, decide it: a longer line is bad, and at the field that they tell (01, Lines; 02, No. 5).
+-- The first bytes of a line, as many as the longest good line has, decide it: a longer line is bad, at the field that they tell (01, Lines; 02, No. 5).
 -- Assumes nothing.
 use Prim.Native.Nat.{ℕ, _+_, _≤_}
 use mathlib.Core.Path.{_≡_, refl, sym, ap, _∙_}
@@ -22,7 +22,7 @@ plain-before [] c q h = refl
 plain-before (b ∷ []) c q h = by-test (eqb b newline) (λ e. not-both (rw e at h) refl) (λ e. rw e)
 plain-before (b ∷ d ∷ p) c q h = by-test (eqb b newline) (λ e. not-both (rw e at h) refl) (λ e. rw e (plain-before (d ∷ p) c q (rw e at h)))
 
--- A LINE IS DECIDED BY ITS FIRST 16 BYTES, its field at fault too
+-- A LINE IS DECIDED BY ITS FIRST 16 BYTES, and so is its field at fault
 pub short-reads : (which : Letter → Bool) (bytes : List ℕ) → oneLine bytes ≡ true → readLine which (take 16 bytes) ≡ readLine which bytes
 short-reads which bytes o = go (drop kept bytes) refl
   where

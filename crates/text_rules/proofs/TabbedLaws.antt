@@ -1,4 +1,4 @@
--- Numbers with a tab before each, and numbers with a tab between, one after another.
+-- Numbers with a tab before each, and numbers with a tab between them, written one after another.
 -- Assumes nothing.
 use Prim.Native.Nat.{ℕ, zero, suc, _+_, _≤_, _<_}
 use mathlib.Core.Path.{_≡_, refl, sym, ap, _∙_}
@@ -51,7 +51,7 @@ first-shorter ns i =
 pub tabbed-all : (ns : List ℕ) (i : ℕ) → length ns ≤ i → tabbed (take i ns) ≡ tabbed ns
 tabbed-all ns i h = ap tabbed (take-all i ns h)
 
--- before the first number none is written
+-- before the first number nothing is written
 pub none-written : {at : ℕ} {b : List ℕ} (ns : List ℕ) → at ≤ length b → Wrote at at (tabbed (take 0 ns)) b b
 unfolding tabbed
 none-written ns h = wrote-none h
@@ -62,7 +62,7 @@ unfolding tabsBetween tabbed
 between-first [] h = absurd (omega arith)
 between-first (n ∷ ns) h = sym (append-nil (decimal n))
 
--- the first numbers and one more, a tab between
+-- the first numbers and one more, with a tab between
 pub between-next : (ns : List ℕ) (i : ℕ) → 0 < i → i < length ns → tabsBetween (take i ns) ++ tab ∷ decimal (getD ns i 0) ≡ tabsBetween (take (i + 1) ns)
 unfolding tabsBetween
 between-next [] i p h = absurd (omega arith)

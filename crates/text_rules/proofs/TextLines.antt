@@ -1,4 +1,4 @@
--- The lines of a text are what they should be: joined they are the text, each is one line, all but the last have a newline; and no other lines are.
+-- The lines of a text: joined they are the text, each is one line, and all but the last have a newline. No other lines do this.
 -- Assumes nothing.
 use Prim.Native.Nat.{ℕ, _+_, _-_, _<_}
 use mathlib.Core.Path.{_≡_, refl, ap, _∙_}
@@ -28,7 +28,7 @@ lines-join (b ∷ t) =
     (λ e. rw e (ap (λ (r : List ℕ). b ∷ r) (lines-join t)))
     (λ e. rw e (joined-front b (linesOf t) ∙ ap (λ (r : List ℕ). b ∷ r) (lines-join t)))
 
--- a byte that is no newline may stand in front of one line
+-- a byte that is not a newline may be put in front of one line
 one-front : (b : ℕ) (ls : List (List ℕ)) → eqb b newline ≡ false → every oneLine ls ≡ true → every oneLine (inFront b ls) ≡ true
 unfolding every oneLine inFront
 one-front b [] e h = refl
@@ -90,7 +90,7 @@ before (b ∷ c ∷ l) t h g =
     let e : eqb b newline ≡ false = not-true (eqb b newline) (p .0) in
     rw e (ap (inFront b) (before (c ∷ l) t (p .1) g))
 
--- no other lines will do: lines of which each is one line, and all but the last have a newline, are the lines of what they join to
+-- no other lines will do: if each is one line and all but the last have a newline, they are the lines of the text they join to
 pub lines-only : (ls : List (List ℕ)) → every oneLine ls ≡ true → every hasNewline (dropLast ls) ≡ true → linesOf (joined ls) ≡ ls
 unfolding every joined linesOf
 lines-only [] h g = refl
@@ -108,12 +108,12 @@ lines-step (b ∷ []) h = by-test (eqb b newline) (λ e. simp e) (λ e. simp e)
 lines-step (b ∷ c ∷ t) h =
     by-test (eqb b newline) (λ e. simp e) (λ e. rw e (ap (inFront b) (lines-step (c ∷ t) (omega arith))))
 
--- the same from a place of a text on, for a caller who goes from line end to line end
+-- the same from a place of a text, for a caller that goes from line end to line end
 pub lines-at : (t : List ℕ) (from : ℕ) → from < length t →
     linesOf (drop from t) ≡ take (used (drop from t)) (drop from t) ∷ linesOf (drop (from + used (drop from t)) t)
 lines-at t from h = lines-step (drop from t) (omega (arith, length-drop from t)) ∙ rw drop-drop
 
--- and where the place after the line is known: the lines from a place on are the part up to there and those after it
+-- and with the place after the line known: the lines from a place are the part up to there and those after it
 pub next-line : (t : List ℕ) (from to : ℕ) → from < length t → to ≡ from + used (drop from t) → linesOf (drop from t) ≡ part t from to ∷ linesOf (drop to t)
 next-line t from to h e =
     let u : to - from ≡ used (drop from t) = omega arith in

@@ -22,17 +22,17 @@ use Rattle.text_rules.specs.Wrote.{Wrote}
 use Rattle.text_rules.proofs.Length.{answer-length, line-length}
 use Rattle.text_rules.proofs.WroteLaws.{wrote-before, wrote-take, wrote-drop, wrote-length}
 
--- a record that fits is told by the place after it
+-- for a record that fits, the place after it is told
 pub told-next : (b : List ℕ) (at : ℕ) (bs : List ℕ) → fits b at bs ≡ true → told b at bs ≡ Next (at + length bs)
 unfolding told
 told-next b at bs t = rw t
 
--- a record that does not fit is told by refusal 15
+-- for a record that does not fit, refusal 15 is told
 pub told-refused : (b : List ℕ) (at : ℕ) (bs : List ℕ) → fits b at bs ≡ false → told b at bs ≡ Refused NoRoom
 unfolding told
 told-refused b at bs f = rw f
 
--- a place is told only of a record that fits, and it is the place after the record, within the buffer
+-- a place is told only for a record that fits, and it is the place after the record, within the buffer
 pub next-told : (b : List ℕ) (at : ℕ) (bs : List ℕ) (n : ℕ) → told b at bs ≡ Next n → (n ≡ at + length bs) × (n ≤ length b)
 unfolding fits
 next-told b at bs n e =
@@ -49,7 +49,7 @@ pub too-long : (b : List ℕ) (at : ℕ) (bs : List ℕ) → length b < at + len
 unfolding fits
 too-long b at bs h = told-refused b at bs (lt-leb (at + length bs) (length b) h)
 
--- a record that there is room for is not refused
+-- a record that has room is not refused
 pub not-refused : {P : Type 0} {w : Written} {why : Refusal} (b : List ℕ) (at : ℕ) (bs : List ℕ) → w ≡ told b at bs → w ≡ Refused why → at + length bs ≤ length b → P
 unfolding fits
 not-refused b at bs e f h =
@@ -57,7 +57,7 @@ not-refused b at bs e f h =
     let z : _≡_ {A = ℕ} 0 1 = cc in
     absurd (omega arith)
 
--- FIFTEEN EXACTLY WHERE THERE IS NO ROOM: a record is refused exactly where the place is past the end, or what is left of the buffer from there is shorter than the record (01, refusal 15)
+-- FIFTEEN EXACTLY IF THERE IS NO ROOM: a record is refused exactly if the place is past the end, or the buffer from there on is shorter than the record (01, refusal 15)
 pub no-room-exactly : (b : List ℕ) (at : ℕ) (bs : List ℕ) → (told b at bs ≡ Refused NoRoom) ↔ ((length b < at) ⊎ (length (drop at b) < length bs))
 no-room-exactly b at bs = (refused-there, ⊎-elim (past-the-end b at bs) (λ h. let n = length-drop at b in too-long b at bs (omega arith)))
   where
@@ -83,7 +83,7 @@ left-wrote : (b : List ℕ) (at : ℕ) (bs : List ℕ) → fits b at bs ≡ true
 unfolding left fits
 left-wrote b at bs t = record { ends = refl; within = leb-true (at + length bs) (length b) t; holds = rw t }
 
--- where a place is told, the record was written up to it
+-- if a place is told, the record was written up to it
 pub next-wrote : {w : Written} {b : List ℕ} {at : ℕ} {bs : List ℕ} {n : ℕ} {m : List ℕ} → w ≡ told b at bs → w ≡ Next n → m ≡ left b at bs → Wrote at n bs b m
 unfolding left fits
 next-wrote {w} {b} {at} {bs} {n} {m} e f g =
@@ -91,7 +91,7 @@ next-wrote {w} {b} {at} {bs} {n} {m} e f g =
     let t = le-leb (at + length bs) (length b) (omega arith) in
     record { ends = k .0; within = k .1; holds = g ∙ rw (t, k .0) refl }
 
--- a refusal leaves every byte
+-- after a refusal every byte is as it was
 pub left-refused : (b : List ℕ) (at : ℕ) (bs : List ℕ) → fits b at bs ≡ false → left b at bs ≡ b
 unfolding left
 left-refused b at bs f = rw f
@@ -100,7 +100,7 @@ left-refused b at bs f = rw f
 pub left-length : (b : List ℕ) (at : ℕ) (bs : List ℕ) → length (left b at bs) ≡ length b
 left-length b at bs = by-test (fits b at bs) (λ t. wrote-length (left-wrote b at bs t)) (λ f. ap length (left-refused b at bs f))
 
--- up to the place that is told stands what stood before the record, and then the record: records written one after another make one text
+-- up to the place told stands what stood before the record, and then the record: records written one after another make one text
 pub left-text : (b : List ℕ) (at : ℕ) (bs : List ℕ) → fits b at bs ≡ true → take (at + length bs) (left b at bs) ≡ take at b ++ bs
 left-text b at bs t = wrote-take (left-wrote b at bs t)
 

@@ -41,7 +41,7 @@ reads-number most n at t rest small stop =
     let e = digits-before (decimal n) t (decimal-digits n) stop in
     rw (e .0, e .1, number-is most n small, decimal-value n)
 
--- what a good line's number field tells: the number, what is left after it, that the field was written so, and that what is left goes on to the good line
+-- what a good line's number field tells: the number, what is left after it, that the field was written this way, and that what is left leads to the good line
 pub record NumberField (most : ℕ) (t : List ℕ) (rest : ℕ → List ℕ → Reading) (good : Reading) : Type 0 where
   pub number : ℕ
   pub left : List ℕ

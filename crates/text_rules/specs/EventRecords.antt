@@ -23,7 +23,7 @@ askBy Read = asks-read
 askBy Write = asks-write
 askBy Increment = asks-increment
 
--- c, a or k, by what ends the run
+-- c, a or k, by the mark that ends the run
 unfoldable pub markLetter : Mark → Letter
 markLetter commits = Commit
 markLetter gives-up = GiveUp
@@ -44,7 +44,7 @@ unfoldable pub within : ℕ → Event → Bool
 within last (Does a) = (leb 1 (a .job) && leb (a .job) last) && ltb (a .cell) cells
 within last (Ends m j) = leb 1 j && leb j last
 
--- so are all of a history
+-- every event of a history is within those limits
 unfoldable pub allWithin : ℕ → History → Bool
 allWithin last [] = true
 allWithin last (e ∷ h) = within last e && allWithin last h

@@ -32,27 +32,27 @@ unfoldable pub digitAhead : List ℕ → Bool
 digitAhead [] = false
 digitAhead (b ∷ t) = isDigit b
 
--- whether a field ends before a text: a tab or a newline stands there, or nothing
+-- whether a field ends in front of a text: the text begins with a tab or a newline, or is empty
 unfoldable pub endAhead : List ℕ → Bool
 endAhead [] = true
 endAhead (b ∷ t) = parts b
 
--- the letter that a line begins with, where its first field ends after it
+-- the letter that a line begins with, if its first field ends after it
 unfoldable pub firstLetter : List ℕ → Lettered
 firstLetter [] = Unknown
 firstLetter (b ∷ t) = pick (endAhead t) (letterOf b) Unknown
 
--- the digits that a text begins with, read on from v: their number and the place after them, or none where the number is too large or the field goes on
+-- the digits that a text begins with, read on from v: their number and the place after them, or none if the number is too large or the field goes on
 unfoldable pub digitsAt : ℕ → ℕ → ℕ → List ℕ → Numeral
 digitsAt most v at t =
     pick (leb (valueFrom v (digitsOf t)) most && endAhead (afterDigits t)) (Is (valueFrom v (digitsOf t)) (at + length (digitsOf t))) Missing
 
--- a tab, then the digits of a number in shortest decimal that is at most so large, and the field's end; or none
+-- a tab, then a number in shortest decimal that is not above the limit, and the field's end; or none
 unfoldable pub numberAt : ℕ → ℕ → List ℕ → Numeral
 numberAt most at [] = Missing
 numberAt most at (b ∷ t) = pick (eqb b tab) (pick (shortest (digitsOf t)) (digitsAt most 0 (at + 1) t) Missing) Missing
 
--- the field at fault of a line that lacks its newline, by how its bytes read; a good line does not lack it (02, No. 5: a missing newline being 4)
+-- the field at fault of a line that lacks its newline, by how its bytes read; a good line has its newline (02, No. 5: a missing newline being 4)
 unfoldable pub lacking : Reading → Field
 lacking (Bad at) = at
 lacking (Good l job cell) = Fourth

@@ -18,20 +18,20 @@ use Rattle.terms.specs.Limits.{lastNumber}
 use Rattle.text_rules.specs.declared.Reading.{Reading}
 use Rattle.text_rules.specs.declared.Reading.the-variants.{Good, Bad}
 
--- the refusal of a line as it reads: a bad line is refusal 9, with the field at fault, and a good one is not refused (01, Lines: all else is refusal 9; 02, No. 5)
+-- the refusal of a line, by how it reads: a bad line is refusal 9, with the field at fault, and a good one is not refused (01, Lines: all else is refusal 9; 02, No. 5)
 abbrev pub refusalOf : Reading → Option Refusal
 refusalOf (Good l job cell) = none
 refusalOf (Bad field) = some (BadLine field)
 
--- a cell has one or two digits (01, Lines)
+-- the largest cell that can be read: a cell has one or two digits (01, Lines)
 abbrev pub lastCell : ℕ
 lastCell = 99
 
--- whether a field ends before this byte: a tab parts fields, and a newline ends the line (01, Lines)
+-- whether a field ends in front of this byte: a tab separates fields, and a newline ends the line (01, Lines)
 unfoldable pub parts : ℕ → Bool
 parts b = eqb b tab || eqb b newline
 
--- the field that a text begins with: what stands before its first tab or newline
+-- the field that a text begins with: the bytes before its first tab or newline
 unfoldable pub fieldAhead : List ℕ → List ℕ
 fieldAhead [] = []
 fieldAhead (b ∷ t) = pick (parts b) [] (b ∷ fieldAhead t)
@@ -61,42 +61,42 @@ shortest [] = false
 shortest (d ∷ []) = true
 shortest (d ∷ e ∷ ds) = not (eqb d 48)
 
--- a field is a number, at most so large
+-- a field is a number that is not above the limit
 unfoldable pub isNumber : ℕ → List ℕ → Bool
 isNumber most field = digitsOnly field && (shortest field && leb (valueFrom 0 field) most)
 
--- a field of a number, behind its tab, and then whatever the rest says; where it is missing or is no such number, the line is bad at this field
+-- a tab and a number field, and then what the rest says; if the field is missing or is not such a number, the line is bad at this field
 unfoldable pub numberThen : ℕ → Field → List ℕ → (ℕ → List ℕ → Reading) → Reading
 numberThen most at [] rest = Bad at
 numberThen most at (b ∷ t) rest =
     pick (eqb b tab && isNumber most (fieldAhead t)) (rest (valueFrom 0 (fieldAhead t)) (afterField t)) (Bad at)
 
--- after the last field that the letter has: one newline and nothing after it; else the line is bad there (02, No. 5: a missing newline being 4)
+-- after the last field that the letter has: one newline and nothing after it; otherwise the line is bad there (02, No. 5: a missing newline being 4)
 unfoldable pub ending : List ℕ → Reading → Reading
 ending [] r = Bad Fourth
 ending (b ∷ []) r = pick (eqb b newline) r (Bad Fourth)
 ending (b ∷ c ∷ t) r = Bad Fourth
 
--- the third field, where the letter has one: a cell
+-- the third field, if the letter has one: a cell
 unfoldable pub cellPart : Letter → ℕ → List ℕ → Reading
 cellPart l job t =
     pick (hasCell l) (numberThen lastCell Third t (λ cell rest. ending rest (Good l job cell))) (ending t (Good l job 0))
 
--- the second field, where the letter has one: a job, at most 4,294,967,295
+-- the second field, if the letter has one: a job, at most 4,294,967,295
 unfoldable pub jobPart : Letter → List ℕ → Reading
 jobPart l t = pick (hasJob l) (numberThen lastNumber Second t (cellPart l)) (cellPart l 0 t)
 
--- the letter of a first field: one byte, that of a letter
+-- the letter of a first field: the field is one byte, a letter's
 unfoldable pub letterIn : List ℕ → Lettered
 letterIn [] = Unknown
 letterIn (b ∷ []) = letterOf b
 letterIn (b ∷ c ∷ t) = Unknown
 
--- the first field: a letter, of those that such lines have
+-- the first field: a letter, one of those that such lines may begin with
 unfoldable pub letterPart : (Letter → Bool) → Lettered → List ℕ → Reading
 letterPart which (Known l) t = pick (which l) (jobPart l t) (Bad First)
 letterPart which Unknown t = Bad First
 
--- a line of requests or of a history, by the letters that it may begin with; the lowest field at fault counts (01, Lines: all else is refusal 9; 02, No. 5)
+-- what a line of requests or of a history says, given the letters that it may begin with; the lowest field at fault counts (01, Lines: all else is refusal 9; 02, No. 5)
 unfoldable pub readLine : (Letter → Bool) → List ℕ → Reading
 readLine which bytes = letterPart which (letterIn (fieldAhead bytes)) (afterField bytes)

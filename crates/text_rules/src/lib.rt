@@ -1,4 +1,4 @@
-// The lines that come in and the records that go out, as definitions, and the types that the definitions speak of; the splitter, whose methods stand with its type (01, Lines).
+// The lines that come in and the records that go out, as definitions; the types that these speak of; and the splitter, whose methods stand with its type (01, Lines).
 pub mod splitter;
 
 pub use splitter::Cut;
@@ -20,7 +20,7 @@ pub enum Reading {
 pub enum Numeral {
     // the number, and the place after it
     Is { value: u32, next: usize },
-    // no field stands there, or what stands there is no number that is small enough
+    // no field stands there, or it is not a number, or the number is too large
     Missing,
 }
 

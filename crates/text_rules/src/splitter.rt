@@ -1,4 +1,4 @@
-// The splitter: chunks of input to lines, whatever their length, in fixed memory (01, Lines).
+// The splitter: cuts chunks of input into lines of any length, in fixed memory (01, Lines).
 use terms::words::NEWLINE;
 ghost use mathlib.Core.Path.{_≡_};
 ghost use Prim.Native.Nat.{_+_, _-_, _≤_, _<_, min};
@@ -6,7 +6,7 @@ ghost use lib.ListN.{length, take, drop};
 ghost use lib.Seq.{sets};
 ghost use Rattle.text_rules.specs.Split.{kept, fresh, following, underWay, through, used, cutOf};
 
-// So many bytes of a line are kept: the longest good line has as many, its newline among them.
+// How many bytes of a line are kept: as many as the longest good line has, its newline among them.
 pub const KEPT: usize = 16;
 
 // The line that is being put together: its first bytes, how many they are, whether its newline has come, and its number from 1.
@@ -23,7 +23,7 @@ pub struct Cut {
     pub next: usize,
 }
 
-// The place after the line that starts at a place of a text: after its newline, or the text's end where it has none. A place past the end stays.
+// The place after the line that starts at a place of a text: after its newline, or at the text's end if it has none. A place past the end stays.
 pub fn line_end(text: &[u8], from: usize) -> usize
     ensures { λ r. ⌜ r ≡ from + used (drop from (now (text .entry))) ⌝ }
 {
@@ -44,7 +44,7 @@ fn next_line(line: u64) -> u64
     if line < u64::MAX { line + 1 } else { line }
 }
 
-// How many of n bytes there is room for where len are kept.
+// How many of n bytes there is room for when len are kept.
 fn room(len: usize, n: usize) -> usize
     ensures { λ r. ⌜ r ≡ min n (kept - len) ⌝ }
 {
@@ -69,7 +69,7 @@ fn filled(bytes: [u8; KEPT], len: usize, part: &[u8], n: usize) -> [u8; KEPT]
     all
 }
 
-// A line under way, with len bytes kept, after a part of it that may end it.
+// A line under way with len bytes kept, after a part of it; the part may end the line.
 fn grown(bytes: [u8; KEPT], len: usize, line: u64, part: &[u8]) -> Splitter
     requires { ⌜ (0 < length (now part)) × (used (now part) ≡ length (now part)) ⌝ }
     ensures { λ r. ⌜ r ≡ through (underWay bytes len line) (now (part .entry)) ⌝ }
@@ -98,7 +98,7 @@ impl Splitter {
         }
     }
 
-    // The splitter after a chunk's bytes from a place up to and with the next newline, and the place after them.
+    // The splitter after a chunk's bytes from a place up to and including the next newline, and the place after them.
     pub fn cut(self, chunk: &[u8], from: usize) -> Cut
         ensures { λ r. ⌜ r ≡ cutOf self (now (chunk .entry)) from ⌝ }
     {

@@ -1,4 +1,4 @@
--- `conflict::cells::has_cell` meets its contract: what is no cell is in no set, and else the bit is looked at.
+-- `conflict::cells::has_cell` meets its contract: a number that is not a cell is in no set, and for a cell the bit is looked at.
 -- Assumes nothing.
 use borrow.Author.Needs.{needs}
 use Rattle.conflict.proofs.CellSets.{cell-nowhere, cell-there}

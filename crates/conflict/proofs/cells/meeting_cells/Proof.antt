@@ -1,4 +1,4 @@
--- `conflict::cells::meeting_cells` meets its contract: the sets are met kind by kind.
+-- `conflict::cells::meeting_cells` meets its contract: the sets are intersected kind by kind.
 -- Assumes nothing.
 use Rattle.conflict.proofs.CellSets.{meeting-tells}
 use Rattle.conflict.proofs.cells.meeting_cells.Statement.{statement}

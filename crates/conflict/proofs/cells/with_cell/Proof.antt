@@ -1,4 +1,4 @@
--- `conflict::cells::with_cell` meets its contract: what is no cell changes nothing, and a cell sets its bit.
+-- `conflict::cells::with_cell` meets its contract: a number that is not a cell changes nothing, and a cell sets its bit.
 -- Assumes nothing.
 use borrow.Author.Needs.{needs}
 use Rattle.conflict.proofs.CellSets.{cell-none, cell-more}

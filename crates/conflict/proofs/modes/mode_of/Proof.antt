@@ -1,4 +1,4 @@
--- `conflict::modes::mode_of` meets its contract: a matched code is put for the argument, and any other differs from each code.
+-- `conflict::modes::mode_of` meets its contract: a matched code replaces the argument, and any other number differs from each code.
 -- Assumes nothing.
 use borrow.Author.Tests.{ne-eqb}
 use Rattle.conflict.specs.Modes.{codeOf, modeOf}

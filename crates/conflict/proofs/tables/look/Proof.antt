@@ -1,4 +1,4 @@
--- `conflict::tables::look` meets its contract: the column of the other mode says of the held one what the row of that one says of the other.
+-- `conflict::tables::look` meets its contract: the column of the other mode says of the held mode what the row of the held mode says of the other.
 -- Assumes nothing.
 use borrow.Author.Needs.{needs}
 use Rattle.laws.specs.Choice.{was-true, was-false}
