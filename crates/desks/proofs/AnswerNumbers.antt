@@ -19,7 +19,7 @@ beside-is-job (table.goes j) = refl
 beside-is-job (table.waits j) = refl
 beside-is-job (table.goes-back j) = refl
 
--- WORD, NUMBER AND FIELD TELL ANSWERS APART: equal words with equal numbers and fields are of equal answers
+-- WORD, NUMBER AND FIELD TELL ANSWERS APART: answers with equal words, numbers and fields are equal
 pub same-answer : (a b : Answer) → wordOf a ≡ wordOf b → numberBeside a ≡ numberBeside b → fieldBeside a ≡ fieldBeside b → a ≡ b
 unfolding wordOf numberBeside fieldBeside
 same-answer (goes j) (goes k) e n f = ap goes n
@@ -39,7 +39,7 @@ same-answer (refuses x) (goes y) e n f = let z : _≡_ {A = ℕ} 0 1 = cc in abs
 same-answer (refuses x) (waits y) e n f = let z : _≡_ {A = ℕ} 0 1 = cc in absurd (omega arith)
 same-answer (refuses x) (back y) e n f = let z : _≡_ {A = ℕ} 0 1 = cc in absurd (omega arith)
 
--- where no refusal 9 is given, no field is
+-- an answer other than refusal 9 has no field
 pub no-field : (a : Answer) → ((why : Refusal) → a ≡ refuses why → numberOf why ≡ 9 → ⊥) → fieldBeside a ≡ 0
 unfolding fieldBeside
 no-field (goes j) other = refl

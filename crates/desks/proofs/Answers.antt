@@ -1,4 +1,4 @@
--- Answers of different words are not equal; and which are go or a refusal.
+-- Answers with different words are not equal; and which answers are go or a refusal.
 -- Assumes nothing.
 use Prim.Native.Nat.{ℕ}
 use mathlib.Core.Path.{_≡_}
@@ -20,7 +20,7 @@ caseOf (No why) = 3
 pub other-answer : {P : Type 0} {x y : Answer} → x ≡ y → eqb (caseOf x) (caseOf y) ≡ false → P
 other-answer {y = y} e n = not-both (rw e (same-refl (caseOf y))) n
 
--- the answer is go or a refusal: nobody is held up
+-- the answer is go or a refusal: no job is held up
 abbrev pub goesOrRefuses : Answer → Bool
 goesOrRefuses (Go j) = true
 goesOrRefuses (Wait j) = false

@@ -28,7 +28,7 @@ use Rattle.desks.specs.DeskLimits.{DeskLimits}
 use Rattle.desks.specs.AsWorded.{Open32, RefusedAlike, all-open, no-number-left}
 use Rattle.desks.proofs.OpenJobs.{only-open}
 
--- a byte that is none of the eight is of another kind
+-- a byte that is not one of the eight is of another kind
 pub none-of-eight : (b : ℕ) → member b (98 ∷ 99 ∷ 97 ∷ 116 ∷ 114 ∷ 119 ∷ 105 ∷ 117 ∷ []) ≡ false → otherKind (letterOf b) ≡ true
 none-of-eight b f = by-letter (letterOf b) refl
   where
@@ -49,12 +49,12 @@ abbrev nothing : Option Refusal → Bool
 nothing none = true
 nothing (some x) = false
 
--- a refusal that is due is not none
+-- a refusal that is due is not "no refusal"
 pub some-not-none : {P : Type 0} {x : Refusal} → _≡_ {A = Option Refusal} none (some x) → P
 some-not-none e = not-both refl (ap nothing e)
 
 module _ {next : ℕ} {jobs : List ℕ} {open′ : ℕ → Bool} (l : DeskLimits next jobs open′) where
-  -- where no place is free, 32 jobs are open
+  -- if no place is free, 32 jobs are open
   pub open-32 : member 0 jobs ≡ false → Open32 open′
   open-32 f = record {
     jobs = openAmong open′ jobs;
@@ -63,7 +63,7 @@ module _ {next : ℕ} {jobs : List ℕ} {open′ : ℕ → Bool} (l : DeskLimits
     each = only-open open′ jobs;
   }
 
-  -- and where 32 jobs are open, no place is free
+  -- and if 32 jobs are open, no place is free
   pub none-free : Open32 open′ → member 0 jobs ≡ false
   none-free o =
       let few : length (o .jobs) ≤ length (openAmong open′ jobs) = no-longer (o .jobs) (openAmong open′ jobs) (o .once) (λ j m. l .open-listed j ∙ o .each j m) in
@@ -79,10 +79,10 @@ module _ {next : ℕ} {jobs : List ℕ} {open′ : ℕ → Bool} (l : DeskLimits
       (λ f. by-test (member 0 jobs) (λ t. some-not-none (rw (f, t) at e))
       (λ g. let q : AllOpen ≡ why = same-why (rw (f, g) at e) in rw (← q) (all-open b (ltb-false lastNumber next f) (open-32 g))))
 
--- 7 is due where the last number has been given
+-- 7 is due if the last number has been given
 pub seven-due : (next : ℕ) (jobs : List ℕ) → 4_294_967_295 < next → pick (ltb lastNumber next) (some NoNumberLeft) (pick (not (member 0 jobs)) (some AllOpen) none) ≡ some NoNumberLeft
 seven-due next jobs p = rw (lt-ltb lastNumber next p)
 
--- and 6 where it has not been, and no place is free
+-- and 6 is due if it has not been given, and no place is free
 pub six-due : (next : ℕ) (jobs : List ℕ) → next ≤ 4_294_967_295 → member 0 jobs ≡ false → pick (ltb lastNumber next) (some NoNumberLeft) (pick (not (member 0 jobs)) (some AllOpen) none) ≡ some AllOpen
 six-due next jobs p f = rw (le-ltb lastNumber next p, f)

@@ -1,4 +1,4 @@
--- Requests that are alike to their letter write the same: fields that a kind does not use are not read (01, Refusals by number).
+-- Requests that are alike for their letter write the same: fields that a kind does not use are not read (01, Refusals by number).
 -- Assumes nothing.
 use Prim.Native.Nat.{ℕ}
 use mathlib.Core.Path.{_≡_, refl, ap, _∙_}
@@ -22,7 +22,7 @@ went-alike r s j (Known GiveUp) e = refl
 went-alike r s j (Known Retry) e = refl
 went-alike r s j (Known (Asks a)) e = rw (e .cell refl)
 
--- and the same record under any answer
+-- and have the same record under any answer
 pub records-alike : (r s : Request) (x : Answer) → r .kind ≡ s .kind → Alike (letterOf (r .kind)) r s → ownRecords r x ≡ ownRecords s x
 unfolding ownRecords
 records-alike r s (Go j) k e = went-alike r s j (letterOf (r .kind)) e ∙ ap (λ b. wentBy s j (letterOf b)) k

@@ -16,7 +16,7 @@ use Rattle.desks.specs.Follows.{Follows}
 use Rattle.desks.proofs.StartedThrough.{run-started}
 
 module _ {S T : Type 0} {see : S → T} {does : Stepping S} {new : ℕ → S} {theirs : Stepping T} {first : ℕ → T} (f : Follows see does new theirs first) where
-  -- the desk that is seen in a started one is a started one, with the same history
+  -- the desk that is seen in a started desk is started, with the same history
   pub seen-started : {d : S} {h : History} → StartedOn does new d h → StartedOn theirs first (see d) h
   unfolding recordsBy
   seen-started (fresh n l u) = subst (λ e. StartedOn theirs first e []) (sym (f .starts n l u)) (fresh n l u)
@@ -28,7 +28,7 @@ module _ {S T : Type 0} {see : S → T} {does : Stepping S} {new : ℕ → S} {t
   run-seen d h s [] = refl
   run-seen d h s (r ∷ rs) = run-seen (does d r .desk) (h ++ recordsBy does d r) (after s r) rs ∙ ap (λ o. through theirs (o .desk) rs) (f .same d h s r)
 
-  -- what the requests write is what they write on the other
+  -- what the requests write is what they write on the other desk
   run-writes : (d : S) (h : History) → StartedOn does new d h → (rs : List Request) → writes does d rs ≡ writes theirs (see d) rs
   unfolding writes recordsBy
   run-writes d h s [] = refl
@@ -66,20 +66,20 @@ module _ {S T : Type 0} {see : S → T} {does : Stepping S} {new : ℕ → S} {t
   pub started-course : (n : ℕ) → 0 < n → n ≤ lastNumber → course see does (new n) ≡ course (λ e. e) theirs (first n)
   started-course n l u = one-course (new n) [] (fresh n l u) ∙ ap (course (λ e. e) theirs) (f .starts n l u)
 
-  -- so what is kept by every started desk of the other's it keeps too
+  -- so it too keeps what every started desk of the other kind keeps
   pub keeps-too : {d : S} {h : History} (P : History → Course T → Type 0) → ((e : T) → StartedOn theirs first e h → P h (course (λ e. e) theirs e)) → StartedOn does new d h → P h (course see does d)
   keeps-too {d} {h} P kept s = subst (P h) (sym (one-course d h s)) (kept (see d) (seen-started s))
 
-  -- the same answers and wakes to any requests
+  -- it gives the same answers and wakes to any requests
   pub same-answers : (n : ℕ) → 0 < n → n ≤ lastNumber → (rs : List Request) → answersOf does (new n) rs ≡ answersOf theirs (first n) rs
   same-answers n l u rs = run-answers (new n) [] (fresh n l u) rs ∙ ap (λ e. answersOf theirs e rs) (f .starts n l u)
 
--- two desks that follow one, however they are kept, show the same
+-- two desks that follow the same desk show the same, however they are kept
 pub show-the-same : {S S′ T : Type 0} {see : S → T} {does : Stepping S} {new : ℕ → S} {see′ : S′ → T} {does′ : Stepping S′} {new′ : ℕ → S′} {theirs : Stepping T} {first : ℕ → T} →
     Follows see does new theirs first → Follows see′ does′ new′ theirs first → (n : ℕ) → 0 < n → n ≤ lastNumber → course see does (new n) ≡ course see′ does′ (new′ n)
 show-the-same f g n l u = started-course f n l u ∙ sym (started-course g n l u)
 
--- a desk that follows one that follows a third follows the third
+-- following is transitive: a desk that follows one that follows a third follows the third
 pub follows-on : {S T U : Type 0} {see : S → T} {does : Stepping S} {new : ℕ → S} {theirs : Stepping T} {first : ℕ → T} {look : T → U} {thirds : Stepping U} {one : ℕ → U} →
     Follows see does new theirs first → Follows look theirs first thirds one → Follows (λ d. look (see d)) does new thirds one
 follows-on {see = see} {look = look} f g = record {

@@ -10,21 +10,21 @@ use lib.Seq.{drop-cons}
 use borrow.Author.Tests.{eq-eqb, ne-eqb}
 use Rattle.laws.specs.Lists.{pos}
 
--- the job stands at p: so the search ends there
+-- the job is at p, so the search ends there
 pub found-here : (l : List ℕ) (j p : ℕ) → p < length l → getD l p 0 ≡ j → p + pos (drop p l) j ≡ pos l j → p ≡ pos l j
 unfolding pos
 found-here l j p h e i =
     let z : pos (drop p l) j ≡ 0 = rw (drop-cons l p 0 h, eq-eqb (getD l p 0) j e) in
     omega arith
 
--- it does not: so the search goes on with the rest
+-- the job is not at p, so the search goes on with the rest
 pub found-later : (l : List ℕ) (j p : ℕ) → p < length l → (getD l p 0 ≡ j → ⊥) → p + pos (drop p l) j ≡ pos l j → p + 1 + pos (drop (p + 1) l) j ≡ pos l j
 unfolding pos
 found-later l j p h e i =
     let z : pos (drop p l) j ≡ suc (pos (drop (suc p) l) j) = rw (drop-cons l p 0 h, ne-eqb (getD l p 0) j e) in
     rw (add-one p) (omega arith)
 
--- the list is passed: the job stands nowhere in it
+-- the whole list is passed, so the job is not in it
 pub found-nowhere : (l : List ℕ) (j p : ℕ) → length l ≤ p → p + pos (drop p l) j ≡ pos l j → p ≡ pos l j
 unfolding pos
 found-nowhere l j p h i =

@@ -1,4 +1,4 @@
--- The numbers of jobs, on any desk each of whose steps gives the next number or none: the next number never falls, the numbers given rise, none is given twice, and none above 4,294,967,295 (01, Jobs and their numbers).
+-- The numbers of jobs, on any desk whose steps each give the next number or none: the next number never falls, the numbers given rise, none is given twice, and none is above 4,294,967,295 (01, Jobs and their numbers).
 -- Assumes nothing.
 use Prim.Native.Nat.{ℕ, suc, _<_, _≤_}
 use mathlib.Core.Path.{_≡_, refl, sym, ap, subst, _∙_}
@@ -73,7 +73,7 @@ module _ {S : Type 0} (step : Stepping S) (next : S → ℕ) (each : (d : S) (r 
       let b : next (step d r .desk) ≤ next (through step (step d r .desk) rs) = next-rises-on (step d r .desk) rs in
       omega arith
 
-  -- a number given by the requests is not below the next number before them, below the next number after them, and not above 4,294,967,295
+  -- a number given by the requests is at least the next number before them, below the next number after them, and at most 4,294,967,295
   pub given-within : (d : S) (rs : List Request) (m : ℕ) → member m (gives step d rs) ≡ true → (next d ≤ m) × (m < next (through step d rs)) × (m ≤ lastNumber)
   unfolding gives
   given-within d [] m h = unfold member in not-both h refl
@@ -89,7 +89,7 @@ module _ {S : Type 0} (step : Stepping S) (next : S → ℕ) (each : (d : S) (r 
           (λ t. let p : next d ≡ m = eqb-true (next d) m t in let b : next (step d r .desk) ≤ next (through step (step d r .desk) rs) = next-rises-on (step d r .desk) rs in (omega arith, omega (arith, e), omega arith))
           (λ k. let w = f k in (omega (arith, e, w .0), w .1, w .2))
 
-  -- and every number between the two was given
+  -- and every number between those two was given
   pub given-all : (d : S) (rs : List Request) (m : ℕ) → next d ≤ m → m < next (through step d rs) → member m (gives step d rs) ≡ true
   unfolding gives
   given-all d [] m l u = absurd (omega arith)

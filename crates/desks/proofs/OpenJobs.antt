@@ -1,4 +1,4 @@
--- The open jobs are those that the places name, each once, at most 32; no place is free exactly where 32 jobs are open (01, What is delivered; 01, refusals 3 and 6).
+-- The open jobs are those that the places name, each once, at most 32; no place is free exactly if 32 jobs are open (01, What is delivered; 01, refusals 3 and 6).
 -- Assumes nothing.
 use Prim.Native.Nat.{ℕ, suc, _<_, _≤_}
 use mathlib.Core.Path.{_≡_, refl, sym, ap, _∙_, subst}
@@ -20,7 +20,7 @@ use Rattle.desks.specs.Table.{letterIs, isBegin}
 use Rattle.desks.specs.Seating.{Seating}
 use Rattle.desks.specs.DeskLimits.{DeskLimits}
 
--- of the places, only open jobs are taken
+-- the list taken from the places has only open jobs
 pub only-open : (isOpen : ℕ → Bool) (ks : List ℕ) (j : ℕ) → member j (openAmong isOpen ks) ≡ true → isOpen j ≡ true
 unfolding openAmong member
 only-open isOpen [] j h = not-both h refl
@@ -38,7 +38,7 @@ only-seated isOpen (k ∷ ks) j h =
     (λ t. or-either (eqb k j) (member j (openAmong isOpen ks)) (rw t at h) (or-first (eqb k j) (member j ks)) (λ m. or-second (eqb k j) (member j ks) (only-seated isOpen ks j m)))
     (λ f. or-second (eqb k j) (member j ks) (only-seated isOpen ks j (rw f at h)))
 
--- every open job of the places is taken
+-- it has every open job of the places
 pub all-open : (isOpen : ℕ → Bool) (ks : List ℕ) (j : ℕ) → member j ks ≡ true → isOpen j ≡ true → member j (openAmong isOpen ks) ≡ true
 unfolding openAmong member
 all-open isOpen [] j h o = h
@@ -47,7 +47,7 @@ all-open isOpen (k ∷ ks) j h o =
     (λ e. let t : isOpen k ≡ true = rw (eqb-true k j e) o in rw t (or-first (eqb k j) (member j (openAmong isOpen ks)) e))
     (λ m. by-test (isOpen k) (λ t. rw t (or-second (eqb k j) (member j (openAmong isOpen ks)) (all-open isOpen ks j m o))) (λ f. rw f (all-open isOpen ks j m o)))
 
--- none is taken twice, where 0 is not open
+-- it has none twice, if 0 is not open
 pub none-twice : (isOpen : ℕ → Bool) (ks : List ℕ) → isOpen 0 ≡ false → Once ks → distinct (openAmong isOpen ks) ≡ true
 unfolding openAmong distinct
 none-twice isOpen [] z o = refl
@@ -62,7 +62,7 @@ none-twice isOpen (k ∷ ks) z o =
     not-in : isOpen k ≡ true → member k (openAmong isOpen ks) ≡ false
     not-in t = by-test (member k (openAmong isOpen ks)) (λ m. not-both (only-seated isOpen ks k m) (o .0 (not-zero t))) (λ f. f)
 
--- no more are taken than there are places
+-- it has no more jobs than there are places
 pub no-more : (isOpen : ℕ → Bool) (ks : List ℕ) → length (openAmong isOpen ks) ≤ length ks
 unfolding openAmong
 no-more isOpen [] = omega arith

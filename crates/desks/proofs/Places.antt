@@ -1,4 +1,4 @@
--- The places among the 32: a new job takes a free one, a closed job frees its own, and nobody else's changes.
+-- The 32 places: a new job takes a free one, a closed job frees its own, and no other job's place changes.
 -- Assumes nothing.
 use Prim.Native.Nat.{ℕ, zero, suc}
 use mathlib.Core.Path.{_≡_, refl, sym, ap, _∙_}
@@ -14,12 +14,12 @@ use Rattle.laws.proofs.Lists.{pos-first, pos-later, member-first, member-later,
 use Rattle.laws.proofs.Parts.{nor-first, nor-second}
 use Rattle.desks.specs.Places.{seated, vacated, Once}
 
--- another job has a place where it had one: one place fewer or more in front of it makes no difference
+-- whether another job has a place does not depend on one place more or less in front
 member-past : (k : ℕ) (ks ls : List ℕ) (i : ℕ) → member i ks ≡ member i ls → member i (k ∷ ks) ≡ member i (k ∷ ls)
 unfolding member
 member-past k ks ls i e = ap (λ b. eqb k i || b) e
 
--- taking a place changes nobody else's
+-- taking a place changes no other job's place
 pub seated-others : (j : ℕ) (ks : List ℕ) (i : ℕ) → i ≢ j → i ≢ 0 → member i (seated j ks) ≡ member i ks
 unfolding seated
 seated-others j [] i n z = refl
@@ -28,7 +28,7 @@ seated-others j (k ∷ ks) i n z =
     (λ t. rw t (member-later j ks i (ne-eqb j i (λ e. n (sym e))) ∙ sym (member-later k ks i (ne-eqb k i (λ e. z (sym e ∙ eqb-true k 0 t))))))
     (λ f. rw f (member-past k (seated j ks) ks i (seated-others j ks i n z)))
 
--- where a place is free, the new job has one
+-- if a place is free, the new job has one
 pub seated-there : (j : ℕ) (ks : List ℕ) → member 0 ks ≡ true → member j (seated j ks) ≡ true
 unfolding seated
 seated-there j [] h = unfold member in not-both h refl
@@ -36,7 +36,7 @@ seated-there j (k ∷ ks) h =
     by-test (eqb k 0) (λ t. rw t (member-first j ks))
     (λ f. rw f (member-more k (seated j ks) j (seated-there j ks (sym (member-later k ks 0 f) ∙ h))))
 
--- who has no place does not have the first
+-- a job without a place does not have the first
 not-first : (k : ℕ) (ks : List ℕ) (j : ℕ) → member j (k ∷ ks) ≡ false → k ≢ j
 unfolding member
 not-first k ks j m = eqb-false k j (nor-first (eqb k j) (member j ks) m)
@@ -46,7 +46,7 @@ not-later : (k : ℕ) (ks : List ℕ) (j : ℕ) → member j (k ∷ ks) ≡ fals
 unfolding member
 not-later k ks j m = nor-second (eqb k j) (member j ks) m
 
--- nobody has two places after a job that had none has taken one
+-- no job has two places after a job that had none has taken one
 pub seated-once : (j : ℕ) (ks : List ℕ) → member j ks ≡ false → Once ks → Once (seated j ks)
 unfolding seated
 seated-once j [] m o = tt
@@ -60,7 +60,7 @@ unfolding seated
 seated-size j [] = refl
 seated-size j (k ∷ ks) = by-test (eqb k 0) (λ t. rw t) (λ f. rw f (ap suc (seated-size j ks)))
 
--- freeing a place changes nobody else's
+-- freeing a place changes no other job's place
 pub vacated-others : (j : ℕ) (ks : List ℕ) (i : ℕ) → i ≢ j → i ≢ 0 → member i (vacated j ks) ≡ member i ks
 unfolding vacated
 vacated-others j [] i n z = refl
@@ -69,7 +69,7 @@ vacated-others j (k ∷ ks) i n z =
     (λ t. rw t (member-later 0 (vacated j ks) i (ne-eqb 0 i (λ e. z (sym e))) ∙ vacated-others j ks i n z ∙ sym (member-later k ks i (ne-eqb k i (λ e. n (sym e ∙ eqb-true k j t))))))
     (λ f. rw f (member-past k (vacated j ks) ks i (vacated-others j ks i n z)))
 
--- who frees its place has none
+-- a job that frees its place has none
 pub vacated-gone : (j : ℕ) (ks : List ℕ) → j ≢ 0 → member j (vacated j ks) ≡ false
 unfolding vacated
 vacated-gone j [] z = unfold member in refl
@@ -85,7 +85,7 @@ vacated-free j (k ∷ ks) m =
     by-test (eqb k j) (λ t. rw t (member-first 0 (vacated j ks)))
     (λ f. rw f (member-more k (vacated j ks) 0 (vacated-free j ks (sym (member-later k ks j f) ∙ m))))
 
--- nobody has two places after one is freed
+-- no job has two places after one is freed
 pub vacated-once : (j : ℕ) (ks : List ℕ) → Once ks → Once (vacated j ks)
 unfolding vacated
 vacated-once j [] o = tt
@@ -98,18 +98,18 @@ pub vacated-size : (j : ℕ) (ks : List ℕ) → length (vacated j ks) ≡ lengt
 unfolding vacated
 vacated-size j ks = length-map ks (λ k. pick (eqb k j) 0 k)
 
--- in free places there is nobody
+-- free places hold no job
 pub free-nobody : (n i : ℕ) → i ≢ 0 → member i (replicate n 0) ≡ false
 unfolding member
 free-nobody zero i z = refl
 free-nobody (suc n) i z = rw (ne-eqb 0 i (λ e. z (sym e))) (free-nobody n i z)
 
--- and so nobody twice
+-- and so no job twice
 pub free-once : (n : ℕ) → Once (replicate n 0)
 free-once zero = tt
 free-once (suc n) = (λ z. absurd (z refl), free-once n)
 
--- a new job takes the first free place: its number stands where 0 was found
+-- a new job takes the first free place: its number replaces the 0 found there
 pub seated-set : (n : ℕ) (ks : List ℕ) → member 0 ks ≡ true → seated n ks ≡ set ks (pos ks 0) n
 unfolding seated
 seated-set n [] m = refl

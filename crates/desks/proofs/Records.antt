@@ -28,7 +28,7 @@ unfolding wakeRecords onlyActions
 wakes-actions [] = refl
 wakes-actions (a ∷ rest) = wakes-actions rest
 
--- what a request that goes writes is actions alone, or a mark first
+-- a request that goes writes only actions, or a mark first
 went-first : (r : Request) (j : ℕ) (wakes : List Action) (l : Lettered) → MarkFirst (wentBy r j l ++ wakeRecords wakes)
 went-first r j wakes Unknown = unfold wentBy in no-mark (wakes-actions wakes)
 went-first r j wakes (Known no-request) = unfold wentBy in no-mark (wakes-actions wakes)
@@ -55,7 +55,7 @@ records r said wakes h e = ap (λ x. x ++ wakeRecords wakes) e
 went : (r : Request) (said : Answer) (wakes : List Action) (l : Lettered) (j : ℕ) → letterOf (r .kind) ≡ l → said ≡ Go j → recordsOf r said wakes ≡ wentBy r j l ++ wakeRecords wakes
 went r said wakes l j e g = records r said wakes (wentBy r j l) (ap (ownRecords r) g ∙ (unfold ownRecords in ap (wentBy r j) e))
 
--- what is promised of the records of a step, on a desk where who asks, begins or retries and goes, and who waits, wakes nobody
+-- what is promised of the records of a step, on a desk where a request that asks, begins or retries and goes wakes no job, and a wait wakes no job
 pub recorded-by :
     {D : Type 0} (step : Stepping D) (d : D) (r : Request) →
     ((a : Ask) (j : ℕ) → letterOf (r .kind) ≡ Known (Asks a) → step d r .said ≡ Go j → step d r .wakes ≡ []) →

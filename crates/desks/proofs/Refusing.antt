@@ -1,4 +1,4 @@
--- Refusals and answers, on any desk whose step does what its table says: a refusal exactly where it is due, and then nothing changes; else go, wait or back, with the job (01, Refusals by number; 01, Lines).
+-- Refusals and answers, on any desk whose step does what its table says: a refusal exactly if it is due, and then nothing changes; else go, wait or back, with the job (01, Refusals by number; 01, Lines).
 -- Assumes nothing.
 use Prim.Native.Nat.{ℕ}
 use mathlib.Core.Path.{_≡_, refl, sym, ap, _∙_, subst}
@@ -60,11 +60,11 @@ module _ {D : Type 0} where
   meant-answers d i none o m j h = (refl, one-job h m)
 
 module _ {D : Type 0} (step : Stepping D) (due : D → Request → Option Refusal) (named : D → Request → ℕ) (meant : (d : D) (r : Request) → Meant d (named d r) (due d r) (step d r)) where
-  -- where a refusal is due the desk is as it was, and nobody is woken
+  -- if a refusal is due, the desk is as it was, and no job is woken
   pub due-refused : (d : D) (r : Request) (why : Refusal) → due d r ≡ some why → step d r ≡ refused d why
   due-refused d r why e = subst (λ v. Meant d (named d r) v (step d r)) e (meant d r)
 
-  -- and where the step refuses, that refusal is due
+  -- and if the step refuses, that refusal is due
   pub refused-due : (d : D) (r : Request) (why : Refusal) → step d r .said ≡ No why → due d r ≡ some why
   refused-due d r = meant-refuses d (named d r) (due d r) (step d r) (meant d r)
 
@@ -72,7 +72,7 @@ module _ {D : Type 0} (step : Stepping D) (due : D → Request → Option Refusa
   not-due : (d : D) (r : Request) → due d r ≡ none → Answers (step d r .said) (named d r)
   not-due d r e = subst (λ v. Meant d (named d r) v (step d r)) e (meant d r)
 
-  -- REFUSED BY THE TABLE: where only requests for a cell are answered wait or back, no 9 is due, and requests that are alike make the same step, the desk keeps what is promised of refusals and answers
+  -- REFUSED BY THE TABLE: a desk keeps what is promised of refusals and answers if only requests for a cell are answered wait or back, no 9 is due, and requests that are alike make the same step
   pub refuses-by :
       ((d : D) (r : Request) → letterIs asksNoCell (letterOf (r .kind)) ≡ true → goesOrRefuses (step d r .said) ≡ true) →
       ((d : D) (r : Request) (why : Refusal) → due d r ≡ some why → numberOf why ≡ 9 → ⊥) →

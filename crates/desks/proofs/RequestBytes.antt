@@ -1,4 +1,4 @@
--- What a table has due of a request, by the request's byte: byte by byte as the table says, and of one ask of a cell what it has due of every other (01, Refusals by number; 02, No. 1).
+-- What a table has due for a request, by the request's byte: byte by byte as the table says, and the same for every two asks of a cell (01, Refusals by number; 02, No. 1).
 -- Assumes nothing.
 use Prim.Native.Nat.{ℕ}
 use mathlib.Core.Path.{_≡_, refl, sym, ap, ap₂, _∙_, subst}
@@ -33,11 +33,11 @@ withCT = 99 ∷ 116 ∷ asks
 abbrev pub withCAT : List ℕ
 withCAT = 99 ∷ 97 ∷ 116 ∷ asks
 
--- a request's byte is listed where its letter's is
+-- a request's byte is in a list if its letter's byte is
 pub listed : (r : Request) (l : Letter) (bytes : List ℕ) → letterOf (r .kind) ≡ Known l → member (byteOf l) bytes ≡ true → IsOneOf r bytes
 listed r l bytes e m = subst (λ b. member b bytes ≡ true) (byte-of-letter (r .kind) l e) m
 
--- the first four are the bytes of what is asked
+-- the first four are the bytes of the asks
 ask-byte : (a : Ask) → member (askByte a) asks ≡ true
 unfolding member
 ask-byte Read = refl
@@ -46,7 +46,7 @@ ask-byte Increment = refl
 ask-byte Update = refl
 
 module _ (r : Request) (a : Ask) (e : letterOf (r .kind) ≡ Known (Asks a)) where
-  -- so a request that asks is listed there, and in each of the longer lists
+  -- so the byte of a request that asks is in that list, and in each of the longer ones
   pub ask-listed : AsksForCell r
   ask-listed = listed r (Asks a) asks e (ask-byte a)
 
@@ -60,11 +60,11 @@ module _ (r : Request) (a : Ask) (e : letterOf (r .kind) ≡ Known (Asks a)) whe
   ask-with-cat = member-more 99 (97 ∷ 116 ∷ asks) (r .kind) (member-more 97 (116 ∷ asks) (r .kind) (member-more 116 asks (r .kind) ask-listed))
 
 module _ {S : Type 0} (due : Lettered → S → ℕ → Option Refusal) where
-  -- what is due of every byte of a list is due of a request with one of them
+  -- what is due for every byte of a list is due for a request with one of them
   pub by-bytes : (r : Request) {s t : S} → s ≡ t → (bytes : List ℕ) (why : Refusal) → map (λ b. due (letterOf b) t (r .cell)) bytes ≡ map (λ b. some why) bytes → IsOneOf r bytes → due (letterOf (r .kind)) s (r .cell) ≡ some why
   by-bytes r {t = t} q bytes why all m = ap (λ x. due (letterOf (r .kind)) x (r .cell)) q ∙ same-on (λ b. due (letterOf b) t (r .cell)) (λ b. some why) bytes all (r .kind) m
 
-  -- of two asks of a cell by a job the same is due, where the table does not tell their bytes apart
+  -- for two asks of a cell by one job the same is due, if the table does not tell their bytes apart
   pub same-asks : ((s : S) (c : ℕ) → map (λ b. due (letterOf b) s c) asks ≡ map (λ b. due (Known (Asks Read)) s c) asks) → (does : ℕ → S) (r t : Request) → AsksForCell r → AsksForCell t → r .job ≡ t .job → r .cell ≡ t .cell →
       due (letterOf (r .kind)) (does (r .job)) (r .cell) ≡ due (letterOf (t .kind)) (does (t .job)) (t .cell)
   same-asks all does r t m n j c = as-read r m ∙ ap₂ (λ x y. due (Known (Asks Read)) (does x) y) j c ∙ sym (as-read t n)

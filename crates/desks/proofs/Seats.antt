@@ -1,4 +1,4 @@
--- Looking a job up among the places: where it stands, that it stands there alone, and what that says of the place.
+-- Looking a job up among the places: where it stands, that it stands only there, and what that says of the place.
 -- Assumes nothing.
 use Prim.Native.Nat.{ℕ, zero, suc, _<_}
 use mathlib.Core.Path.{_≡_, refl, sym, ap, subst, _∙_}
@@ -15,7 +15,7 @@ use Rattle.laws.proofs.Lists.{pos-first, pos-later, member-first, member-later,
 use Rattle.laws.proofs.Parts.{and-first, and-second}
 use Rattle.desks.specs.Places.{Once, isSeated}
 
--- a job that is in the list stands within it
+-- a job that is in the list has a place within it
 pub pos-below : (ks : List ℕ) (j : ℕ) → member j ks ≡ true → pos ks j < length ks
 pos-below [] j m = not-both m (unfold member in refl)
 pos-below (k ∷ ks) j m =
@@ -25,14 +25,14 @@ pos-below (k ∷ ks) j m =
     further : {a b : ℕ} → a < b → suc a < suc b
     further h = omega arith
 
--- and at its place stands its number
+-- and its number is at that place
 pub pos-holds : (ks : List ℕ) (j : ℕ) → member j ks ≡ true → getD ks (pos ks j) 0 ≡ j
 pos-holds [] j m = not-both m (unfold member in refl)
 pos-holds (k ∷ ks) j m =
     by-test (eqb k j) (λ t. subst (λ i. getD (k ∷ ks) (pos (k ∷ ks) i) 0 ≡ i) (eqb-true k j t) (rw (pos-first k ks)))
     (λ f. rw (pos-later k ks j f) (pos-holds ks j (sym (member-later k ks j f) ∙ m)))
 
--- a job that is not in the list is looked for to its end
+-- for a job that is not in the list the search runs to the end
 pub pos-end : (ks : List ℕ) (j : ℕ) → member j ks ≡ false → pos ks j ≡ length ks
 unfolding pos member
 pos-end [] j m = refl
@@ -40,13 +40,13 @@ pos-end (k ∷ ks) j m =
     by-test (eqb k j) (λ t. not-both (ap (λ i. member i (k ∷ ks)) (sym (eqb-true k j t)) ∙ member-first k ks) m)
     (λ f. rw f (ap suc (pos-end ks j (sym (member-later k ks j f) ∙ m))))
 
--- whose number stands at a place is in the list
+-- a number that is at some place is in the list
 pub at-member : (ks : List ℕ) (p : ℕ) → p < length ks → member (getD ks p 0) ks ≡ true
 at-member [] p h = absurd (omega arith)
 at-member (k ∷ ks) zero h = member-first k ks
 at-member (k ∷ ks) (suc p) h = member-more k ks (getD ks p 0) (at-member ks p (omega arith))
 
--- where no number stands twice, a number that stands at a place is found there
+-- if no number is there twice, a number is found at the place where it is
 pub pos-at : (ks : List ℕ) → Once ks → (p : ℕ) → p < length ks → getD ks p 0 ≢ 0 → pos ks (getD ks p 0) ≡ p
 pos-at [] o p h z = absurd (omega arith)
 pos-at (k ∷ ks) o zero h z = pos-first k ks
@@ -59,18 +59,18 @@ pos-at (k ∷ ks) o (suc p) h z =
         (λ t. let e : k ≡ getD ks p 0 = eqb-true k (getD ks p 0) t in not-both (ap (λ i. member i ks) e ∙ m) (o .0 (λ n. z (sym e ∙ n))))
         (λ f. f)
 
--- a job has a place: which one
+-- a job has a place, and this is it
 pub record Seat (ks : List ℕ) (j p : ℕ) : Type 0 where
   pub within : p < length ks
   pub sits : getD ks p 0 ≡ j
   pub real : j ≢ 0
   pub found : pos ks j ≡ p
 
--- a number other than 0 at a place is seated there
+-- a number other than 0 that is at a place is seated there
 pub seat-at : {ks : List ℕ} → Once ks → (p : ℕ) → p < length ks → getD ks p 0 ≢ 0 → Seat ks (getD ks p 0) p
 seat-at {ks} o p h z = record { within = h; sits = refl; real = z; found = pos-at ks o p h z }
 
--- who is seated, by the test
+-- a job that passes the test is seated
 pub seat-of : (ks : List ℕ) (j : ℕ) → isSeated ks j ≡ true → Seat ks j (pos ks j)
 unfolding isSeated
 seat-of ks j t =
@@ -87,7 +87,7 @@ pub member-seated : (ks : List ℕ) (j : ℕ) → j ≢ 0 → member j ks ≡ tr
 unfolding isSeated
 member-seated ks j z m = rw (ne-eqb j 0 z, m)
 
--- whether a job other than 0 is seated is whether it is in the list
+-- a job other than 0 is seated exactly if it is in the list
 pub seated-member : (ks : List ℕ) (j : ℕ) → j ≢ 0 → isSeated ks j ≡ member j ks
 unfolding isSeated
 seated-member ks j z = rw (ne-eqb j 0 z)
@@ -98,15 +98,15 @@ unfolding isSeated
 zero-unseated ks = refl
 
 module _ {ks : List ℕ} {j p : ℕ} (s : Seat ks j p) where
-  -- its place is one of those that there are
+  -- the place of a seated job is within the list
   pub seat-below : (n : ℕ) → length ks ≡ n → p < n
   seat-below n e = subst (λ m. p < m) e (s .within)
 
-  -- and none that is free
+  -- and not free
   pub seat-taken : (q : ℕ) → getD ks q 0 ≡ 0 → q ≢ p
   seat-taken q e c = s .real (sym (s .sits) ∙ ap (λ r. getD ks r 0) (sym c) ∙ e)
 
-  -- who has a place is in the list
+  -- a job that has a place is in the list
   pub seat-member : member j ks ≡ true
   seat-member = subst (λ i. member i ks ≡ true) (s .sits) (at-member ks p (s .within))
 
@@ -118,13 +118,13 @@ module _ {ks : List ℕ} {j p : ℕ} (s : Seat ks j p) where
   pub seat-only : Once ks → (q : ℕ) → q < length ks → getD ks q 0 ≡ j → q ≡ p
   seat-only o q h e = sym (pos-at ks o q h (λ z. s .real (sym e ∙ z))) ∙ ap (pos ks) e ∙ s .found
 
-  -- so the test of places is the test of numbers
+  -- so comparing places is comparing numbers
   pub seat-same : Once ks → (q : ℕ) → q < length ks → eqb q p ≡ eqb (getD ks q 0) j
   seat-same o q h =
       by-test (eqb q p) (λ t. t ∙ sym (eq-eqb (getD ks q 0) j (ap (λ r. getD ks r 0) (eqb-true q p t) ∙ s .sits)))
       (λ f. f ∙ sym (ne-eqb (getD ks q 0) j (λ e. eqb-false q p f (seat-only o q h e))))
 
--- a job is found by looking for it among the places where it has one, and only then
+-- looking for a job among the places finds it exactly if it has one
 pub place-found : (ks : List ℕ) (j : ℕ) → ltb (pos ks j) (length ks) ≡ member j ks
 place-found ks j =
     by-test (member j ks) (λ t. lt-ltb (pos ks j) (length ks) (pos-below ks j t) ∙ sym t)
@@ -135,6 +135,6 @@ place-found ks j =
         by-test (ltb (pos ks j) (length ks)) (λ t. let h : pos ks j < length ks = ltb-true (pos ks j) (length ks) t in let e : pos ks j ≡ length ks = pos-end ks j f in absurd (omega arith))
         (λ g. g)
 
--- so is a free place, by 0
+-- and a free place is found by looking for 0
 pub free-place : (ks : List ℕ) → ltb (pos ks 0) (length ks) ≡ member 0 ks
 free-place ks = place-found ks 0

@@ -1,4 +1,4 @@
--- The started desks, kept in any way, are those after any requests from a fresh desk, with the history that these write (01, How much a contract says).
+-- The started desks, however they are kept, are those reached by requests from a fresh desk, with the history that the requests write (01, How much a contract says).
 -- Assumes nothing.
 use Prim.Native.Nat.{ℕ}
 use mathlib.Core.Path.{_≡_, refl, sym, ap, ap₂, _∙_, subst, subst₂}
@@ -11,25 +11,25 @@ use Rattle.desks.specs.Records.{recordsBy}
 use Rattle.desks.specs.Requests.{writes}
 
 module _ {S : Type 0} (step : Stepping S) where
-  -- the desk after some requests and then more is that after all of them
+  -- some requests and then more lead to the desk that all of them lead to
   pub after-both : (d : S) (rs more : List Request) → through step d (rs ++ more) ≡ through step (through step d rs) more
   after-both d [] more = refl
   after-both d (x ∷ rs) more = after-both (step d x .desk) rs more
 
-  -- and what they write is what the first and then the second write
+  -- and write what the first and then the second write
   pub wrote-both : (d : S) (rs more : List Request) → writes step d (rs ++ more) ≡ writes step d rs ++ writes step (through step d rs) more
   unfolding writes
   wrote-both d [] more = refl
   wrote-both d (x ∷ rs) more = ap (λ h. recordsBy step d x ++ h) (wrote-both (step d x .desk) rs more) ∙ sym (append-assoc (recordsBy step d x) (writes step (step d x .desk) rs) (writes step (through step (step d x .desk) rs) more))
 
 module _ {S : Type 0} {step : Stepping S} {new : ℕ → S} where
-  -- after any requests a started desk is a started one, and has written what they write
+  -- after any requests a started desk is still started, and has written what they write
   pub run-started : {d : S} {h : History} → StartedOn step new d h → (rs : List Request) → StartedOn step new (through step d rs) (h ++ writes step d rs)
   unfolding writes
   run-started {d} {h} s [] = rw (append-nil h) s
   run-started {d} {h} s (r ∷ rs) = subst (StartedOn step new (through step (step d r .desk) rs)) (append-assoc h (recordsBy step d r) (writes step (step d r .desk) rs)) (run-started (one-more s r) rs)
 
-  -- every started desk is so reached
+  -- every started desk is reached in this way
   pub started-reached : {d : S} {h : History} → StartedOn step new d h → ReachedOn step new d h
   started-reached (fresh n l u) = record { first = n; least = l; most = u; requests = []; desk = refl; history = unfold writes in refl }
   started-reached (one-more {d = d} {h = h} s r) = more (started-reached s)
@@ -47,6 +47,6 @@ module _ {S : Type 0} {step : Stepping S} {new : ℕ → S} where
         history = ap₂ (λ x y. x ++ recordsBy step y r) (q .history) (q .desk) ∙ sym (wrote-both step (new (q .first)) (q .requests) (r ∷ []) ∙ ap (λ g. writes step (new (q .first)) (q .requests) ++ g) (one-written (through step (new (q .first)) (q .requests))));
       }
 
-  -- and every desk so reached is started
+  -- and every desk reached in this way is started
   pub reached-started : {d : S} {h : History} → ReachedOn step new d h → StartedOn step new d h
   reached-started q = subst₂ (StartedOn step new) (sym (q .desk)) (sym (q .history)) (run-started (fresh (q .first) (q .least) (q .most)) (q .requests))

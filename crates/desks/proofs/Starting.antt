@@ -1,4 +1,4 @@
--- Refusal 10 is given exactly to a start at number 0; every other number gives the fresh desk, and it counts as started (01, refusal 10; 01, Jobs and their numbers).
+-- Refusal 10 is given exactly to a start at number 0. Every other number gives the fresh desk, which counts as started (01, refusal 10; 01, Jobs and their numbers).
 -- Assumes nothing.
 use Prim.Native.Nat.{ℕ, _<_, _≤_}
 use mathlib.Core.Path.{_≡_, refl, subst}
@@ -17,17 +17,17 @@ use Rattle.desks.specs.Started.{StartedOn, fresh}
 use Rattle.desks.specs.Start.{Start, ready, refusing, startAt}
 
 module _ {S : Type 0} (new : ℕ → S) where
-  -- at 0 there is no desk, and refusal 10
+  -- a start at 0 gives no desk and refusal 10
   pub start-at-zero : (startAt new 0 ≡ refusing StartedAtZero) × (numberOf StartedAtZero ≡ 10)
   unfolding startAt
   start-at-zero = (refl, refl)
 
-  -- at any other number there is the fresh desk
+  -- a start at any other number gives the fresh desk
   pub start-else : (n : ℕ) → n ≢ 0 → startAt new n ≡ ready (new n)
   unfolding startAt
   start-else n h = rw (ne-eqb n 0 h)
 
-  -- so a start is refused only at 0, and only by refusal 10
+  -- so a start is refused only at 0, and only with refusal 10
   pub start-refused-when : (n : ℕ) (why : Refusal) → startAt new n ≡ refusing why → (n ≡ 0) × (why ≡ StartedAtZero)
   unfolding startAt
   start-refused-when n why e =
@@ -40,7 +40,7 @@ module _ {S : Type 0} (new : ℕ → S) where
       other : (x : S) (y : Refusal) → ready x ≡ refusing y → ⊥
       other x y p = let z : _≡_ {A = ℕ} 0 1 = cc in omega arith
 
-  -- a desk that a start at a number up to 4,294,967,295 gives is a started desk with an empty history
+  -- a start at a number up to 4,294,967,295 that gives a desk gives a started one with an empty history
   pub start-started : (step : Stepping S) (n : ℕ) (d : S) → n ≤ lastNumber → startAt new n ≡ ready d → StartedOn step new d []
   unfolding startAt
   start-started step n d le e =

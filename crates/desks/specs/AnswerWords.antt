@@ -20,7 +20,7 @@ numberBeside (waits j) = j
 numberBeside (back j) = j
 numberBeside (refuses why) = numberOf why
 
--- the field beside that: the field at fault of a bad line, and 0 where there is none (02, No. 5)
+-- the field beside that: the field at fault of a bad line, or 0 if there is none (02, No. 5)
 unfoldable pub fieldBeside : Answer → ℕ
 fieldBeside (goes j) = 0
 fieldBeside (waits j) = 0

@@ -1,4 +1,4 @@
--- All that a desk shows from now on, whatever way it is kept: promises are said of this, once for the desk of the paper and for every desk that runs.
+-- All that a desk shows from now on, however it is kept. Promises speak of this, so each is said once for the paper's desk and for every desk that runs.
 use Prim.Native.Nat.{ℕ}
 use mathlib.Core.List.{List, [], _∷_}
 use Rattle.conflict.specs.History.{History}
@@ -7,7 +7,7 @@ use Rattle.desks.specs.Stepping.{Stepped, Stepping, through}
 use Rattle.desks.specs.Records.{recordsOf}
 use Rattle.desks.specs.Requests.{gives, writes}
 
--- what is shown, as desks of the paper: the desk after any requests, and what the step of one more request then leaves and tells; and the history that further requests then write, and the numbers that they give
+-- what a desk shows, as desks of the paper: the desk after any requests; what the step of one more request then leaves and tells; the history that further requests then write; and the numbers that they give
 pub record Course (D : Type 0) : Type 0 where
   pub seen : List Request → D
   pub does : List Request → Request → Stepped D
@@ -26,7 +26,7 @@ to k = k .does []
 abbrev pub records : {D : Type 0} → Course D → Request → History
 records k r = recordsOf r (to k r .said) (to k r .wakes)
 
--- what is shown once a request was made
+-- what is shown after a request
 abbrev pub later : {D : Type 0} → Course D → Request → Course D
 later k r =
     record {
@@ -36,11 +36,11 @@ later k r =
       gave = λ rs. k .gave (r ∷ rs);
     }
 
--- a step as it is seen: the other desk that is seen in what it leaves, with its answer and its wakes
+-- a step as it is seen: the desk seen in what the step leaves, with its answer and its wakes
 abbrev pub shown : {S T : Type 0} → (S → T) → Stepped S → Stepped T
 shown see o = record { desk = see (o .desk); said = o .said; wakes = o .wakes }
 
--- what a desk shows, by the desk of the paper that is seen in each of its states, and its step
+-- what a desk shows, given the paper's desk that is seen in each of its states, and its step
 abbrev pub course : {S D : Type 0} → (S → D) → Stepping S → S → Course D
 course view step d =
     record {

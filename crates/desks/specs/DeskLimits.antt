@@ -11,7 +11,7 @@ use Rattle.terms.specs.Letters.{hasCell}
 use Rattle.desks.specs.Places.{openAmong}
 use Rattle.desks.specs.Table.{cellAbove, allOpen, isBegin, letterIs}
 
--- of a desk with this next number, these places and this test of being open
+-- for a desk with this next number, these places and this test of being open
 pub record DeskLimits (next : ℕ) (jobs : List ℕ) (isOpen : ℕ → Bool) : Type 0 where
   -- the open jobs are those that the places name, each once, and at most 32
   pub open-listed : (j : ℕ) → member j (openAmong isOpen jobs) ≡ isOpen j

@@ -20,7 +20,7 @@ pub data Gives (next : ℕ) (given : List ℕ) (after : ℕ) : Type 0 where
   none-given : given ≡ [] → after ≡ next → Gives next given after
   one-given : given ≡ next ∷ [] → next ≤ lastNumber → after ≡ suc next → Gives next given after
 
--- of a desk whose next number is so read off it
+-- for a desk whose next number is read off in this way
 pub record Numbers {D : Type 0} (next : D → ℕ) (k : Course D) : Type 0 where
   -- a begin that goes gives the next number (01, Jobs and their numbers)
   pub begin-gives : (r : Request) (j : ℕ) → letterOf (r .kind) ≡ Known Begin → to k r .said ≡ Go j → (j ≡ next (now k)) × (next (to k r .desk) ≡ suc j)
@@ -36,5 +36,5 @@ pub record Numbers {D : Type 0} (next : D → ℕ) (k : Course D) : Type 0 where
 pub record NumbersFrom {D : Type 0} (next : D → ℕ) (n : ℕ) (k : Course D) : Type 0 where
   -- a number given is from n to 4,294,967,295
   pub given-from : (rs : List Request) (m : ℕ) → member m (k .gave [] rs) ≡ true → (n ≤ m) × (m ≤ 4_294_967_295)
-  -- row 7 of the table as printed: the next number is above 4,294,967,295 exactly where that number was given
+  -- row 7 of the table as printed: the next number is above 4,294,967,295 exactly if that number was given
   pub row-7 : (rs : List Request) (l : Lettered) → noNumberLeft l (next (k .seen rs)) ≡ (letterIs isBegin l && member 4_294_967_295 (k .gave [] rs))

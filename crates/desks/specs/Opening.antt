@@ -9,7 +9,7 @@ use Rattle.terms.specs.Limits.{places, lastNumber}
 use Rattle.desks.specs.declared.finding.Opening.{Opening}
 use Rattle.desks.specs.declared.finding.Opening.the-variants.{At, Refused}
 
--- begin: 7, then 6, else the next number at the first free place
+-- begin: refusal 7, then 6, else the next number at the first free place
 unfoldable pub openingOf : ℕ → List ℕ → Opening
 openingOf next number =
     pick (ltb lastNumber next) (Refused NoNumberLeft) (pick (ltb (pos number 0) places) (At (pos number 0) next) (Refused AllOpen))

@@ -1,4 +1,4 @@
--- The 32 places for open jobs, by the job in each, 0 where it is free (01, What is delivered; 01, Jobs and their numbers).
+-- The 32 places for open jobs, each with its job's number, or 0 if it is free (01, What is delivered; 01, Jobs and their numbers).
 use Prim.Native.Nat.{ℕ}
 use mathlib.Core.Path.{_≡_}
 use mathlib.Core.Logic.{_≢_}
@@ -17,7 +17,7 @@ seated j (k ∷ ks) = pick (eqb k 0) (j ∷ ks) (k ∷ seated j ks)
 unfoldable pub vacated : ℕ → List ℕ → List ℕ
 vacated j ks = map (λ k. pick (eqb k j) 0 k) ks
 
--- no number stands twice among the places, 0 for a free place apart
+-- no number is at two places, except 0 for free places
 abbrev pub Once : List ℕ → Type 0
 Once [] = Unit {0}
 Once (k ∷ ks) = (k ≢ 0 → member k ks ≡ false) × Once ks
@@ -27,6 +27,6 @@ unfoldable pub openAmong : (ℕ → Bool) → List ℕ → List ℕ
 openAmong isOpen [] = []
 openAmong isOpen (k ∷ ks) = pick (isOpen k) (k ∷ openAmong isOpen ks) (openAmong isOpen ks)
 
--- whether a job has a place: 0 is nobody's number, it marks a free place
+-- whether a job has a place; 0 is not a job's number, it marks a free place
 unfoldable pub isSeated : List ℕ → ℕ → Bool
 isSeated number j = not (eqb j 0) && member j number

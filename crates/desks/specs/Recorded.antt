@@ -1,4 +1,4 @@
--- What is promised of the history records of a step, by its request and its answer, of any desk (01, Lines; 01, Slips to rule out, 5).
+-- What is promised of the history records of a step, on any desk, by its request and its answer (01, Lines; 01, Slips to rule out, 5).
 use Prim.Native.Nat.{ℕ}
 use mathlib.Core.Path.{_≡_}
 use mathlib.Core.Bool.{Bool, true, false}
@@ -17,13 +17,13 @@ use Rattle.desks.specs.Request.{Request}
 use Rattle.desks.specs.Records.{wakeRecords}
 use Rattle.desks.specs.Course.{Course, to, records}
 
--- the history has actions alone, and no mark
+-- the history has only actions, and no mark
 unfoldable pub onlyActions : History → Bool
 onlyActions [] = true
 onlyActions (Does a ∷ h) = onlyActions h
 onlyActions (Ends m j ∷ h) = false
 
--- a history without a mark, or with one mark and that first
+-- a history without a mark, or with one mark that comes first
 pub data MarkFirst : History → Type 0 where
   no-mark : {h : History} → onlyActions h ≡ true → MarkFirst h
   mark : (m : Mark) (j : ℕ) {h : History} → onlyActions h ≡ true → MarkFirst (Ends m j ∷ h)

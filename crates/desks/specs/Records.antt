@@ -1,4 +1,4 @@
--- What the history records of a step, by its request, its answer and its wakes: of every desk the same (01, Lines).
+-- What the history records of a step, by its request, its answer and its wakes: the same for every desk (01, Lines).
 use Prim.Native.Nat.{ℕ}
 use mathlib.Core.List.{List, [], _∷_, _++_}
 use Rattle.terms.specs.declared.letters.Letter.the-variants.{Begin, Commit as commits, GiveUp as gives-up, Retry, Back as no-request, Asks}
@@ -15,7 +15,7 @@ use Rattle.desks.specs.declared.Answer.the-variants.{Go, Wait, Back as s
 use Rattle.desks.specs.Request.{Request}
 use Rattle.desks.specs.Stepping.{Stepping}
 
--- what the history records of a request that goes: an action when it is granted, c and a when given; begin and retry write none (01, Lines)
+-- what the history records for a request that goes: an action when it is granted, c and a when given; begin and retry write none (01, Lines)
 unfoldable pub wentBy : Request → ℕ → Lettered → History
 wentBy r j Unknown = []
 wentBy r j (Known no-request) = []
@@ -25,7 +25,7 @@ wentBy r j (Known gives-up) = Ends GiveUp j ∷ []
 wentBy r j (Known Retry) = []
 wentBy r j (Known (Asks a)) = Does (record { kind = recorded a; job = j; cell = r .cell }) ∷ []
 
--- what the history records of a request and its answer: k for a sending back, none for a wait or a refusal (01, Lines)
+-- what the history records for a request and its answer: k for a sending back, none for a wait or a refusal (01, Lines)
 unfoldable pub ownRecords : Request → Answer → History
 ownRecords r (Go j) = wentBy r j (letterOf (r .kind))
 ownRecords r (Wait j) = []
@@ -37,7 +37,7 @@ unfoldable pub wakeRecords : List Action → History
 wakeRecords [] = []
 wakeRecords (a ∷ rest) = Does a ∷ wakeRecords rest
 
--- the history records of a step: its own, c, a and k before the wakes, and then one for each wake (01, Lines)
+-- the history records of a step: its own record first, c, a and k among them, and then one for each wake (01, Lines)
 unfoldable pub recordsOf : Request → Answer → List Action → History
 recordsOf r said wakes = ownRecords r said ++ wakeRecords wakes
 

@@ -12,7 +12,7 @@ pub record Request : Type 0 where
   pub job : ℕ
   pub cell : ℕ
 
--- two requests are alike to their letter: the same job where it has a job, and the same cell where it has a cell
+-- two requests are alike for their letter: the same job if it has a job, and the same cell if it has a cell
 pub record Alike (l : Lettered) (r s : Request) : Type 0 where
   pub job : letterIs hasJob l ≡ true → r .job ≡ s .job
   pub cell : letterIs hasCell l ≡ true → r .cell ≡ s .cell

@@ -1,4 +1,4 @@
--- What holds of the places of every started desk: they name the open jobs, each once, and every open job's number was given. That every step keeps it is proved of each desk.
+-- What holds for the places of every started desk: they name the open jobs, each once, and every open job's number was given. Each desk's own crate proves that every step keeps it.
 use Prim.Native.Nat.{ℕ, _<_}
 use mathlib.Core.Path.{_≡_}
 use mathlib.Core.Logic.{_≢_}
@@ -9,7 +9,7 @@ use Rattle.laws.specs.Lists.{member}
 use Rattle.terms.specs.Limits.{places}
 use Rattle.desks.specs.Places.{Once}
 
--- of a desk with this next number, these places and this test of being open
+-- for a desk with this next number, these places and this test of being open
 pub record Seating (next : ℕ) (jobs : List ℕ) (isOpen : ℕ → Bool) : Type 0 where
   pub seats : (j : ℕ) → isOpen j ≡ true → member j jobs ≡ true
   pub opens : (j : ℕ) → j ≢ 0 → member j jobs ≡ true → isOpen j ≡ true

@@ -10,6 +10,6 @@ pub data Start (S : Type 0) : Type 0 where
   ready : S → Start S
   refusing : Refusal → Start S
 
--- 10 at number 0, and at any number from 1 on the fresh desk whose next number is the one given
+-- refusal 10 at number 0; at any other number the fresh desk whose next number is the one given
 unfoldable pub startAt : {S : Type 0} → (ℕ → S) → ℕ → Start S
 startAt new n = pick (eqb n 0) (refusing StartedAtZero) (ready (new n))

@@ -1,4 +1,4 @@
--- Started desks, kept in any way: fresh at a first number, and changed by their steps alone (01, How much a contract says).
+-- Started desks, however they are kept: fresh at a first number, and changed by their steps alone (01, How much a contract says).
 use Prim.Native.Nat.{ℕ, _<_, _≤_}
 use mathlib.Core.Path.{_≡_}
 use mathlib.Core.List.{List, [], _++_}
@@ -14,7 +14,7 @@ pub data StartedOn {S : Type 0} (step : Stepping S) (new : ℕ → S) : S → Hi
   fresh : (n : ℕ) → 0 < n → n ≤ lastNumber → StartedOn step new (new n) []
   after : {d : S} {h : History} → StartedOn step new d h → (r : Request) → StartedOn step new (step d r .desk) (h ++ recordsBy step d r)
 
--- a desk and a history that requests from a fresh one lead to
+-- a desk and a history that requests to a fresh desk lead to
 pub record ReachedOn {S : Type 0} (step : Stepping S) (new : ℕ → S) (d : S) (h : History) : Type 0 where
   pub first : ℕ
   pub least : 0 < first

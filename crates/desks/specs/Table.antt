@@ -50,7 +50,7 @@ asksOrCommits Retry = false
 asksOrCommits Back = false
 asksOrCommits (Asks a) = true
 
--- the four kinds that ask for no cell: begin, commit, give-up and retry; k is no request
+-- the four kinds that ask for no cell: begin, commit, give-up and retry; k is not a request
 abbrev pub asksNoCell : Letter → Bool
 asksNoCell Begin = true
 asksNoCell Commit = true
@@ -59,7 +59,7 @@ asksNoCell Retry = true
 asksNoCell Back = false
 asksNoCell (Asks a) = false
 
--- the kind is the byte of a letter, and of such a one
+-- the kind is the byte of a letter, and the letter passes this test
 abbrev pub letterIs : (Letter → Bool) → Lettered → Bool
 letterIs f Unknown = false
 letterIs f (Known l) = f l

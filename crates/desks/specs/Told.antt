@@ -1,4 +1,4 @@
--- Requests by numbers, and what a desk answers them, as literal numbers: the form of the examples of every desk (01, Lines; 01, Refusals by number).
+-- Requests by numbers, and a desk's answers to them, as literal numbers: the form of the examples of every desk (01, Lines; 01, Refusals by number).
 use Prim.Native.Nat.{ℕ, zero, suc}
 use mathlib.Core.List.{List, [], _∷_, _++_, map}
 use Rattle.terms.specs.declared.words.Word.{Word}
@@ -14,7 +14,7 @@ pub record Said : Type 0 where
   pub word : Word
   pub number : ℕ
 
--- an answer so told
+-- an answer in that form
 unfoldable pub toldOf : Answer → Said
 toldOf a = record { word = wordOf a; number = numberBeside a }
 
@@ -22,11 +22,11 @@ toldOf a = record { word = wordOf a; number = numberBeside a }
 abbrev pub wake : ℕ → Said
 wake j = record { word = Wake; number = j }
 
--- a step so told: its answer, and then the word wake for each wake (01, Lines)
+-- a step in that form: its answer, and then the word wake for each wake (01, Lines)
 unfoldable pub stepTold : Answer → List Action → List Said
 stepTold said wakes = toldOf said ∷ map (λ (a : Action). wake (a .job)) wakes
 
--- the answers of any desk to requests, in their order, each with the wakes of its step behind it
+-- a desk's answers to requests, in their order, each followed by the wakes of its step
 unfoldable pub answersOf : {S : Type 0} → Stepping S → S → List Request → List Said
 answersOf step d [] = []
 answersOf step d (r ∷ rs) = stepTold (step d r .said) (step d r .wakes) ++ answersOf step (step d r .desk) rs
@@ -41,7 +41,7 @@ pub record Example : Type 0 where
 abbrev pub request : ℕ → ℕ → ℕ → Request
 request kind job cell = record { kind = kind; job = job; cell = cell }
 
--- so many begins
+-- this many begins
 abbrev pub begins : ℕ → List Request
 begins zero = []
 begins (suc n) = request 98 0 0 ∷ begins n
@@ -62,7 +62,7 @@ back j = record { word = Back; number = j }
 abbrev pub no : ℕ → Said
 no n = record { word = No; number = n }
 
--- so many jobs go, under the numbers from one on
+-- this many jobs go, with numbers from the one given
 abbrev pub goFrom : ℕ → ℕ → List Said
 goFrom j zero = []
 goFrom j (suc n) = go j ∷ goFrom (suc j) n

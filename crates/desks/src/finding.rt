@@ -8,22 +8,22 @@ ghost use Rattle.laws.specs.Lists.{pos};
 ghost use Rattle.terms.specs.Limits.{places};
 ghost use Rattle.desks.specs.Opening.{openingOf};
 
-// Where a new job is opened, and under which number; or why it is not.
+// Where a new job is opened and under which number, or why it is not opened.
 pub enum Opening {
     // at a free place, with the next number
     At(usize, u32),
-    // not at all: 7 or 6
+    // not opened: refusal 7 or 6
     Refused(Refusal),
 }
 
-// As many numbers as there are places: what a lent array does not say of itself.
+// A list has as many numbers as there are places, which a lent array does not say by itself.
 fn sized(number: [u32; PLACES]) -> bool
     ensures { λ r. ⌜ length number ≡ places ⌝ }
 {
     true
 }
 
-// The place of a job, or 32; the first free place is that of job 0.
+// The place of a job, or 32 if it has none; the place of job 0 is the first free place.
 pub fn place_of(number: &[u32; PLACES], job: u32) -> usize
     ensures { λ r. ⌜ r ≡ pos (now (number .entry)) job ⌝ }
 {

@@ -7,10 +7,10 @@ use terms::refusals::Refusal;
 pub enum Answer {
     // it is done, or granted
     Go(u32),
-    // the job waits, and is told by a wake when it may go on
+    // the job waits, and a wake tells it when it may go on
     Wait(u32),
-    // the job is sent back: its run has ended
+    // the job is sent back (aborted): its run has ended
     Back(u32),
-    // nothing was done, and why
+    // nothing was done; the refusal says why
     No(Refusal),
 }

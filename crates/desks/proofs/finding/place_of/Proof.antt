@@ -1,4 +1,4 @@
--- `desks::finding::place_of` meets its contract. The loop's invariant: the place is that in the numbers not yet passed, further on by those passed; the measure is what is left of 32.
+-- `desks::finding::place_of` meets its contract. The loop's invariant: the place is the one found in the numbers not yet passed, plus the count of those passed; the measure is what is left of 32.
 -- Assumes nothing.
 use Prim.Native.Nat.{_+_, _≤_, _-_}
 use mathlib.Core.Path.{_≡_}
