@@ -1,4 +1,4 @@
--- Who stands ahead in a queue: in one that falls, those in it that are younger. So no law about places in a queue is needed elsewhere.
+-- Which waiters stand ahead in a queue: in a queue that falls, the younger ones. So no law about places in a queue is needed elsewhere.
 -- Assumes nothing.
 use Prim.Native.Nat.{_<_}
 use mathlib.Core.Path.{_≡_, refl, subst}
@@ -11,23 +11,23 @@ use Rattle.desk_rules.specs.Waiting.{Ahead, in-front, further}
 use Rattle.desk_rules.specs.Invariant.{Falling}
 use Rattle.laws.proofs.Standing.{in-none, in-split, is-first, in-right, in-either}
 
--- nobody stands ahead in an empty queue
+-- no waiter stands ahead in an empty queue
 pub ahead-none : {P : Type 0} {v w : Waiter} → Ahead v w [] → P
 ahead-none = elim [ ]
 
--- who stands ahead is the first or stands ahead in the rest
+-- a waiter ahead is the first or stands ahead in the rest
 pub ahead-split : {P : Type 0} {v w u : Waiter} {q : List Waiter} → Ahead v w (u ∷ q) → (v ≡ u → In w q → P) → (Ahead v w q → P) → P
 ahead-split (in-front h) f g = f refl h
 ahead-split (further a) f g = g a
 
--- a waiter that joins last stands ahead of nobody
+-- a waiter that joins last stands ahead of none
 pub ahead-last : {v w u : Waiter} (q : List Waiter) → w ≢ u → Ahead v w (q ++ u ∷ []) → Ahead v w q
 ahead-last [] n a = ahead-split a (λ _ h. in-none h) ahead-none
 ahead-last {v = v} {w = w} {u = u} (x ∷ q) n a =
     ahead-split a (λ e h. subst (λ y. Ahead v w (y ∷ q)) e (in-front (in-either q (u ∷ []) h (λ k. k) (λ k. in-split k (λ p. absurd (n p)) in-none))))
     (λ b. further (ahead-last q n b))
 
--- who stands ahead stands in the queue
+-- a waiter that stands ahead is in the queue
 pub ahead-in : {v w : Waiter} {q : List Waiter} → Ahead v w q → In v q
 ahead-in (in-front h) = first
 ahead-in (further a) = later (ahead-in a)
@@ -37,22 +37,22 @@ pub ahead-of : {v w : Waiter} {q : List Waiter} → Ahead v w q → In w q
 ahead-of (in-front h) = later h
 ahead-of (further a) = later (ahead-of a)
 
--- everybody stands ahead of a waiter that joins last
+-- every waiter stands ahead of one that joins last
 pub before-last : {v w : Waiter} {q : List Waiter} → In v q → Ahead v w (q ++ w ∷ [])
 before-last (first {q = q}) = in-front (in-right q first)
 before-last (later h) = further (before-last h)
 
--- and nobody else does
+-- and no other does
 pub ahead-before-last : {v w : Waiter} (q : List Waiter) → Ahead v w (q ++ w ∷ []) → In v q
 ahead-before-last [] a = ahead-split a (λ _ h. in-none h) ahead-none
 ahead-before-last (x ∷ q) a = ahead-split a (λ e _. is-first e) (λ b. later (ahead-before-last q b))
 
--- who stands ahead is younger, where the queue falls
+-- a waiter ahead is younger, if the queue falls
 pub ahead-younger : {v w : Waiter} {q : List Waiter} → Falling q → Ahead v w q → w .job < v .job
 ahead-younger {w = w} f (in-front h) = f .0 w h
 ahead-younger f (further a) = ahead-younger (f .1) a
 
--- who stands in the queue and is younger stands ahead
+-- a younger waiter in the queue stands ahead
 pub younger-ahead : (v w : Waiter) (q : List Waiter) → Falling q → In v q → In w q → w .job < v .job → Ahead v w q
 younger-ahead v w [] f h k l = in-none h
 younger-ahead v w (u ∷ q) f h k l =

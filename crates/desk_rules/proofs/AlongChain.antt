@@ -1,4 +1,4 @@
--- Along a chain: it begins with the job and ends with a running one, each next is in the way of the one before, numbers rise, and it has at most 32 jobs (02, No. 3).
+-- Along a chain: it begins with the job and ends with a running one, each next job is in the way of the one before, numbers rise, and there are at most 32 jobs (02, No. 3).
 -- Assumes nothing.
 use Prim.Native.Nat.{ℕ, suc, _<_, _≤_}
 use mathlib.Core.Path.{_≡_, refl, sym, ap, subst, _∙_}
@@ -32,7 +32,7 @@ chain-ends (runs {j} e) = ([], j, refl, e)
 chain-ends (waits {j} c a e n k) = let (before, i, q, r) = chain-ends k in (j ∷ before, i, ap (λ l. j ∷ l) q, r)
 
 module _ {d : Desk} (v : Inv d) where
-  -- the first job of a waiter's chain and who comes after it
+  -- the first job of a waiter's chain and the job after it
   first-followed : {j i : ℕ} {js : List ℕ} (c : ℕ) (a : Ask) → d .stat j ≡ waiting c a → Next d c (record { job = j; ask = a }) i → IsChain d i js →
       (m k : ℕ) (after : List ℕ) → _≡_ {A = List ℕ} (j ∷ js) (m ∷ k ∷ after) → Followed d m k × (m < k)
   first-followed {j} {i} {js} c a e n y m k after p =
@@ -49,7 +49,7 @@ module _ {d : Desk} (v : Inv d) where
   chain-followed (waits c a e n y) [] i k after p = first-followed c a e n y i k after p
   chain-followed (waits c a e n y) (b ∷ before) i k after p = chain-followed y before i k after (tail-same p)
 
-  -- nobody in it is older than the job
+  -- no job in it is older than the first
   chain-above : {j : ℕ} {js : List ℕ} → IsChain d j js → (m : ℕ) → member m js ≡ true → j ≤ m
   chain-above (runs {j} e) m h = member-split j [] m h (λ p. omega (arith, p)) (member-none m)
   chain-above (waits {j} {i} {js} c a e n y) m h =

@@ -1,4 +1,4 @@
--- What a request's letter and its answer tell of the step: which rule it was, and of which job.
+-- What a request's letter and its answer tell of the step: which rule it was, and for which job.
 -- Assumes nothing.
 use Prim.Native.Nat.{ℕ, _≤_}
 use mathlib.Core.Path.{_≡_, refl, sym, ap, _∙_, subst}
@@ -31,7 +31,7 @@ use Rattle.desk_rules.specs.Effects.{Joined, promotion, newcomer}
 use Rattle.desks.proofs.Answers.{other-answer, goesOrRefuses}
 use Rattle.desk_rules.proofs.Moved.{step-moved, elder-of}
 
--- what an answer tells: of which job it is, the rule's outcome, and what held before
+-- what an answer tells: its job, the rule's outcome, and what held before
 pub record Tells (d : Desk) (r : Request) (i j : ℕ) (o : Outcome) (P : Type 0) : Type 0 where
   pub job : j ≡ i
   pub outcome : step d r ≡ o
@@ -74,7 +74,7 @@ retry-went d r j e g = by-status (d .stat (r .job)) refl (unfold step stepBy in 
     by-status (waiting c a) q h = other-answer (sym (ap (λ o. o .said) h) ∙ g) refl
     by-status sentback q h = record { job = same-go (sym (ap (λ o. o .said) h) ∙ g); outcome = h; was = q }
 
--- a begin that goes gives the next number, which was still to be given, to a job for which a place was free
+-- a begin that goes gives the next number, which had not been given, to a new job, and a place was free for it
 pub begin-went : (d : Desk) (r : Request) (j : ℕ) → letterOf (r .kind) ≡ Known Begin → step d r .said ≡ Go j → Tells d r (d .next) j (begin d) ((d .next ≤ lastNumber) × (member 0 (d .jobs) ≡ true))
 unfolding stepBegin beginning refused begin
 begin-went d r j e g = by-tests (unfold step stepBy in ap (stepBy d r) e)
@@ -139,7 +139,7 @@ held-up (enters b k f z w) e = not-both refl e
 held-up (waits-last b k f z w v) e = waits b _ k (newcomer f)
 held-up (goes-back b k x) e = leaves b k (elder-of x)
 
--- of which job a wait is, what was asked, and the queue that the job joined
+-- what a wait tells: its job, what was asked, and the queue that the job joined
 pub record Waited (d : Desk) (r : Request) (j : ℕ) : Type 0 where
   pub job : j ≡ r .job
   pub ask : Ask
@@ -164,7 +164,7 @@ ask-waited d r j g = by-move (held-up (step-moved d r) (ap goesOrRefuses g)) ref
 same-back : {i j : ℕ} → Back i ≡ Back j → j ≡ i
 same-back e = cc
 
--- a job that is sent back was running, and somebody older stood in its way
+-- a job that is sent back was running, and an older job stood in its way
 pub ask-back : (d : Desk) (r : Request) (j : ℕ) → step d r .said ≡ Back j → Tells d r (r .job) j (sendBack d (r .job)) ((a : Ask) × Asking d r a × Elder d (r .job) (r .cell))
 ask-back d r j g = by-move (held-up (step-moved d r) (ap goesOrRefuses g)) refl g
   where

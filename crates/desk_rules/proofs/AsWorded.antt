@@ -1,4 +1,4 @@
--- The lock desk refuses a request with a number exactly where the paper's words say so; and what refuses one ask of a cell refuses every other (01, Refusals by number; 02, No. 1).
+-- The lock desk refuses a request with a number exactly if the paper's words say so; and a refusal of one ask of a cell is given to every other (01, Refusals by number; 02, No. 1).
 -- Assumes nothing.
 use Prim.Native.Nat.{ℕ}
 use mathlib.Core.Path.{_≡_, refl, sym, ap, _∙_, subst}
@@ -33,7 +33,7 @@ use Rattle.desk_rules.proofs.Refusing.{refuses}
 use Rattle.desk_rules.proofs.NumberLimits.{limits}
 use Rattle.desk_rules.proofs.DueAsWorded.{due-worded}
 
--- who is not open is closed
+-- a job that is not open is closed
 is-closed : (s : Status) → isOpen s ≡ false → s ≡ closed
 unfolding isOpen
 is-closed closed f = refl
@@ -52,13 +52,13 @@ other-due d (Known GiveUp) s c t = not-both t refl
 other-due d (Known Retry) s c t = not-both t refl
 other-due d (Known (Asks a)) s c t = not-both t refl
 
--- one ask of a cell is due what another is
+-- for one ask of a cell the same is due as for another
 ask-due : (d : Desk) (s : Status) (c : ℕ) → map (λ b. dueBy d (letterOf b) s c) asks ≡ map (λ b. dueBy d (Known (Asks Read)) s c) asks
 unfolding dueBy holds order firstOf
 ask-due d s c = refl
 
 module _ (d : Desk) (r : Request) where
-  -- what is due of a begin
+  -- what is due for a begin
   begin-due : r .kind ≡ 98 → dueOf d r ≡ dueBy d (Known Begin) (d .stat (r .job)) (r .cell)
   unfolding dueOf
   begin-due b = ap (λ k. dueBy d (letterOf k) (d .stat (r .job)) (r .cell)) b
@@ -80,7 +80,7 @@ module _ (d : Desk) (r : Request) where
   worded-due l (was-sent-back m q) = (SentBack, unfold dueOf in by-bytes (dueBy d) r q withC SentBack refl m, refl)
   worded-due l (retry-while-running b q) = (Running, unfold dueOf in ap (λ k. dueBy d (letterOf k) (d .stat (r .job)) (r .cell)) b ∙ ap (λ x. dueBy d (Known Retry) x (r .cell)) q, refl)
 
--- THE WORDS AND THE STEP REFUSE ALIKE, both ways, of every started desk
+-- THE WORDS AND THE STEP REFUSE ALIKE, in both directions, for every started desk
 pub worded : {d : Desk} {h : History} → Started d h → RefusesAs RefusedAs (from d)
 worded {d} s =
     let by = refuses d .by-table in

@@ -1,4 +1,4 @@
--- Who asks for a chain: which refusal is due, by what the job is doing and the places lent, and what the answer and the list then are (02, No. 3).
+-- A question for a chain: which refusal is due, by what the job is doing and the places lent, and what the answer and the list then are (02, No. 3).
 -- Assumes nothing.
 use Prim.Native.Nat.{ℕ, _<_, _≤_}
 use mathlib.Core.Path.{_≡_, refl, sym, ap, subst, _∙_}
@@ -27,14 +27,14 @@ use Rattle.desk_rules.proofs.Statuses.{running-live, waiting-live, sent
 use Rattle.desk_rules.proofs.ChainIs.{is-chain}
 use Rattle.desk_rules.proofs.AlongChain.{along-chain}
 
--- the four ways it can go
+-- the four outcomes of a question
 pub data Way (d : Desk) (j : ℕ) (list : List ℕ) : Type 0 where
   not-there : d .stat j ≡ closed → askChain d j list ≡ record { said = No NotOpen; list = list } → Way d j list
   went-back : d .stat j ≡ sentback → askChain d j list ≡ record { said = No SentBack; list = list } → Way d j list
   too-short : isLive (d .stat j) ≡ true → length list < 32 → askChain d j list ≡ record { said = No ShortList; list = list } → Way d j list
   told : isLive (d .stat j) ≡ true → 32 ≤ length list → askChain d j list ≡ record { said = Jobs (length (chainOf d j)); list = filled (chainOf d j) list } → Way d j list
 
--- of a job that runs or waits the places lent decide
+-- for a job that runs or waits, the places lent decide
 pub live-due : (s : Status) (n : ℕ) → isLive s ≡ true → chainDue s n ≡ pick (ltb n places) (some ShortList) none
 unfolding chainDue chainOrder firstOf chainHolds isLive isOpen
 live-due closed n h = not-both h refl
@@ -51,7 +51,7 @@ module _ (d : Desk) (j : ℕ) (list : List ℕ) where
       (λ t. too-short h (ltb-true (length list) places t) (rw (live-due (d .stat j) (length list) h, t)))
       (λ f. told h (ltb-false (length list) places f) (rw (live-due (d .stat j) (length list) h, f)))
 
-  -- one of the four
+  -- every question has one of the four
   pub by-way : Way d j list
   by-way = go (d .stat j) refl
     where
@@ -71,7 +71,7 @@ module _ (d : Desk) (j : ℕ) (list : List ℕ) where
 same-refusal : {x y : Refusal} → No x ≡ No y → numberOf x ≡ numberOf y
 same-refusal e = cc
 
--- how many jobs is no refusal
+-- a count of jobs is not a refusal
 jobs-no : {P : Type 0} {n : ℕ} {x : Refusal} → Jobs n ≡ No x → P
 jobs-no e = let z : _≡_ {A = ℕ} 0 1 = cc in absurd (omega arith)
 
@@ -145,6 +145,6 @@ module _ {d : Desk} (v : Inv d) (j : ℕ) (list : List ℕ) where
             (subst (λ m. drop m (askChain d j list .list) ≡ drop m list) q (ap (λ o. drop (length (chainOf d j)) (o .list)) e ∙ f .rest), ap (λ o. length (o .list)) e ∙ f .size);
       }
 
-  -- what is promised of who asks
+  -- what is promised of a question
   pub asks-chain : AsksChain d j list (askChain d j list)
   asks-chain = asks-by (by-way d j list)

@@ -1,4 +1,4 @@
--- A waiter and those in its way are named once and have places, of which there are 32; so at most 31 are in its way (demand 3).
+-- A waiter and the jobs in its way are named once and have places, of which there are 32. So at most 31 are in its way (demand 3).
 -- Assumes nothing.
 use Prim.Native.Nat.{ℕ, _<_}
 use mathlib.Core.Path.{_≡_, sym, subst, _∙_}
@@ -22,7 +22,7 @@ module _ {d : Desk} (v : Inv d) (c : ℕ) (w : Waiter) (k : IsWaiting d c w) (is
   self-apart =
       by-test (member (w .job) is) (λ t. let l : w .job < w .job = way-younger v c w k (w .job) (ways (w .job) t) in absurd (omega arith)) (λ f. f)
 
-  -- it and those in its way are named once
+  -- the waiter and the jobs in its way are named once
   pub with-self : distinct is ≡ true → distinct (w .job ∷ is) ≡ true
   unfolding distinct
   with-self o = rw (self-apart, o)

@@ -1,4 +1,4 @@
--- A job that has no part in any cell: who is not live has none, and so has a job whose run has just ended.
+-- A job that has no part in any cell: a job that is not live, and a job whose run has just ended.
 -- Assumes nothing.
 use Prim.Native.Nat.{ℕ}
 use mathlib.Core.Path.{_≡_, sym, ap, _∙_}
@@ -31,7 +31,7 @@ module _ {d : Desk} (v : Inv d) (j : ℕ) (s : Status) (js : List ℕ) (said : A
     waits-nowhere = λ c w h. row-releases v j c .left-other w h;
   }
 
-  -- and has the status it gets, since it is not among its own wakes
+  -- and has the status given to it, since it is not among its own wakes
   pub ended-status : rule4 d j s js said .desk .stat j ≡ s
   unfolding rule4
   ended-status = self-after v j s

@@ -1,4 +1,4 @@
--- Every bound that a promise states is the least that holds, by desks on which it is met, computed: so a promise with a larger number is seen to be weaker than need be (01, What is delivered; demand 3; 02, No. 3; 01, rule 4).
+-- Every bound that a promise states is the least that holds: for each a desk is computed that reaches it. So a promise with a larger number would be weaker than it need be (01, What is delivered; demand 3; 02, No. 3; 01, rule 4).
 -- The numbers are written out, since they are the point. Assumes nothing.
 use Prim.Native.Nat.{ℕ}
 use mathlib.Core.Path.{_≡_, refl, sym, subst}
@@ -41,7 +41,7 @@ full-started = after queue-started oneMore
 ways-of : (i : ℕ) → member i (inWayOf full 1 5) ≡ true → InWay (full .row 5) last i
 ways-of = listed-way (started-inv full-started) 5 last (met .waits)
 
--- AT MOST 32 JOBS ARE OPEN, and no fewer will do
+-- AT MOST 32 JOBS ARE OPEN, and no smaller bound holds
 pub open-least : Least OpenAtMost 32
 open-least = (λ d h s. promised s .limits .at-most-32, λ m bound. let l = bound lineDesk _ line-started in omega (arith, l, met .opened))
 
@@ -63,21 +63,21 @@ cell-least = (
   λ m bound. bound _ _ (after (after (fresh 1 (omega arith) (omega arith)) aBegin) (request 114 1 63)) _ (in-right ([] ++ events (freshDesk 1) aBegin) (subst (In _) (sym (met .cell)) first)),
 )
 
--- AT MOST 31 ARE IN A WAITER'S WAY, and no fewer will do (demand 3)
+-- AT MOST 31 ARE IN A WAITER'S WAY, and no smaller bound holds (demand 3)
 pub in-way-least : Least InWayAtMost 31
 in-way-least = (
   λ d h s c w k. promised s .service .waiters c w k .at-most-31,
   λ m bound. let l = bound _ _ full-started 5 last (met .waits) (inWayOf full 1 5) (met .once) ways-of in omega (arith, l, met .ways),
 )
 
--- AT MOST 31 ARE IN A JOB'S WAY RIGHT AFTER IT ASKED, and no fewer will do (demand 3)
+-- AT MOST 31 ARE IN A JOB'S WAY RIGHT AFTER IT ASKED, and no smaller bound holds (demand 3)
 pub just-asked-least : Least JustAskedAtMost 31
 just-asked-least = (
   λ d h s r a l e. promised s .service .served-in-time r a l e .at-most,
   λ m bound. let l = bound _ _ queue-started oneMore Read refl (met .said) (inWayOf full 1 5) (met .once) ways-of in omega (arith, l, met .ways),
 )
 
--- AT MOST 31 HELD THE CELL OR STOOD AHEAD WHEN A JOB ASKED, and no fewer will do (demand 3)
+-- AT MOST 31 HELD THE CELL OR STOOD AHEAD WHEN A JOB ASKED, and no smaller bound holds (demand 3)
 pub were-in-way-least : Least WereInWayAtMost 31
 were-in-way-least = (
   λ d h s r j e. promised s .service .gets-its-cell r j e .1 .at-most-31,
@@ -87,15 +87,15 @@ were-in-way-least = (
       omega (arith, l, met .ways),
 )
 
--- AT MOST 32 STAND IN A CHAIN, and no fewer will do (02, No. 3)
+-- AT MOST 32 STAND IN A CHAIN, and no smaller bound holds (02, No. 3)
 pub chain-least : Least ChainAtMost 32
 chain-least = (λ d h s j o. promised s .chains .along j o .at-most-32, λ m bound. let l = bound lineDesk _ line-started 1 (met .live) in omega (arith, l, met .chain))
 
--- AT MOST 31 ARE WOKEN IN A STEP, and no fewer will do (01, rule 4)
+-- AT MOST 31 ARE WOKEN IN A STEP, and no smaller bound holds (01, rule 4)
 pub wakes-least : Least WakesAtMost 31
 wakes-least = (λ d h s r. promised s .wakes r .at-most-31, λ m bound. let l = bound _ _ full-started lastCommits in omega (arith, l, met .woken))
 
--- A STEP WRITES AT MOST 32 RECORDS, and no fewer will do (01, Lines)
+-- A STEP WRITES AT MOST 32 RECORDS, and no smaller bound holds (01, Lines)
 pub records-least : Least RecordsAtMost 32
 unfolding recordsBy
 records-least = (λ d h s r. promised s .wakes r .records-at-most-32, λ m bound. let l = bound _ _ full-started lastCommits in omega (arith, l, met .written))

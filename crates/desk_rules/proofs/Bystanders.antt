@@ -1,4 +1,4 @@
--- In a step nobody's status or place changes but the job's that the answer names and the wakes' (01, The desk's rules).
+-- A step changes the status and place of no job but the one that the answer names and the woken ones (01, The desk's rules).
 -- Assumes nothing.
 use Prim.Native.Nat.{ℕ}
 use mathlib.Core.Path.{_≡_, refl, _∙_}
@@ -32,7 +32,7 @@ unfolding rule4
 ended-others d j s js said i n f = others-stay (at (d .stat) j s) (wakesAfter d j) i f ∙ at-other (d .stat) j s i n
 
 module _ (d : Desk) (r : Request) (i : ℕ) (n : i ≢ named d r) where
-  -- a job that the answer does not name is not the request's, unless that is a begin
+  -- a job that the answer does not name is not the request's, unless the request is a begin
   pub not-job : {l : Letter} → letterOf (r .kind) ≡ Known l → isBegin l ≡ false → i ≢ r .job
   unfolding named
   not-job e f q = n (q ∙ rw (e, f))
@@ -42,7 +42,7 @@ module _ (d : Desk) (r : Request) (i : ℕ) (n : i ≢ named d r) where
   unfolding named
   not-next e q = n (q ∙ rw e)
 
-  -- a job that the answer does not name and that is not among the wakes stays as it was
+  -- a job that the answer does not name and that is not woken stays as it was
   pub moved-status : {o : Outcome} → Moved d r o → isWoken i (o .wakes) ≡ false → o .desk .stat i ≡ d .stat i
   moved-status (refuses why _) h = unfold refused in refl
   moved-status (begins l m k) h = at-other (d .stat) (d .next) running i (not-next l)

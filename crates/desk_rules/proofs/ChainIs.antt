@@ -1,4 +1,4 @@
--- THE CHAIN IS THE REQUEST'S: of every live job of a started desk it is a chain in the request's words, and the only one; and what such a chain is like (02, No. 3).
+-- THE CHAIN IS THE REQUEST'S: for every live job of a started desk, the computed chain is a chain in the request's words, and the only one; and what such a chain is like (02, No. 3).
 -- Assumes nothing.
 use Prim.Native.Nat.{ℕ, zero, suc, _<_, _≤_}
 use mathlib.Core.Path.{_≡_, refl, ap, subst}
@@ -14,7 +14,7 @@ use Rattle.desk_rules.proofs.InTheWay.{way-younger, way-live}
 use Rattle.desk_rules.proofs.Younger.{younger-less}
 use Rattle.desk_rules.proofs.InWayList.{next-is, next-only}
 
--- who is next is younger than the waiter, so it has fewer younger ones: each further look has fewer younger jobs left
+-- the next job is younger than the waiter, so it has fewer younger ones: each further look has fewer younger jobs left
 pub fewer-younger : {d : Desk} → Inv d → (c : ℕ) (w : Waiter) → d .stat (w .job) ≡ waiting c (w .ask) → (i : ℕ) → Next d c w i → youngerThan i (d .jobs) < youngerThan (w .job) (d .jobs)
 fewer-younger {d} v c w k i n =
     younger-less i (w .job) (d .jobs) (way-younger v c w k i (n .way)) (v .seats i (live-open (d .stat i) (way-live v c w k i (n .way))))
@@ -34,17 +34,17 @@ is-chain-by {d} v (suc n) j l h =
     let f = fewer-younger v c w e i x in
     rw e (waits c a e x (is-chain-by v n i (omega arith) (way-live v c w e i (x .way)))))
 
--- the chain of a live job is one in the request's words
+-- the chain of a live job is a chain in the request's words
 pub is-chain : {d : Desk} → Inv d → (j : ℕ) → isLive (d .stat j) ≡ true → IsChain d j (chainOf d j)
 unfolding chainOf
 is-chain {d} v j h = is-chain-by v (youngerThan j (d .jobs)) j (omega arith) h
 
--- who has a chain is live
+-- a job that has a chain is live
 pub chain-live : {d : Desk} {j : ℕ} {js : List ℕ} → IsChain d j js → isLive (d .stat j) ≡ true
 chain-live (runs e) = running-live e
 chain-live (waits c a e n k) = waiting-live e
 
--- there is one chain
+-- there is only one chain
 pub one-chain : {d : Desk} → Inv d → {j : ℕ} {js ks : List ℕ} → IsChain d j js → IsChain d j ks → js ≡ ks
 one-chain v (runs e) (runs f) = refl
 one-chain v (runs e) (waits c a f n k) = absurd (running-not-waiting e f)

@@ -1,4 +1,4 @@
--- What is promised of chains, of every started desk of the paper (02, No. 3).
+-- What is promised of chains, for every started desk of the paper (02, No. 3).
 -- Assumes nothing.
 use Prim.Native.Nat.{ℕ}
 use mathlib.Core.Path.{_≡_, refl, sym, _∙_}
@@ -21,7 +21,7 @@ use Rattle.desk_rules.proofs.AlongChain.{along-chain}
 use Rattle.desk_rules.proofs.AskingChain.{asks-chain}
 use Rattle.desk_rules.proofs.WaitingList.{listed-waits, waits-listed, waiting-rises}
 
--- who waits is open
+-- a job that waits is open
 pub waits-open : (s : Status) → isWaiting s ≡ true → isOpen s ≡ true
 unfolding isOpen
 waits-open closed h = not-both h refl
@@ -30,7 +30,7 @@ waits-open (waiting c a) h = refl
 waits-open sentback h = refl
 
 module _ {d : Desk} (v : Inv d) where
-  -- the waiting jobs are listed, and nobody else
+  -- the list has exactly the waiting jobs
   all-listed : (j : ℕ) → member j (waitingBelow (d .stat) (d .next)) ≡ isWaiting (d .stat j)
   all-listed j =
       by-test (isWaiting (d .stat j))
@@ -53,6 +53,6 @@ module _ {d : Desk} (v : Inv d) where
         ascending = waiting-rises (d .stat) (d .next);
       }
 
--- of every started desk
+-- for every started desk
 pub chains : {d : Desk} {h : History} → Started d h → Chains d
 chains s = chains-of (started-inv s)

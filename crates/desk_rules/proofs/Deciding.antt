@@ -1,4 +1,4 @@
--- Rules 2 and 3 in the paper's words, over all jobs and not over places: when a job that asks goes, waits and where, or is sent back. What else then happens is told by the answer (01, rules 2 and 3).
+-- Rules 2 and 3 in the paper's words, over all jobs and not over places: when an asking job goes, when and where it waits, and when it is sent back. The answer tells the rest (01, rules 2 and 3).
 -- Assumes nothing.
 use Prim.Native.Nat.{ℕ, _<_}
 use mathlib.Core.Path.{_≡_, refl, ap, _∙_}
@@ -56,7 +56,7 @@ rule3-said d j c a =
     by-test (isEmpty (d .row c .queue) && agrees (d .jobs) (d .row c .held) j (needed a)) (λ t. rw t)
     (λ f. by-test (olderThanHolders (d .jobs) (d .row c .held) j && olderThanWaiters (d .row c .queue) j) (λ t. rw (f, t)) (λ g. rw (f, g)))
 
--- a promotion that waits: the cell has it at the front of its queue, and everybody holds what they held
+-- a promotion that waits is at the front of the cell's queue, and every job holds what it held
 rule2-front : (d : Desk) (j c : ℕ) (a : Ask) → agrees (d .jobs) (d .row c .held) j (asked (d .row c .held j) (needed a)) ≡ false → olderThanHolders (d .jobs) (d .row c .held) j ≡ true → rule2 d j c a .desk .row c ≡ record { held = d .row c .held; queue = record { job = j; ask = a } ∷ d .row c .queue }
 unfolding rule2 queued withStatus withRow
 rule2-front d j c a f t = rw (f, t) (at-same (d .row) c _)
@@ -86,7 +86,7 @@ module _ {d : Desk} {h : History} (started : Started d h) (r : Request) (a : Ask
   seats : Seated (d .jobs) (heldThere d r)
   seats = row-ready (started-inv started) (r .cell) .seats
 
-  -- where another holder's mode does not grant what is asked for, that does not agree with all of them
+  -- if another holder's mode does not grant the mode asked for, that mode does not agree with all holders
   disagreeing : (m : Mode) (i : ℕ) → Opposed d r m i → agrees (d .jobs) (heldThere d r) (r .job) m ≡ false
   disagreeing m i o = not-agrees (d .jobs) (heldThere d r) (r .job) m seats i (o .holder .other) (o .disagrees)
 
@@ -109,7 +109,7 @@ module _ {d : Desk} {h : History} (started : Started d h) (r : Request) (a : Ask
   not-at-once (waits-already w s) = not-first (isEmpty (queueThere d r)) (agrees (d .jobs) (heldThere d r) (r .job) (needed a)) (not-empty s)
   not-at-once (disagrees i o) = not-second (isEmpty (queueThere d r)) (agrees (d .jobs) (heldThere d r) (r .job) (needed a)) (disagreeing (needed a) i o)
 
-  -- where every other holder's mode grants what is asked for, that agrees with all of them
+  -- if every other holder's mode grants the mode asked for, that mode agrees with all of them
   agreeing : (m : Mode) → ((i : ℕ) → OtherHolder d r i → grants (heldThere d r i) m ≡ true) → agrees (d .jobs) (heldThere d r) (r .job) m ≡ true
   agreeing m h =
       each-agrees (d .jobs) (heldThere d r) (r .job) m

@@ -1,4 +1,4 @@
--- What the table of the lock desk has due is what the paper's words say: a walk through the letters and what the job is doing (01, Refusals by number; 02, No. 1).
+-- What the table of the lock desk has due is what the paper's words say, letter by letter and by what the job is doing (01, Refusals by number; 02, No. 1).
 -- Assumes nothing.
 use mathlib.Core.Path.{_≡_, refl, sym, ap, subst}
 use mathlib.Core.Bool.{true}
@@ -74,7 +74,7 @@ module _ (d : Desk) (r : Request) where
         is-due Waiting why (still-waiting (ask-with-ct r a e) c b q) t
     ask-worded a e sentback q t = is-due SentBack why (was-sent-back (ask-with-c r a e) q) t
 
-    -- whatever its letter
+    -- what is due is what the words say, for every letter
     pub due-worded : DeskLimits (d .next) (d .jobs) (λ j. isOpen (d .stat j)) → (x : Lettered) → letterOf (r .kind) ≡ x → dueBy d x (d .stat (r .job)) (r .cell) ≡ some why → RefusedAs d r (numberOf why)
     due-worded l Unknown e t = is-due UnknownKind why (alike (other-kind (other-kind-listed (r .kind) (ap otherKind e)))) (unfold dueBy holds order firstOf in t)
     due-worded l (Known Back) e t = is-due UnknownKind why (alike (other-kind (other-kind-listed (r .kind) (ap otherKind e)))) (unfold dueBy holds order firstOf in t)

@@ -1,4 +1,4 @@
--- The very mode that a go leaves a job with: by rule 1 the one it held, by rule 2 what that becomes, by rule 3 the one it needs (01, rules 1 to 3; 02, No. 1).
+-- The exact mode that a job holds after a go: by rule 1 the one it held, by rule 2 what that becomes, by rule 3 the one it needs (01, rules 1 to 3; 02, No. 1).
 -- Assumes nothing.
 use Prim.Native.Nat.{ℕ}
 use mathlib.Core.Path.{_≡_, refl, sym, ap, _∙_}
@@ -24,7 +24,7 @@ use Rattle.laws.proofs.Functions.{at-same}
 use Rattle.desks.proofs.Answers.{other-answer}
 
 module _ (d : Desk) (j c : ℕ) where
-  -- a mode that is granted is the one the job then holds
+  -- after a grant the job holds the granted mode
   pub granted-mode : (m : Mode) → grant d j c m .desk .row c .held j ≡ m
   unfolding grant withRow
   granted-mode m = rw (at-same (d .row) c _) (at-same (d .row c .held) j m)

@@ -1,4 +1,4 @@
--- Each of the examples is what the paper's step computes, each of those of chains what the definitions compute, and the desks on which a bound is met are so.
+-- The paper's step computes each of the examples, the definitions compute each of the examples of chains, and the desks on which a bound is met are so.
 -- Assumes nothing.
 use mathlib.Core.Path.{_≡_, refl}
 use mathlib.Core.List.{map}

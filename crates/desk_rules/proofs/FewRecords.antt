@@ -1,4 +1,4 @@
--- A step writes no more than one record and those of the waiters that it takes from the queues: so requests write no more records than they are (01, Lines; 01, rule 4).
+-- A step writes at most one record of its own and one for each waiter that it takes from a queue. So requests never write more records than there are requests (01, Lines; 01, rule 4).
 -- Assumes nothing.
 use Prim.Native.Nat.{ℕ, zero, suc, _+_, _≤_}
 use mathlib.Core.Path.{_≡_, refl, ap}
@@ -33,7 +33,7 @@ use Rattle.desk_rules.specs.Waiting.{standingIn, waitersOf}
 use Rattle.desk_rules.proofs.Moved.{step-moved}
 use Rattle.laws.proofs.Functions.{at-same, at-other}
 
--- on a fresh desk nobody does
+-- on a fresh desk no job stands in a queue
 pub none-standing : (m n : ℕ) → standingIn (freshDesk m .row) n ≡ 0
 unfolding standingIn freshDesk idle
 none-standing m zero = refl
@@ -60,7 +60,7 @@ unfolding without
 without-size j [] = omega arith
 without-size j (w ∷ q) = let m : length (without j q) ≤ length q = without-size j q in by-test (eqb (w .job) j) (λ t. rw t (omega arith)) (λ f. rw f (omega arith))
 
--- who stood in a queue is granted or stands in it still
+-- a job that stood in a queue is granted or still stands in it
 settle-size : (js : List ℕ) (held : ℕ → Mode) (q : List Waiter) → length (settle js held q .woken) + length (settle js held q .row .queue) ≡ length q
 unfolding settle wokenFirst
 settle-size js held [] = omega arith
@@ -79,7 +79,7 @@ unfolding wakesAt
 wakes-size c [] = refl
 wakes-size c (w ∷ q) = ap suc (wakes-size c q)
 
--- when a run ends, the wakes and those who still stand are no more than stood
+-- when a run ends, the wakes and those still in queues are no more than stood in queues before
 ended-size : (d : Desk) (j n : ℕ) → length (wakesOf (rowsAfter d j) n) + standingIn (λ c. rowsAfter d j c .row) n ≤ standingIn (d .row) n
 unfolding wakesOf standingIn rowsAfter
 ended-size d j zero = omega arith
@@ -109,7 +109,7 @@ went-size r j (Known GiveUp) = omega arith
 went-size r j (Known Retry) = omega arith
 went-size r j (Known (Asks a)) = omega arith
 
--- and so has any answer
+-- and so does any answer
 pub own-size : (r : Request) (a : Answer) → length (ownRecords r a) ≤ 1
 unfolding ownRecords
 own-size r (Go j) = went-size r j (letterOf (r .kind))
@@ -122,12 +122,12 @@ pub records-size : (r : Request) (a : Answer) (ws : List Action) → length (rec
 unfolding recordsOf
 records-size r a ws = omega (arith, length-append (ownRecords r a) (wakeRecords ws), wake-size ws)
 
--- what a step writes, and who then stands in the queues, is at most one more than stood there
+-- the records of a step and the waiters after it are together at most one more than the waiters before
 abbrev Few : Desk → Request → Outcome → Type 0
 Few d r o = length (recordsOf r (o .said) (o .wakes)) + waitersOf (o .desk) ≤ suc (waitersOf d)
 
 module _ (d : Desk) (r : Request) where
-  -- a step that takes nobody from a queue and puts nobody in one
+  -- a step that takes no job from a queue and puts none into one
   stays : (a : Answer) → length (recordsOf r a []) + waitersOf d ≤ suc (waitersOf d)
   stays a = omega (arith, records-size r a [], own-size r a)
 
@@ -160,7 +160,7 @@ module _ (d : Desk) (r : Request) where
   by-move (waits-last b k f z w u) = waited b _ (omega (arith, length-append (d .row (r .cell) .queue) (record { job = r .job; ask = b } ∷ [])))
   by-move (goes-back b k x) = ends (r .job) _ _ _
 
-  -- the records of a step and those who wait after it are together at most one more than those who waited before
+  -- the records of a step and the waiters after it are together at most one more than the waiters before
   pub few-records : length (events d r) + waitersOf (step d r .desk) ≤ suc (waitersOf d)
   unfolding recordsBy
   few-records = by-move (step-moved d r)

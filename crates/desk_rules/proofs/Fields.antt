@@ -20,7 +20,7 @@ by-alike d r s (Known GiveUp) e = ap (λ j. stepGiveUp d j (d .stat j)) (e .job 
 by-alike d r s (Known Retry) e = ap (λ j. stepRetry d j (d .stat j)) (e .job refl)
 by-alike d r s (Known (Asks a)) e = ap₂ (λ j c. stepAsk d j c a (d .stat j)) (e .job refl) (e .cell refl)
 
--- requests of one kind that are alike to its letter make the same step
+-- requests of one kind that are alike for its letter make the same step
 pub step-alike : (d : Desk) (r s : Request) → r .kind ≡ s .kind → Alike (letterOf (r .kind)) r s → step d r ≡ step d s
 unfolding step
 step-alike d r s k e = by-alike d r s (letterOf (r .kind)) e ∙ ap (λ b. stepBy d s (letterOf b)) k

@@ -1,4 +1,4 @@
--- The second sentence of demand 3, whole: what is promised of a waiter right after it asked, told of the desk as it was when it asked.
+-- The second sentence of demand 3, whole: what is promised of a waiter right after it asked, said of the desk as it was when it asked.
 -- Assumes nothing.
 use Prim.Native.Nat.{ℕ, _<_}
 use mathlib.Core.Path.{_≡_, subst}
@@ -25,19 +25,19 @@ use Rattle.desk_rules.proofs.Settle.{wants-same}
 use Rattle.desk_rules.proofs.JustAsked.{just-asked, way-was, was-way}
 
 module _ {d : Desk} {h : History} (s : Started d h) (r : Request) (a : Ask) (l : letterOf (r .kind) ≡ Known (Asks a)) (e : step d r .said ≡ Wait (r .job)) (w : Waiters (from (step d r .desk)) (r .cell) (asker r a)) where
-  -- who was in its way when it asked was in a run
+  -- a job that was in its way when it asked was in a run
   was-live : (i : ℕ) → WasInWay d r i → isLive (d .stat i) ≡ true
   was-live i was =
       let older : r .job < i = w .is-older i (was-way s r a l e i was) in
       subst (λ x. isLive x ≡ true) (just-asked s r a l e .statuses i (λ p. let p′ : i ≡ r .job = p in absurd (omega arith)))
       (w .in-way-live i (was-way s r a l e i was))
 
-  -- what it wants once it waits is the mode that it asked for
+  -- the mode it wants while it waits is the mode that it asked for
   wants-asked : wants (step d r .desk .row (r .cell) .held) (asker r a) ≡ askedThere d r a
   unfolding wants
   wants-asked = wants-same (step d r .desk .row (r .cell) .held) (d .row (r .cell) .held) (asker r a) (just-asked s r a l e .holds (r .cell) (r .job))
 
-  -- who is served got its cell in that mode, in time
+  -- a waiter that is served got its cell in that mode, in time
   got-by : (rs : List Request) → Served (from (step d r .desk)) (r .cell) (asker r a) rs → GotItsCell (from d) r a rs
   got-by rs g =
       let (i, way, late) = g .in-time in
@@ -50,7 +50,7 @@ module _ {d : Desk} {h : History} (s : Started d h) (r : Request) (a : Ask) (l :
         granted = subst (Granted (step (deskAfter (step d r .desk) (g .before)) (g .request)) (r .cell) (asker r a)) wants-asked (g .granted);
       }
 
-  -- THE SECOND SENTENCE OF DEMAND 3 of a request that is answered wait
+  -- THE SECOND SENTENCE OF DEMAND 3, for a request that is answered wait
   pub gets-its-cell : GetsItsCell (from d) r
   gets-its-cell =
       record {

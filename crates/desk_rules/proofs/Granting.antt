@@ -1,4 +1,4 @@
--- A request for a cell that goes: by rule 1 nothing changes; else the job gets a mode that covers its need, and nothing else changes (01, rules 1 to 3).
+-- A request for a cell that goes: by rule 1 nothing changes; otherwise the job gets a mode that covers its need, and nothing else changes (01, rules 1 to 3).
 -- Assumes nothing.
 use mathlib.Core.Path.{_≡_, refl, sym, ap, _∙_}
 use mathlib.Core.Bool.{true}
@@ -44,7 +44,7 @@ rule1-grants : (d : Desk) (r : Request) (a : Ask) → covers (d .row (r .cell) .
 unfolding rule1
 rule1-grants d r a h = record { job = refl; holds = h; others = λ b i n. refl; elsewhere = λ b n. refl; queues = λ b. refl; statuses = refl; places = refl; next = refl }
 
--- going in either way
+-- a go, in either way
 pub went-grants : {d : Desk} {r : Request} {a : Ask} → AskWent d r a → Grants d (step d r .desk) r a (r .job)
 went-grants {d} {r} {a} (had h o) = rw o (rule1-grants d r a h)
 went-grants {d} {r} {a} (got m h _ o) = rw o (grant-grants d r a m h)

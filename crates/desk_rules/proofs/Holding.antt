@@ -1,4 +1,4 @@
--- Nothing is released before the run ends: in a step a job's mode at a cell only grows, or the step ends that job's run (01, The desk's rules).
+-- Nothing is released before the run ends: in a step a job's mode on a cell only grows, or the step ends that job's run (01, The desk's rules).
 -- Assumes nothing.
 use Prim.Native.Nat.{ℕ}
 use mathlib.Core.Path.{_≡_, ap, _∙_}
@@ -74,7 +74,7 @@ module _ {d : Desk} (v : Inv d) (r : Request) (i c : ℕ) where
   run-ends m rest st js said q h =
       either-way d (step d r .desk) (events d r) rest m (r .job) i c q (λ n. rw h (rule4-keeps v (r .job) st js said i c n))
 
-  -- in every step what a job holds at a cell only grows, or the step ends that job's run: by the move
+  -- in every move a job's mode on a cell only grows, or the move ends that job's run
   pub moved-held : {o : Outcome} → Moved d r o → step d r ≡ o → Keeps d (step d r .desk) i c ⊎ (ended i (events d r) ≡ true)
   unfolding recordsBy recordsOf wakeRecords
   moved-held (refuses why _) h = inl (rw h (unfold refused in covers-refl (d .row c .held i)))

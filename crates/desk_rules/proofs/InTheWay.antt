@@ -1,4 +1,4 @@
--- Who is in a waiter's way: somebody is, each is live and younger than the waiter; so waits never run in a circle.
+-- The jobs in a waiter's way: there is one, and each is live and younger than the waiter. So waits never run in a circle.
 -- Assumes nothing.
 use Prim.Native.Nat.{ℕ, _<_}
 use mathlib.Core.Path.{_≡_, refl, ap, subst, _∙_}
@@ -17,11 +17,11 @@ use Rattle.laws.proofs.Standing.{in-none, in-split}
 use Rattle.desk_rules.proofs.Statuses.{waiting-live}
 use Rattle.desk_rules.proofs.AheadLaws.{ahead-in, ahead-younger}
 
--- a mode next to which something is not granted is held
+-- a mode beside which something is not granted is held
 pub in-way-held : (m a : Mode) → grants m a ≡ false → isFree m ≡ false
 in-way-held m a f = by-test (isFree m) (λ t. not-both (rw (is-free m t) (grants-free a)) f) (λ g. g)
 
--- in a queue whose first is blocked, everybody has somebody in its way: the first its blocker, and every other the first
+-- in a queue whose first waiter is blocked, every waiter has a job in its way: the first its blocker, and every other the first
 blocked-way : (held : ℕ → Mode) (w : Waiter) (q : List Waiter) → FirstBlocked held q → In w q → (i : ℕ) × InWay (record { held = held; queue = q }) w i
 blocked-way held w [] b h = in-none h
 blocked-way held w (u ∷ q) (i, n, g) h =
@@ -32,18 +32,18 @@ module _ {d : Desk} (v : Inv d) (c : ℕ) (w : Waiter) (k : IsWaiting d c w) whe
   pub waiter-in : In w (d .row c .queue)
   waiter-in = v .queues (w .job) c (w .ask) k
 
-  -- if it holds the cell nobody stands ahead of it: who did would be younger, being ahead, and older, since it waits for a cell that this one holds
+  -- if it holds the cell, none stands ahead of it: a waiter ahead would be younger, being ahead, and older, since it waits for a cell that this one holds
   pub front-only : isFree (d .row c .held (w .job)) ≡ false → (u : Waiter) → Ahead u w (d .row c .queue) → ⊥
   front-only f u b =
       let l = ahead-younger (v .rows c .down) b in
       let g = v .rows c .elder u (w .job) (ahead-in b) (λ e. omega (arith, l, e)) f in
       omega (arith, l, g)
 
-  -- somebody is in its way
+  -- some job is in its way
   pub way-some : (i : ℕ) × InWay (d .row c) w i
   way-some = blocked-way (d .row c .held) w (d .row c .queue) (v .rows c .blocked) waiter-in
 
-  -- who is in its way is younger
+  -- a job in its way is younger
   pub way-younger : (i : ℕ) → InWay (d .row c) w i → w .job < i
   way-younger i (holds-it n f) = v .rows c .elder w i waiter-in n f
   way-younger i (ahead u e a) = subst (λ x. w .job < x) e (ahead-younger (v .rows c .down) a)

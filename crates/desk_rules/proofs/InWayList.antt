@@ -1,4 +1,4 @@
--- The list of those in a waiter's way names just those who are in its way, so the youngest of the list is next after the waiter; and that one is a holder of its cell (02, No. 3).
+-- The list of jobs in a waiter's way names exactly the jobs in its way. So the youngest on the list is next after the waiter, and it holds the waiter's cell (02, No. 3).
 -- Assumes nothing.
 use Prim.Native.Nat.{ℕ, _<_, _≤_}
 use mathlib.Core.Path.{_≡_, refl, sym, ap, subst, _∙_}
@@ -27,7 +27,7 @@ use Rattle.desk_rules.proofs.InTheWay.{waiter-in, way-some, way-younger
 use Rattle.desk_rules.proofs.Younger.{youngest-most, youngest-listed}
 
 module _ (j : ℕ) (held : ℕ → Mode) where
-  -- who is listed as another holder is one
+  -- a job that is listed as another holder is one
   pub listed-holds : (is : List ℕ) (i : ℕ) → member i (otherHolders j held is) ≡ true → (i ≢ j) × (isFree (held i) ≡ false)
   unfolding otherHolders
   listed-holds [] i h = member-none i h
@@ -52,7 +52,7 @@ module _ (j : ℕ) (held : ℕ → Mode) where
       this : (eqb i i && true) ≡ true
       this = by-test (eqb i i) (λ t. rw t) (λ g. absurd (eqb-false i i g refl))
 
--- who is listed as standing ahead does so
+-- a job that is listed as standing ahead stands ahead
 pub listed-ahead : (w : Waiter) (q : List Waiter) (i : ℕ) → In w q → member i (aheadOf (w .job) q) ≡ true → (v : Waiter) × (v .job ≡ i) × Ahead v w q
 unfolding aheadOf
 listed-ahead w [] i k h = in-none k
@@ -64,7 +64,7 @@ listed-ahead w (u ∷ q) i k h =
     later-one : (v : Waiter) × (v .job ≡ i) × Ahead v w q → (v : Waiter) × (v .job ≡ i) × Ahead v w (u ∷ q)
     later-one (v, e, a) = (v, e, further a)
 
--- and who stands ahead is listed, where the queue falls
+-- and a job that stands ahead is listed, if the queue falls
 pub ahead-listed : (v w : Waiter) (q : List Waiter) → Falling q → Ahead v w q → member (v .job) (aheadOf (w .job) q) ≡ true
 unfolding aheadOf
 ahead-listed v w q f a = go q f a
@@ -77,7 +77,7 @@ ahead-listed v w q f a = go q f a
     go _ f (further {u = u} {q = q} b) = rw (apart u (f .0 w (ahead-of b))) (member-more (u .job) (aheadOf (w .job) q) (v .job) (go q (f .1) b))
 
 module _ {d : Desk} (v : Inv d) (c : ℕ) (w : Waiter) (k : IsWaiting d c w) where
-  -- who is listed as in the waiter's way is in its way
+  -- a job that is listed as in the waiter's way is in its way
   pub listed-way : (i : ℕ) → member i (inWayOf d (w .job) c) ≡ true → InWay (d .row c) w i
   unfolding inWayOf
   listed-way i h =
@@ -85,7 +85,7 @@ module _ {d : Desk} (v : Inv d) (c : ℕ) (w : Waiter) (k : IsWaiting d c w) whe
       (λ t. let (n, f) = listed-holds (w .job) (d .row c .held) (d .jobs) i t in holds-it n f)
       (λ t. let (u, e, a) = listed-ahead w (d .row c .queue) i (waiter-in v c w k) t in ahead u e a)
 
-  -- and who is in its way is listed
+  -- and a job that is in its way is listed
   pub way-listed : (i : ℕ) → InWay (d .row c) w i → member i (inWayOf d (w .job) c) ≡ true
   unfolding inWayOf
   way-listed i y = member-append i (otherHolders (w .job) (d .row c .held) (d .jobs)) (aheadOf (w .job) (d .row c .queue)) ∙ go y
@@ -94,13 +94,13 @@ module _ {d : Desk} (v : Inv d) (c : ℕ) (w : Waiter) (k : IsWaiting d c w) whe
       go (holds-it n f) = or-first _ _ (holder-listed (w .job) (d .row c .held) (d .jobs) i (v .seats i (live-open (d .stat i) (way-live v c w k i (holds-it n f)))) n f)
       go (ahead u e a) = or-second (member i (otherHolders (w .job) (d .row c .held) (d .jobs))) (member i (aheadOf (w .job) (d .row c .queue))) (subst (λ x. member x (aheadOf (w .job) (d .row c .queue)) ≡ true) e (ahead-listed u w (d .row c .queue) (v .rows c .down) a))
 
-  -- so the youngest of the list is next after the waiter
+  -- so the youngest on the list is next after the waiter
   pub next-is : Next d c w (youngestOf (inWayOf d (w .job) c))
   next-is =
       let (i, y) = way-some v c w k in
       let l = way-younger v c w k i y in
       record { way = listed-way _ (youngest-listed (inWayOf d (w .job) c) i (way-listed i y) (omega arith)); youngest = λ m z. youngest-most (inWayOf d (w .job) c) m (way-listed m z) }
 
-  -- nobody else is
+  -- no other job is
   pub next-only : (i m : ℕ) → Next d c w i → Next d c w m → i ≡ m
   next-only i m x y = let l : i ≤ m = y .youngest i (x .way) in let g : m ≤ i = x .youngest m (y .way) in omega arith

@@ -1,4 +1,4 @@
--- Every step keeps what holds of every started desk, one case to each rule; so it holds of every started desk.
+-- Every step keeps the invariant, one case for each rule; so it holds for every started desk.
 -- Assumes nothing.
 use Rattle.conflict.specs.History.{History}
 use Rattle.desks.specs.Request.{Request}
@@ -16,7 +16,7 @@ use Rattle.desk_rules.proofs.KeptBegin.{begin-inv, fresh-inv}
 use Rattle.desk_rules.proofs.KeptAsk.{promotes-inv, waits-in-front-inv, enters-inv, waits-last-inv}
 use Rattle.desk_rules.proofs.KeptRun.{close-inv, sendBack-inv}
 
--- every move keeps what holds of the desk
+-- every move keeps the invariant
 pub moved-inv : {d : Desk} {r : Request} {o : Outcome} → Inv d → Moved d r o → Inv (o .desk)
 unfolding refused close sendBack grant queued retry begin
 moved-inv v (refuses why _) = v
@@ -31,11 +31,11 @@ moved-inv {r = r} v (enters a k f e g) = enters-inv v (r .job) (r .cell) a (k .r
 moved-inv {r = r} v (waits-last a k f n h o) = waits-last-inv v (r .job) (r .cell) a (k .runs) (k .within) f n h o
 moved-inv {r = r} v (goes-back a k e) = sendBack-inv v (r .job) (running-open (k .runs))
 
--- every step does
+-- so does every step
 pub step-inv : {d : Desk} → Inv d → (r : Request) → Inv (step d r .desk)
 step-inv {d} v r = moved-inv v (step-moved d r)
 
--- so it holds of every started desk
+-- so it holds for every started desk
 pub started-inv : {d : Desk} {h : History} → Started d h → Inv d
 started-inv (fresh n l _) = fresh-inv n l
 started-inv (after s r) = step-inv (started-inv s) r

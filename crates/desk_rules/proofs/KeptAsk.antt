@@ -1,4 +1,4 @@
--- Asking for a cell keeps what holds of every started desk: going and waiting by rule 2 and by rule 3.
+-- Asking for a cell keeps the invariant of started desks: going and waiting, by rule 2 and by rule 3.
 -- Assumes nothing.
 use Prim.Native.Nat.{ℕ, _<_}
 use mathlib.Core.Path.{_≡_, refl, sym, subst}

@@ -1,4 +1,4 @@
--- What holds of every started desk holds of a fresh one, and a begin keeps it.
+-- The invariant of started desks holds for a fresh desk, and a begin keeps it.
 -- Assumes nothing.
 use Prim.Native.Nat.{ℕ, suc, _<_}
 use mathlib.Core.Path.{_≡_, refl, sym, _∙_}
@@ -35,7 +35,7 @@ idle-row c = record {
   within = λ w h. in-none h;
 }
 
--- a fresh desk is as every started desk is
+-- the invariant holds for a fresh desk
 pub fresh-inv : (n : ℕ) → 0 < n → Inv (freshDesk n)
 unfolding freshDesk
 fresh-inv n l = record {
@@ -60,7 +60,7 @@ module _ {d : Desk} (v : Inv d) where
   next-no-place =
       by-test (member (d .next) (d .jobs)) (λ t. not-both (v .opens (d .next) (λ e. let l = v .some in omega arith) t) next-not-open) (λ f. f)
 
-  -- a begin keeps what holds of the desk
+  -- a begin keeps the invariant
   pub begin-inv : member 0 (d .jobs) ≡ true → Inv (begin d .desk)
   unfolding begin
   begin-inv free = record {

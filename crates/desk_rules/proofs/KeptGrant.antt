@@ -1,4 +1,4 @@
--- A grant keeps what holds of every started desk: a running job takes a mode that agrees with every other holder, and every waiter is older (rules 2 and 3).
+-- A grant keeps the invariant of started desks: a running job takes a mode that agrees with every other holder, and every waiter is older (rules 2 and 3).
 -- Assumes nothing.
 use Prim.Native.Nat.{ℕ, _<_}
 use mathlib.Core.Path.{_≡_, subst}
@@ -19,7 +19,7 @@ use Rattle.laws.proofs.Functions.{at-other, at-each, at-all}
 use Rattle.desk_rules.proofs.KeptStatus.{no-place}
 use Rattle.desk_rules.proofs.Settle.{wants-same, taking-pairs}
 
--- who is in the first waiter's way stays there when a job that has no place in the queue takes a mode that covers what it held
+-- a job in the first waiter's way stays there when a job that is not in the queue takes a mode that covers what it held
 pub still-blocked : (held : ℕ → Mode) (q : List Waiter) (j : ℕ) (m : Mode) → covers m (held j) ≡ true → ((w : Waiter) → In w q → w .job ≢ j) → FirstBlocked held q → FirstBlocked (at held j m) q
 still-blocked held [] j m g n b = tt
 still-blocked held (w ∷ q) j m g n (i, d, f) =
@@ -30,7 +30,7 @@ still-blocked held (w ∷ q) j m g n (i, d, f) =
         at-each (λ x. grants x (wants held w) ≡ false) held j m i
         (λ e. stays-in-way m (held j) (wants held w) g (subst (λ k. grants (held k) (wants held w) ≡ false) e f)) (λ _. f)
 
--- one row, where a running job takes a mode that covers what it held and is granted next to every other job
+-- one row after a running job takes a mode that covers what it held and is granted beside every other job
 granted-row : {stat : ℕ → Status} {c : ℕ} {r : Row} → RowInv stat c r → (j : ℕ) (m : Mode) → stat j ≡ running → covers m (r .held j) ≡ true → ((i : ℕ) → i ≢ j → grants (r .held i) m ≡ true) → ((w : Waiter) → In w (r .queue) → w .job < j) → RowInv stat c (record { held = at (r .held) j m; queue = r .queue })
 granted-row {stat} {c} {r} v j m runs g a l = record {
   pairs = taking-pairs (r .held) j m a (v .pairs);
@@ -43,7 +43,7 @@ granted-row {stat} {c} {r} v j m runs g a l = record {
   within = v .within;
 }
 
--- a grant keeps what holds of the desk
+-- a grant keeps the invariant
 pub grant-inv : {d : Desk} → Inv d → (j c : ℕ) (m : Mode) → d .stat j ≡ running → covers m (d .row c .held j) ≡ true → ((i : ℕ) → i ≢ j → grants (d .row c .held i) m ≡ true) → ((w : Waiter) → In w (d .row c .queue) → w .job < j) → Inv (grant d j c m .desk)
 unfolding grant withRow
 grant-inv {d} v j c m runs g a l = record {

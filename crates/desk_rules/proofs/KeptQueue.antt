@@ -1,4 +1,4 @@
--- Waiting keeps what holds of every started desk: a running job joins a queue, in front or last (rules 2 and 3).
+-- Waiting keeps the invariant of started desks: a running job joins a queue, in front or last (rules 2 and 3).
 -- Assumes nothing.
 use Prim.Native.Nat.{ℕ, _<_}
 use mathlib.Core.Path.{_≡_, refl, sym, subst, _∙_}
@@ -18,7 +18,7 @@ use Rattle.laws.proofs.Standing.{in-none, in-split, in-left, in-right, in-eithe
 use Rattle.laws.proofs.Functions.{at-same, at-other, at-each, at-all}
 use Rattle.desk_rules.proofs.KeptStatus.{no-place, status-row, status-inv}
 
--- a queue with one waiter more, wherever that stands
+-- a queue with one more waiter, wherever it stands
 pub record Joins (old : List Waiter) (w : Waiter) (q : List Waiter) : Type 0 where
   pub new : In w q
   pub stay : (v : Waiter) → In v old → In v q
@@ -36,7 +36,7 @@ joins-last q w = record {
   either = λ v h. in-either q (w ∷ []) h inr (λ k. in-split k inl in-none);
 }
 
--- what holds of the new waiter and of each old one holds of each
+-- what holds for the new waiter and for each old one holds for each
 joins-each : {old : List Waiter} {w : Waiter} {q : List Waiter} → Joins old w q → (P : Waiter → Type 0) → P w → ((v : Waiter) → In v old → P v) → (v : Waiter) → In v q → P v
 joins-each {old} {w} k P new stay v h = by-side (k .either v h)
   where
@@ -58,7 +58,7 @@ joined-row {stat} {c} {r} v w q k runs l o f b x = record {
   within = λ _ _. l;
 }
 
--- joining a queue keeps what holds of the desk
+-- joining a queue keeps the invariant
 pub queued-inv : {d : Desk} → Inv d → (j c : ℕ) (a : Ask) (q : List Waiter) → Joins (d .row c .queue) (record { job = j; ask = a }) q → d .stat j ≡ running → c < cells → ((i : ℕ) → i ≢ j → isFree (d .row c .held i) ≡ false → j < i) → Falling q → FirstBlocked (d .row c .held) q → covers (d .row c .held j) (needed a) ≡ false → Inv (queued d j c a q .desk)
 unfolding queued withStatus withRow
 queued-inv {d} v j c a q k runs l o f b x =

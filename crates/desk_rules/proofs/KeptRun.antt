@@ -1,4 +1,4 @@
--- The end of a run keeps what holds of every started desk: rule 4, for a job that is closed and for one that is sent back.
+-- The end of a run keeps the invariant of started desks: rule 4, for a job that is closed and for one that is sent back.
 -- Assumes nothing.
 use Prim.Native.Nat.{ℕ, _<_}
 use mathlib.Core.Path.{_≡_, refl, sym, ap, subst, _∙_}
@@ -21,7 +21,7 @@ use Rattle.desk_rules.proofs.RunEnd.{statusAfter, row-releases, granted
 use Rattle.desk_rules.proofs.KeptStatus.{open-number}
 use Rattle.desks.proofs.Places.{vacated-others, vacated-gone, vacated-once, vacated-size}
 
--- a job whose run ends: it was open, the status it gets is not live, and the places afterwards are the others' and, where it stays open, its own
+-- a job whose run ends: it was open, its new status is not live, and the places afterwards are those of the others, and its own if it stays open
 record Ends (d : Desk) (j : ℕ) (s : Status) (js : List ℕ) : Type 0 where
   open-before : isOpen (d .stat j) ≡ true
   not-live : isLive s ≡ false
@@ -46,7 +46,7 @@ module _ {d : Desk} (v : Inv d) (j : ℕ) (s : Status) (js : List ℕ) (k : Ends
     within = λ w h. v .rows c .within w (row-releases v j c .left-was w h);
   }
 
-  -- a run's end keeps what holds of the desk
+  -- a run's end keeps the invariant
   rule4-inv : (said : Answer) → Inv (rule4 d j s js said .desk)
   unfolding rule4
   rule4-inv said = record {

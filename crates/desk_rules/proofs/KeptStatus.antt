@@ -1,4 +1,4 @@
--- A new status keeps what holds of every started desk: an open job that does not wait gets another open status, as in a retry (rule 5) or when it comes to wait.
+-- A new status keeps the invariant of started desks: an open job that does not wait gets another open status, by a retry (rule 5) or when it begins to wait.
 -- Assumes nothing.
 use Prim.Native.Nat.{ℕ, _<_}
 use mathlib.Core.Path.{_≡_, refl, sym, ap, _∙_}
@@ -19,11 +19,11 @@ use Rattle.laws.proofs.Functions.{at-other, at-each, at-all}
 pub open-number : {d : Desk} → Inv d → (j : ℕ) → isOpen (d .stat j) ≡ true → j ≢ 0
 open-number {d} v j h e = not-both h (closed-not-open (ap (d .stat) e ∙ v .nobody))
 
--- a job that does not wait for a cell has no place in its queue
+-- a job that does not wait for a cell is not in its queue
 pub no-place : {stat : ℕ → Status} {c : ℕ} {r : Row} → RowInv stat c r → (j : ℕ) → ((a : Ask) → stat j ≢ waiting c a) → (w : Waiter) → In w (r .queue) → w .job ≢ j
 no-place {stat} v j n w h e = n (w .ask) (ap stat (sym e) ∙ v .stands w h)
 
--- a row stays as every row is where a job that does not wait gets a live status
+-- a row's invariant is kept if a job that does not wait gets a live status
 pub status-row : {stat : ℕ → Status} {c : ℕ} {r : Row} → RowInv stat c r → (j : ℕ) (s : Status) → ((a : Ask) → stat j ≢ waiting c a) → isLive s ≡ true → RowInv (at stat j s) c r
 status-row {stat} v j s n l = record {
   pairs = v .pairs;
@@ -36,7 +36,7 @@ status-row {stat} v j s n l = record {
   within = v .within;
 }
 
--- an open job gets another open status, and rows and queues fit it: the rest of what holds of the desk is kept
+-- an open job gets another open status that fits rows and queues: the rest of the invariant is kept
 pub status-inv : {d : Desk} → Inv d → (j : ℕ) (s : Status) (rows : ℕ → Row) → isOpen (d .stat j) ≡ true → isOpen s ≡ true → ((c : ℕ) → RowInv (at (d .stat) j s) c (rows c)) → ((i c : ℕ) (a : Ask) → at (d .stat) j s i ≡ waiting c a → In (record { job = i; ask = a }) (rows c .queue)) → Inv (record { next = d .next; jobs = d .jobs; stat = at (d .stat) j s; row = rows })
 status-inv {d} v j s rows o p r q = record {
   rows = r;
@@ -50,7 +50,7 @@ status-inv {d} v j s rows o p r q = record {
   some = v .some;
 }
 
--- a retry keeps what holds of the desk
+-- a retry keeps the invariant
 pub retry-inv : {d : Desk} → Inv d → (j : ℕ) → d .stat j ≡ sentback → Inv (retry d j .desk)
 unfolding retry withStatus
 retry-inv {d} v j e =

@@ -1,4 +1,4 @@
--- Every step of the desk is a run of the lock machine: locks only grow until a run ends, what different jobs hold may be held together, and each action is done under a mode that lets it (01, The desk's rules).
+-- Every step of the desk is a run of the lock machine: locks only grow until a run ends, the modes of different jobs may be held together, and each action is done under a mode that lets it be done (01, The desk's rules).
 -- Assumes nothing.
 use Prim.Native.Nat.{ℕ}
 use mathlib.Core.Path.{_≡_, refl, subst}
@@ -60,7 +60,7 @@ wrote-ran {d} {r} {h = h} v (mark m s js said open′ last′ _) k =
 pub step-machine : {d : Desk} {h : History} → Inv d → (r : Request) → Ran (tableOf d) h → Ran (tableOf (step d r .desk)) (h ++ events d r)
 step-machine {d} v r k = wrote-ran v (step-wrote d r v) k
 
--- on a fresh desk nobody holds anything
+-- on a fresh desk no job holds anything
 fresh-machine : (n : ℕ) → Ran (tableOf (freshDesk n)) []
 unfolding freshDesk idle
 fresh-machine n = start (λ j c. refl)

@@ -1,4 +1,4 @@
--- The rules as a relation, one constructor to a rule with its tests as premises, and that every step is such a move: the one place that follows the tests.
+-- Every step is a move of the rules as a relation, which has one constructor for each rule, with its tests as premises. Only this file follows the tests.
 -- Assumes nothing.
 use Prim.Native.Nat.{ℕ}
 use mathlib.Core.Option.{some}
@@ -42,7 +42,7 @@ one-fails : {P : Type 0} (a b : Bool) → (a && b) ≡ false → (a ≡ false �
 one-fails true b e f g = g e
 one-fails false b e f g = f refl
 
--- where rules 2 and 3 say "otherwise", somebody older stands in the job's way
+-- if rules 2 and 3 say "otherwise", an older job stands in the job's way
 pub elder-of : {d : Desk} {r : Request} {a : Ask} → Otherwise d r a → Elder d (r .job) (r .cell)
 elder-of (no-promotion c f z h) = holder h
 elder-of (no-entry f e o) = one-fails _ _ o holder (waiter f)
@@ -65,7 +65,7 @@ ask-moved d r a k =
 cell-above : (c : ℕ) → ltb c cells ≡ false → leb cells c ≡ true
 cell-above c f = le-leb cells c (ltb-false c cells f)
 
--- a refusal that is due by the request's letter and what its job is doing
+-- a refusal that is due, given the request's letter and what its job is doing
 due-by : {d : Desk} {r : Request} {l : Lettered} {s : Status} (why : Refusal) → letterOf (r .kind) ≡ l → d .stat (r .job) ≡ s → dueBy d l s (r .cell) ≡ some why → Moved d r (refused d why)
 unfolding dueOf
 due-by why e q h = refuses why (rw (e, q) h)
@@ -122,7 +122,7 @@ step-by d r (Known GiveUp) e = give-up-moved d r (d .stat (r .job)) e refl
 step-by d r (Known Retry) e = retry-moved d r (d .stat (r .job)) e refl
 step-by d r (Known (Asks a)) e = asked-moved d r a (d .stat (r .job)) e refl
 
--- every step is a move by one of the rules, and refuses only what the table says is due
+-- every step is a move by one of the rules, and refuses only what the table has due
 pub step-moved : (d : Desk) (r : Request) → Moved d r (step d r)
 unfolding step
 step-moved d r = step-by d r (letterOf (r .kind)) refl

@@ -43,7 +43,7 @@ wakes-end [] = good-none
 wakes-end (a ∷ xs) = good-does a (wakeRecords xs) ∙ wakes-end xs
 
 module _ {d : Desk} (v : Inv d) {r : Request} where
-  -- who has an event in a step was open before it
+  -- a job that has an event in a step was open before it
   pub line-open : {o : Outcome} {g : History} → Wrote d r o g → (j : ℕ) → lineOf j g ≡ true → isOpen (d .stat j) ≡ true
   unfolding asking
   line-open (nothing w) j h = not-both h (line-none j)
@@ -53,7 +53,7 @@ module _ {d : Desk} (v : Inv d) {r : Request} where
       or-either (eqb (r .job) j) (lineOf j (wakeRecords (wakesAfter d (r .job)))) (sym (line-ends j m (r .job) (wakeRecords (wakesAfter d (r .job)))) ∙ h) (λ t. rw (← eqb-true (r .job) j t) o)
       (λ t. let (c, a, e, g) = woken-waited v (r .job) j (sym (line-woken j (wakesAfter d (r .job))) ∙ t) in waiting-open e)
 
-  -- who has a c or an a in a step is closed after it
+  -- a job that has a c or an a in a step is closed after it
   last-closed : {o : Outcome} {g : History} → Wrote d r o g → (j : ℕ) → marked isLast j g ≡ true → o .desk .stat j ≡ closed
   unfolding rule4
   last-closed (nothing w) j h = not-both h (marked-none isLast j)
@@ -75,20 +75,20 @@ module _ {d : Desk} (v : Inv d) {r : Request} where
       (or-second (isBack m) (not (lineOf (r .job) (wakeRecords wakes))) (ap not (line-woken (r .job) wakes ∙ self-not-woken v (r .job))))
       (wakes-end wakes)
 
--- what holds of a desk and the history that it has written
+-- what holds for a desk and the history that it has written
 pub record Over (d : Desk) (h : History) : Type 0 where
   -- no event of a job follows its c or a
   pub good : endsForGood h ≡ true
-  -- who has an event has a number that was given
+  -- a job that has an event has a number that was given
   pub given : (j : ℕ) → lineOf j h ≡ true → j < d .next
-  -- who has a c or an a is closed
+  -- a job that has a c or an a is closed
   pub shut : (j : ℕ) → marked isLast j h ≡ true → d .stat j ≡ closed
 
--- who has a mark has an event
+-- a job that has a mark has an event
 marked-line : (f : Mark → Bool) (j : ℕ) (h : History) → marked f j h ≡ true → lineOf j h ≡ true
 marked-line f j h t = by-test (lineOf j h) (λ l. l) (λ n. not-both t (unmarked f j h n))
 
--- a step keeps it
+-- a step keeps this
 pub step-over : {d : Desk} {h : History} → Inv d → (r : Request) → Over d h → Over (step d r .desk) (h ++ events d r)
 step-over {d} {h} v r k = record {
   good = ends-append h (events d r) (k .good) (wrote-ends v w)
@@ -109,7 +109,7 @@ step-over {d} {h} v r k = record {
 fresh-over : (n : ℕ) → Over (freshDesk n) []
 fresh-over n = record { good = good-none; given = λ j l. not-both l (line-none j); shut = λ j m. not-both m (marked-none isLast j) }
 
--- every started desk and the history it has written are such
+-- this holds for every started desk and the history it has written
 pub started-over : {d : Desk} {h : History} → Started d h → Over d h
 started-over (fresh n _ _) = fresh-over n
 started-over (after s r) = step-over (started-inv s) r (started-over s)

@@ -1,4 +1,4 @@
--- The numbers of jobs on the paper's desk: each of its steps gives the next number or none, so all that is known of such desks holds of it (01, Jobs and their numbers).
+-- The numbers of jobs on the paper's desk: each step gives the next number or none, so the laws of such desks hold for it (01, Jobs and their numbers).
 -- Assumes nothing.
 use Prim.Native.Nat.{ℕ, _<_, _≤_}
 use mathlib.Core.Path.{_≡_, refl}
@@ -45,7 +45,7 @@ next-rises = numbering.next-rises step (λ d. d .next) step-gives
 pub next-rises-on : (d : Desk) (rs : List Request) → d .next ≤ deskAfter d rs .next
 next-rises-on = numbering.next-rises-on step (λ d. d .next) step-gives
 
--- a number given by the requests is not below the next number before them, below the next number after them, and not above 4,294,967,295
+-- a number given by the requests is at least the next number before them, below the next number after them, and at most 4,294,967,295
 pub given-within : (d : Desk) (rs : List Request) (m : ℕ) → member m (given d rs) ≡ true → (d .next ≤ m) × (m < deskAfter d rs .next) × (m ≤ lastNumber)
 given-within = numbering.given-within step (λ d. d .next) step-gives
 

@@ -1,4 +1,4 @@
--- Ages: a job older than every other live job is never sent back, and no job begun later is older (demand 3, third sentence). So a job that retries under its own number is at last the oldest, and from then on never sent back.
+-- Ages: a job older than every other live job is never sent back, and no job begun later is older (demand 3, third sentence). So a job that retries under its own number is at last the oldest, and is never sent back from then on.
 -- Assumes nothing.
 use Prim.Native.Nat.{ℕ, _<_}
 use mathlib.Core.Path.{_≡_, sym, ap, _∙_}
@@ -32,7 +32,7 @@ use Rattle.desks.proofs.StartedThrough.{run-started, after-both}
 no-older : (d : Desk) (j : ℕ) → OldestLive d j → (i : ℕ) × (i < j) × (isLive (d .stat i) ≡ true) → ⊥
 no-older d j o (i, l, v) = let g : j < i = o i (omega arith) v in omega arith
 
--- who is open after any requests, and whose number was given before them, was open before them
+-- a job that is open after any requests, and whose number was given before them, was open before them
 was-open : {d : Desk} → Inv d → (rs : List Request) (i : ℕ) → i < d .next → isOpen (deskAfter d rs .stat i) ≡ true → isOpen (d .stat i) ≡ true
 was-open {d} v rs i l p =
     by-test (isOpen (d .stat i)) (λ t. t) (λ f. not-both p (closed-not-open (closed-through v rs i l (not-open-closed (d .stat i) f))))
@@ -41,7 +41,7 @@ was-open {d} v rs i l p =
 by-age : {P : Type 0} (i j : ℕ) → i ≢ j → (i < j → P) → (j < i → P) → P
 by-age i j n f g = by-test (ltb i j) (λ t. f (ltb-true i j t)) (λ e. g (omega (arith, ltb-false i j e)))
 
--- once all jobs older than an open job have closed, whoever is open is younger, then and after any further requests
+-- once all jobs older than an open job have closed, every other open job is younger, then and after any further requests
 oldest-on : {d : Desk} {h : History} → Started d h → (j : ℕ) → isOpen (d .stat j) ≡ true → (rs : List Request) → OlderClosed d (deskAfter d rs) j → (more : List Request) (i : ℕ) → i ≢ j → isOpen (deskAfter (deskAfter d rs) more .stat i) ≡ true → j < i
 oldest-on {d} s j o rs c more i n p =
     let b = started-inv s .below j o in

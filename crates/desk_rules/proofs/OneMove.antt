@@ -1,4 +1,4 @@
--- The rules leave no choice: the step is the one move that there is, whatever the desk and the request (01, The desk's rules; 01, How much a contract says).
+-- The rules leave no choice: the step is the only move, whatever the desk and the request (01, The desk's rules; 01, How much a contract says).
 -- Assumes nothing.
 use Prim.Native.Nat.{ℕ}
 use mathlib.Core.Path.{_≡_, refl, _∙_}
@@ -27,7 +27,7 @@ gives-up-closes d j (waiting c a) e = refl
 gives-up-closes d j sentback e = refl
 
 module _ {d : Desk} {r : Request} where
-  -- a running job that asks: whatever move its tests allow is what rules 1 to 3 decide
+  -- for a running job that asks, every move that its tests allow is what rules 1 to 3 decide
   asked-only : {o : Outcome} → (a : Ask) → Asking d r a → ask d (r .job) (r .cell) a ≡ o → step d r ≡ o
   asked-only a k e = asking-step d r a k ∙ e
 

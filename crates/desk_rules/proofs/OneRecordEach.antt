@@ -1,4 +1,4 @@
--- In a step each job has one record at most: its request's own, or that of its wake; and none as long as it waits (01, Lines; 01, rule 4).
+-- In a step each job has at most one record: its request's own, or its wake's; and none while it waits (01, Lines; 01, rule 4).
 -- Assumes nothing.
 use Prim.Native.Nat.{ℕ, _≤_}
 use mathlib.Core.Path.{_≡_, refl, sym, ap, _∙_}
@@ -41,7 +41,7 @@ one-of j (a ∷ xs) n =
     alone : eqb (a .job) j ≡ true → isWoken j xs ≡ false
     alone t = by-test (isWoken j xs) (λ w. let (x, i, e) = woken-in j xs w in absurd (n a x (next i) (eqb-true (a .job) j t ∙ sym e))) (λ f. f)
 
--- so of all that a step writes
+-- so in all that a step writes each job has at most one record
 pub wrote-one : {d : Desk} (v : Inv d) {r : Request} {o : Outcome} {g : History} → Wrote d r o g → ((x y : Action) → Before x y (wakesAfter d (r .job)) → x .job ≢ y .job) → (j : ℕ) → recordsFor j g ≤ 1
 unfolding recordsFor asking
 wrote-one v (nothing w) n j = omega arith
@@ -51,7 +51,7 @@ wrote-one {d} v {r} (mark m s js said o l _) n j =
     (λ t. rw t (omega (arith, none-of j (wakesAfter d (r .job)) (ap (λ i. isWoken i (wakesAfter d (r .job))) (sym (eqb-true (r .job) j t)) ∙ self-not-woken v (r .job)))))
     (λ f. rw f (omega (arith, one-of j (wakesAfter d (r .job)) n)))
 
--- who waits is live
+-- a job that waits is live
 waiting-is-live : (c : ℕ) (a : Ask) → isLive (waiting c a) ≡ true
 unfolding isLive
 waiting-is-live c a = refl

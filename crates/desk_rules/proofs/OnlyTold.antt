@@ -1,4 +1,4 @@
--- What is told to who asks for a chain, in numbers; nothing else that is told keeps the promises, and the numbers tell answers apart (02, No. 3).
+-- The answer to a question for a chain, in numbers: no other answer keeps the promises, and the numbers tell answers apart (02, No. 3).
 -- Assumes nothing.
 use Prim.Native.Nat.{ℕ, _<_, _≤_}
 use mathlib.Core.Path.{_≡_, sym, ap, _∙_}
@@ -20,7 +20,7 @@ use Rattle.desk_rules.specs.AskedChain.{ChainTold, askChain, chainNumber
 use Rattle.desk_rules.specs.Chains.{AsksChain}
 use Rattle.desk_rules.proofs.AskingChain.{Way, not-there, went-back, too-short, told, by-way}
 
--- what is told, by its two parts
+-- an answer is fixed by its two parts
 told-path : (t : ChainTold) (x : Chained) (l : List ℕ) → t .said ≡ x → t .list ≡ l → t ≡ record { said = x; list = l }
 told-path t x l e f = λ i. record { said = e i; list = f i }
 
@@ -36,7 +36,7 @@ module _ {d : Desk} (j : ℕ) (list : List ℕ) (t : ChainTold) (k : AsksChain d
       let (r, z) = k .unused-stay (length (chainOf d j)) e in
       told-path t (Jobs (length (chainOf d j))) (filled (chainOf d j) list) e (fills-only (chainOf d j) list (t .list) (record { first = f; rest = r; size = z }))
 
-  -- so it is what the definition tells
+  -- so an answer that keeps the promises is the one that the definition gives
   pub only-told : t ≡ askChain d j list
   only-told = go (by-way d j list)
     where
@@ -46,7 +46,7 @@ module _ {d : Desk} (j : ℕ) (list : List ℕ) (t : ChainTold) (k : AsksChain d
       go (too-short s l e) = refused-so ShortList (k .short-list .1 (s, l)) ∙ sym e
       go (told s l e) = answered-so s l ∙ sym e
 
--- what is told, in the paper's numbers: 3, 5 or 18 and no job, or 0 and how many jobs the chain has
+-- the answer in the paper's numbers: 3, 5 or 18 and no job, or 0 and how many jobs the chain has
 module _ {d : Desk} (j : ℕ) (list : List ℕ) (t : ChainTold) (k : AsksChain d j list t) where
   pub tells-3 : isOpen (d .stat j) ≡ false → chainNumbers (t .said) ≡ 3 ∷ 0 ∷ []
   unfolding chainNumbers

@@ -14,7 +14,7 @@ use Rattle.desks.proofs.Places.{seated-others, seated-there}
 use Rattle.desk_rules.proofs.KeptBegin.{next-not-open}
 use Rattle.desk_rules.proofs.Away.{not-live-away}
 
--- who is not open is closed
+-- a job that is not open is closed
 pub not-open-closed : (s : Status) → isOpen s ≡ false → s ≡ closed
 unfolding isOpen
 not-open-closed closed f = refl

@@ -1,4 +1,4 @@
--- The promises, of every started desk of the paper: its families, each proved in the file that its line names.
+-- The promises, for every started desk of the paper: its families, each proved in the file that its line names.
 -- Assumes nothing.
 use Prim.Native.Nat.{ℕ, _<_, _≤_}
 use mathlib.Core.List.{List}
@@ -46,6 +46,6 @@ promised {d} s = record {
   chains = chains s;
 }
 
--- so does a fresh one after any requests
+-- and so does a fresh one after any requests
 pub promised-from-fresh : (n : ℕ) → 0 < n → n ≤ lastNumber → (rs : List Request) → Promises (historyOf (freshDesk n) rs) (from (deskAfter (freshDesk n) rs))
 promised-from-fresh n some last rs = promised (run-started (fresh n some last) rs)

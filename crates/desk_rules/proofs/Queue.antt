@@ -1,4 +1,4 @@
--- Laws of queues: who stands in one, what it is for a queue to fall, and the queue without a job's place.
+-- Laws of queues: which jobs stand in one, when a queue falls (from younger to older), and the queue without a job's place.
 -- Assumes nothing.
 use Prim.Native.Nat.{ℕ, _<_}
 use mathlib.Core.Path.{_≡_, sym, ap, subst, _∙_}
@@ -14,17 +14,17 @@ use Rattle.laws.proofs.Standing.{in-none, in-split, is-first, in-left, in-right
 use Rattle.desk_rules.specs.Locks.{without}
 use Rattle.desk_rules.specs.Invariant.{Falling}
 
--- of a queue that falls the first part does
+-- the first part of a queue that falls is one that falls
 pub falling-left : (p q : List Waiter) → Falling (p ++ q) → Falling p
 falling-left [] q f = tt
 falling-left (v ∷ p) q f = (λ w h. f .0 w (in-left q h), falling-left p q (f .1))
 
--- and the second part
+-- and so is the second part
 pub falling-right : (p q : List Waiter) → Falling (p ++ q) → Falling q
 falling-right [] q f = f
 falling-right (v ∷ p) q f = falling-right p q (f .1)
 
--- and who stands in the second is older than who stands in the first
+-- and a waiter in the second is older than one in the first
 pub falling-across : (p q : List Waiter) → Falling (p ++ q) → (v w : Waiter) → In v p → In w q → w .job < v .job
 falling-across [] q f v w h k = in-none h
 falling-across (u ∷ p) q f v w h k =
@@ -36,7 +36,7 @@ falling-join [] q f g h = g
 falling-join (u ∷ p) q f g h =
     (λ w k. in-either p q k (f .0 w) (h u w first), falling-join p q (f .1) g (λ v w k. h v w (later k)))
 
--- who stands in the queue without a job's place stands in the queue
+-- a waiter in the queue without a job's place is in the queue
 pub without-in : (j : ℕ) (q : List Waiter) {w : Waiter} → In w (without j q) → In w q
 unfolding without
 without-in j [] h = h
@@ -62,7 +62,7 @@ unfolding without
 in-without j {w = w} first n = rw (ne-eqb (w .job) j n) first
 in-without j (later {v = v} h) n = by-test (eqb (v .job) j) (λ t. rw t (in-without j h n)) (λ f. rw f (later (in-without j h n)))
 
--- a queue that falls does so without a job's place
+-- a queue that falls still falls without a job's place
 pub without-falling : (j : ℕ) (q : List Waiter) → Falling q → Falling (without j q)
 unfolding without
 without-falling j [] f = tt

@@ -1,4 +1,4 @@
--- A wait: the job's status says for which cell and with what ask, it and everybody still hold what they held, and it stands at the front for a promotion, else at the end (01, rules 2 and 3).
+-- A wait: the job's status says for which cell and with what ask; every job still holds what it held; and the job is at the front for a promotion, otherwise at the end (01, rules 2 and 3).
 -- Assumes nothing.
 use Prim.Native.Nat.{ℕ}
 use mathlib.Core.Path.{_≡_, refl, sym, ap}
@@ -30,6 +30,6 @@ queued-waits d r a q k h =
       next = refl;
     }
 
--- so of a job that waits by a step
+-- so it is for a job that a step makes wait
 pub waited-waits : {d : Desk} {r : Request} {j : ℕ} → (w : Waited d r j) → StartsToWait d (step d r .desk) r (w .ask) j
 waited-waits {d} {r} w = rw (w .job, w .outcome) (queued-waits d r (w .ask) (w .queue) (w .asking) (w .joins))

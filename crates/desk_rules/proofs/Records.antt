@@ -1,4 +1,4 @@
--- What the history records of a step of the lock desk, by its request and its answer: who asks, begins or retries and goes, and who waits, wakes nobody (01, Lines; 01, Slips to rule out, 5).
+-- What the history records of a step of the lock desk, by its request and its answer: a request that asks, begins or retries and goes wakes no job, and a wait wakes none (01, Lines; 01, Slips to rule out, 5).
 -- Assumes nothing.
 use mathlib.Core.Path.{_≡_, ap}
 use mathlib.Core.List.{[]}
@@ -12,7 +12,7 @@ use Rattle.desks.specs.Recorded.{Recorded}
 use Rattle.desks.proofs.Records.{recorded-by}
 use Rattle.desk_rules.proofs.AnswerTells.{AskWent, had, got, begin-went, retry-went, ask-went, ask-waited}
 
--- a request for a cell that goes wakes nobody
+-- a request for a cell that goes wakes no job
 none-woken : {d : Desk} {r : Request} {a : Ask} → AskWent d r a → step d r .wakes ≡ []
 none-woken (had h o) = unfold rule1 in ap (λ x. x .wakes) o
 none-woken (got m h k o) = unfold grant in ap (λ x. x .wakes) o

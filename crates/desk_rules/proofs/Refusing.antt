@@ -1,4 +1,4 @@
--- Refusals and answers: a refusal of the table exactly where it is the first that is due, and then nothing changes; else go, wait or back, with the job (01, Refusals by number; 01, Lines).
+-- Refusals and answers: a refusal of the table exactly if it is the first that is due, and then nothing changes; otherwise go, wait or back, with the job (01, Refusals by number; 01, Lines).
 -- Assumes nothing.
 use Prim.Native.Nat.{ℕ, _≤_}
 use mathlib.Core.Path.{_≡_, refl, ap}
@@ -28,7 +28,7 @@ use Rattle.desks.proofs.Refusing.{refused-due, refuses-by}
 use Rattle.desk_rules.proofs.Fields.{step-alike}
 use Rattle.desk_rules.proofs.AnswerTells.{ask-waited, ask-back}
 
--- where a refusal is due the desk is as it was, and nobody is woken
+-- if a refusal is due, the desk is as it was, and no job is woken
 pub due-refused : (d : Desk) (r : Request) (why : Refusal) → Due d r why → step d r ≡ refused d why
 due-refused = by-table.due-refused step dueOf named step-meant
 

@@ -1,4 +1,4 @@
--- One row after a run has ended: the job drops its lock and its place in the queue, and the row is settled. All that holds of it, told of the row as it was before.
+-- One row after a run has ended: the job drops its lock and its place in the queue, and the row is settled. Everything is told in terms of the row as it was before.
 -- Assumes nothing.
 use Prim.Native.Nat.{ℕ, _<_}
 use mathlib.Core.Path.{_≡_, sym, ap, subst, _∙_}
@@ -36,7 +36,7 @@ module _ (js : List ℕ) (j : ℕ) (held : ℕ → Mode) (q : List Waiter) where
     down = without-falling j q (r .down);
   }
 
-  -- what holds of the row so settled, told of the row before
+  -- what holds for the settled row, told in terms of the row before
   settled-releases : Ready js held q → (s : Settled) → Settles js (at held j Free) (without j q) s → Releases js j (record { held = held; queue = q }) s
   settled-releases r s t = record {
     dropped = t .kept j (λ w h. woken-other w h) ∙ at-same held j Free;
@@ -82,13 +82,13 @@ module _ {js : List ℕ} {j : ℕ} {r : Row} {s : Settled} (t : Releases js j r 
   pub woken-or-left : {P : Type 0} (w : Waiter) → In w (r .queue) → w .job ≢ j → (In w (s .woken) → P) → (In w (s .row .queue) → P) → P
   woken-or-left w h n = in-either (s .woken) (s .row .queue) (subst (In w) (t .parted) (in-without j h n))
 
-  -- who holds the cell is another job, and held it before or is woken
+  -- a holder of the cell is another job, and held it before or is woken
   pub holder-was : {P : Type 0} (i : ℕ) → isFree (s .row .held i) ≡ false → (i ≢ j → isFree (r .held i) ≡ false → P) → ((w : Waiter) → In w (s .woken) → w .job ≡ i → P) → P
   holder-was i f g h =
       by-place i (s .woken) h
       (λ n. let d : i ≢ j = λ e. not-both (ap isFree (ap (s .row .held) e ∙ t .dropped) ∙ free-is-free) f in g d (sym (ap isFree (t .kept i d n)) ∙ f))
 
-  -- a woken job holds what covers its need
+  -- a woken job holds a mode that covers its need
   pub woken-covers : (w : Waiter) → In w (s .woken) → covers (s .row .held (w .job)) (needed (w .ask)) ≡ true
   woken-covers w h = rw (t .takes w h) (wants-covers (r .held) w)
 

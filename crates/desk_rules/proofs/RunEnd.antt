@@ -1,4 +1,4 @@
--- A run ends on a desk as every started one is: each row is released, a job is woken where it is granted in the queue in which it waited, and only those.
+-- A run ends on a desk that keeps the invariant: each row is released, and exactly the jobs granted in the queues in which they waited are woken.
 -- Assumes nothing.
 use Prim.Native.Nat.{ℕ, _<_}
 use mathlib.Core.Path.{_≡_, refl, sym, ap, subst, _∙_}
@@ -26,7 +26,7 @@ use Rattle.desk_rules.proofs.Wakes.{WokenAt, woken-at, at-woken, woken-
 abbrev pub wakesAfter : Desk → ℕ → List Action
 wakesAfter d j = wakesOf (rowsAfter d j) cells
 
--- the statuses then, where the job gets the one given
+-- the statuses then, with the one given for the job
 abbrev pub statusAfter : Desk → ℕ → Status → ℕ → Status
 statusAfter d j s = runAgain (at (d .stat) j s) (wakesAfter d j)
 
@@ -46,11 +46,11 @@ module _ {d : Desk} (v : Inv d) (j : ℕ) where
   unfolding rowsAfter
   row-releases c = released-releases (d .jobs) j (d .row c) (row-ready v c)
 
-  -- who is granted in a queue is among the wakes
+  -- a job that is granted in a queue is among the wakes
   pub granted-woken : (c : ℕ) (w : Waiter) → In w (rowsAfter d j c .woken) → isWoken (w .job) (wakesAfter d j) ≡ true
   granted-woken c w h = at-woken (rowsAfter d j) cells c w (v .rows c .within w (row-releases c .woken-was w h)) h
 
-  -- who is among the wakes waited, and is granted in the queue in which it waited
+  -- a woken job waited, and is granted in the queue in which it waited
   pub woken-waited : (i : ℕ) → isWoken i (wakesAfter d j) ≡ true → (c : ℕ) × (a : Ask) × (d .stat i ≡ waiting c a) × In (record { job = i; ask = a }) (rowsAfter d j c .woken)
   woken-waited i t = told (woken-at (rowsAfter d j) cells i t)
     where
@@ -65,12 +65,12 @@ module _ {d : Desk} (v : Inv d) (j : ℕ) where
   self-not-woken =
       by-test (isWoken j (wakesAfter d j)) (λ t. let (c, a, e, h) = woken-waited j t in absurd (row-releases c .woken-other (record { job = j; ask = a }) h refl)) (λ f. f)
 
-  -- who did not wait is not among the wakes
+  -- a job that did not wait is not among the wakes
   pub others-not-woken : (i : ℕ) → ((c : ℕ) (a : Ask) → d .stat i ≢ waiting c a) → isWoken i (wakesAfter d j) ≡ false
   others-not-woken i n =
       by-test (isWoken i (wakesAfter d j)) (λ t. let (c, a, e, h) = woken-waited i t in absurd (n c a e)) (λ f. f)
 
-  -- nor is who is left in a queue
+  -- nor is a job that is left in a queue
   pub left-not-woken : (c : ℕ) (w : Waiter) → In w (rowsAfter d j c .row .queue) → isWoken (w .job) (wakesAfter d j) ≡ false
   left-not-woken c w h =
       by-test (isWoken (w .job) (wakesAfter d j)) (λ t. let (b, a, e, g) = woken-waited (w .job) t in absurd (twice b a e g)) (λ f. f)
@@ -85,15 +85,15 @@ module _ {d : Desk} (v : Inv d) (j : ℕ) where
   pub woken-after : (s : Status) (i : ℕ) → isWoken i (wakesAfter d j) ≡ true → statusAfter d j s i ≡ running
   woken-after s = woken-runs (at (d .stat) j s) (wakesAfter d j)
 
-  -- the job has the status it gets
+  -- the job has the status given to it
   pub self-after : (s : Status) → statusAfter d j s j ≡ s
   self-after s = others-stay (at (d .stat) j s) (wakesAfter d j) j self-not-woken ∙ at-same (d .stat) j s
 
-  -- everybody else is as before
+  -- every other job is as before
   pub others-after : (s : Status) (i : ℕ) → i ≢ j → isWoken i (wakesAfter d j) ≡ false → statusAfter d j s i ≡ d .stat i
   others-after s i n f = others-stay (at (d .stat) j s) (wakesAfter d j) i f ∙ at-other (d .stat) j s i n
 
-  -- so a status afterwards is one of three: running where the job waited and is woken, the one given, or as before
+  -- so each status afterwards is one of three: running, for a job that waited and is woken; the one given; or as before
   pub after-each : (s : Status) (P : Status → Type 0) (i : ℕ) → ((c : ℕ) (a : Ask) → i ≢ j → d .stat i ≡ waiting c a → P running) → (i ≡ j → P s) → (i ≢ j → isWoken i (wakesAfter d j) ≡ false → P (d .stat i)) → P (statusAfter d j s i)
   after-each s P i woken self else′ =
       wakened-each P (at (d .stat) j s) (wakesAfter d j) i

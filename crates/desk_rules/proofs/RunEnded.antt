@@ -1,4 +1,4 @@
--- A commit, a give-up and a sending back carry rule 4 out, and nobody is woken but by them (01, rule 4).
+-- A commit, a give-up and a sending back carry out rule 4, and only they wake jobs (01, rule 4).
 -- Assumes nothing.
 use Prim.Native.Nat.{ℕ}
 use mathlib.Core.Path.{_≡_, refl, ap, subst}
@@ -32,7 +32,7 @@ ran d r (by-commit l g) = let e = commit-went d r (r .job) l g .outcome in recor
 ran d r (by-give-up l g) = let e = give-up-went d r (r .job) l g .outcome in record { wakes = ap (λ o. o .wakes) e; row = λ c. ap (λ o. o .desk .row c) e }
 ran d r (by-back g) = let e = ask-back d r (r .job) g .outcome in record { wakes = ap (λ o. o .wakes) e; row = λ c. ap (λ o. o .desk .row c) e }
 
--- nobody is woken but by a commit, a give-up or a sending back, whatever the move
+-- in any move, only a commit, a give-up or a sending back wakes jobs
 pub only-rule-4 : {d : Desk} {r : Request} {o : Outcome} → Moved d r o → (o .wakes ≡ []) ⊎ RunEnds (o .said) r
 only-rule-4 (refuses why _) = unfold refused in inl refl
 only-rule-4 (begins l n m) = inl refl
@@ -46,7 +46,7 @@ only-rule-4 (enters b k f z w) = inl refl
 only-rule-4 (waits-last b k f z w u) = inl refl
 only-rule-4 (goes-back b k x) = inr (by-back (unfold rule4 in refl))
 
--- so a wake comes of rule 4, and was granted at a cell that is searched
+-- so a wake comes from rule 4, and was granted at a cell that is searched
 pub wake-ran : (d : Desk) (r : Request) (x : Action) → In x (step d r .wakes) → Ran d r × GrantedAt (rowsAfter d (r .job)) cells x
 wake-ran d r x m = by-side (only-rule-4 (step-moved d r))
   where

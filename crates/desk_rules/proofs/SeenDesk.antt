@@ -1,4 +1,4 @@
--- A started desk is known by all but its queues: each queue is who waits for the cell, the youngest first. So there is one paper's desk to see from a desk that keeps the rest.
+-- A started desk is fixed by everything but its queues: each queue is the jobs that wait for the cell, the youngest first. So a desk that keeps the rest shows exactly one desk of the paper.
 -- Assumes nothing.
 use Prim.Native.Nat.{ℕ, zero, suc, _<_}
 use mathlib.Core.Path.{_≡_, refl, sym, ap, ap₂, subst, _∙_}
@@ -15,7 +15,7 @@ use Rattle.desk_rules.specs.Seen.{inFront, waitersBelow, seenBy}
 use Rattle.laws.proofs.Standing.{in-none, in-split}
 use Rattle.desk_rules.proofs.Statuses.{waiting-open}
 
--- two queues that fall and have the same waiters are one
+-- two queues that fall and have the same waiters are equal
 pub falling-one : (p q : List Waiter) → Falling p → Falling q → ((w : Waiter) → In w p → In w q) → ((w : Waiter) → In w q → In w p) → p ≡ q
 falling-one [] [] f g to back = refl
 falling-one [] (v ∷ q) f g to back = in-none (back v first)
@@ -31,7 +31,7 @@ falling-one (u ∷ p) (v ∷ q) f g to back = ap₂ (λ x l. x ∷ l) heads (fal
     rest-back : (w : Waiter) → In w q → In w p
     rest-back w h = in-split (back w (later h)) (λ e. absurd (let l : w .job < v .job = g .0 w h in let m : w .job ≡ v .job = ap (λ x. x .job) (e ∙ heads) in omega arith)) (λ k. k)
 
--- who stands in a queue with a job that may stand in front is that job, which waits for the cell, or stood in it already
+-- a waiter in a queue with a job perhaps put in front is that job, which waits for the cell, or was in the queue already
 front-split : {P : Type 0} (c j : ℕ) (s : Status) (q : List Waiter) (w : Waiter) → In w (inFront c j s q) → (w .job ≡ j → s ≡ waiting c (w .ask) → P) → (In w q → P) → P
 unfolding inFront
 front-split c j closed q w h f g = g h
@@ -40,7 +40,7 @@ front-split {P} c j (waiting b a) q w h f g =
     by-test (eqb b c) (λ t. in-split (rw t at h) (λ e. f (ap (λ x. x .job) e) (ap₂ waiting (eqb-true b c t) (sym (ap (λ x. x .ask) e)))) g) (λ n. g (rw n at h))
 front-split c j sentback q w h f g = g h
 
--- who stood in it still does
+-- a waiter that was in it still is
 front-keeps : (c j : ℕ) (s : Status) (q : List Waiter) (w : Waiter) → In w q → In w (inFront c j s q)
 unfolding inFront
 front-keeps c j closed q w h = h
@@ -62,7 +62,7 @@ front-falls c j (waiting b a) q l f = by-test (eqb b c) (λ t. rw t (l, f)) (λ 
 front-falls c j sentback q l f = f
 
 module _ (stat : ℕ → Status) (c : ℕ) where
-  -- who stands in the queue is below n and waits for the cell
+  -- a waiter in the queue is below n and waits for the cell
   waiters-are : (n : ℕ) (w : Waiter) → In w (waitersBelow stat c n) → (w .job < n) × (stat (w .job) ≡ waiting c (w .ask))
   unfolding waitersBelow
   waiters-are zero w h = in-none h
@@ -70,7 +70,7 @@ module _ (stat : ℕ → Status) (c : ℕ) where
       front-split c n (stat n) (waitersBelow stat c n) w h
       (λ e s. (omega arith, ap stat e ∙ s)) (λ k. let (l, s) = waiters-are n w k in (omega arith, s))
 
-  -- and who is below n and waits for the cell stands in it
+  -- and a job that is below n and waits for the cell is in it
   waiters-all : (n j : ℕ) (a : Ask) → j < n → stat j ≡ waiting c a → In (record { job = j; ask = a }) (waitersBelow stat c n)
   unfolding waitersBelow
   waiters-all zero j a l e = absurd (omega arith)
@@ -85,13 +85,13 @@ module _ (stat : ℕ → Status) (c : ℕ) where
   waiters-fall zero = tt
   waiters-fall (suc n) = front-falls c n (stat n) (waitersBelow stat c n) (λ w h. waiters-are n w h .0) (waiters-fall n)
 
--- a started desk's queue is who waits for the cell, the youngest first
+-- a started desk's queue is the jobs that wait for the cell, the youngest first
 pub queue-seen : {d : Desk} → Inv d → (c : ℕ) → waitersBelow (d .stat) c (d .next) ≡ d .row c .queue
 queue-seen {d} v c =
     falling-one (waitersBelow (d .stat) c (d .next)) (d .row c .queue) (waiters-fall (d .stat) c (d .next)) (v .rows c .down)
     (λ w h. v .queues (w .job) c (w .ask) (waiters-are (d .stat) c (d .next) w h .1))
     (λ w h. let e = v .rows c .stands w h in waiters-all (d .stat) c (d .next) (w .job) (w .ask) (v .below (w .job) (waiting-open e)) e)
 
--- so it is the desk that is seen from the rest of it
+-- so a started desk is the desk that is seen from the rest of it
 pub seen-desk : {d : Desk} → Inv d → seenBy (d .next) (d .jobs) (d .stat) (λ c. d .row c .held) ≡ d
 seen-desk {d} v = λ i. record { next = d .next; jobs = d .jobs; stat = d .stat; row = λ c. record { held = d .row c .held; queue = queue-seen v c i } }

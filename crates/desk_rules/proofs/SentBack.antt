@@ -1,4 +1,4 @@
--- Who is sent back: only the job of a request that is answered so, and only while an older job is live.
+-- A job is sent back only by its own request, answered back, and only while an older job is live.
 -- Assumes nothing.
 use Prim.Native.Nat.{ℕ, _<_}
 use mathlib.Core.Path.{_≡_, refl, sym, ap}
@@ -26,7 +26,7 @@ use Rattle.desk_rules.proofs.Tests.{not-older-holders, not-older-waiter
 use Rattle.desk_rules.proofs.RunEnd.{after-each}
 use Rattle.desk_rules.proofs.KeptStatus.{no-place}
 
--- who stands in a running job's way by its age is live and older
+-- a job that stands in a running job's way by its age is live and older
 elder-live : {d : Desk} → Inv d → (j c : ℕ) → d .stat j ≡ running → Elder d j c → (i : ℕ) × (i < j) × (isLive (d .stat i) ≡ true)
 elder-live {d} v j c runs (holder h) = let (i, n, f, l) = not-older-holders (d .jobs) (d .row c .held) j h in (i, l, v .rows c .holds i f)
 elder-live {d} v j c runs (waiter f h) =
@@ -34,7 +34,7 @@ elder-live {d} v j c runs (waiter f h) =
     let n : w .job ≢ j = no-place (v .rows c) j (λ a. running-not-waiting runs) w k in
     (w .job, omega arith, waiting-live (v .rows c .stands w k))
 
--- where a step answers back, an older job is live
+-- if a step answers back, an older job is live
 pub back-older : {d : Desk} → Inv d → (r : Request) (j : ℕ) → step d r .said ≡ Back j → (i : ℕ) × (i < j) × (isLive (d .stat i) ≡ true)
 back-older {d} v r j e = let c = ask-back d r j e in rw (c .job) (elder-live v (r .job) (r .cell) (c .was .1 .runs) (c .was .2))
 
@@ -58,7 +58,7 @@ module _ {d : Desk} (v : Inv d) (j : ℕ) (live : isLive (d .stat j) ≡ true) w
   not-back-ended i s js said n e =
       absurd (after-each v i s (λ x. x ≢ sentback) j (λ _ _ _ _. live-not-back (running-live refl)) (λ _. n) (λ _ _. live-not-back live) e)
 
-  -- a live job that is sent back by a move is told so
+  -- a live job that a move sends back is told so
   pub moved-told : {r : Request} {o : Outcome} → Moved d r o → o .desk .stat j ≡ sentback → o .said ≡ Back j
   unfolding refused rule4 withRow withStatus
   moved-told (refuses why _) e = absurd (live-not-back live e)

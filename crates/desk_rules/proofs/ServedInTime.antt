@@ -68,7 +68,7 @@ module _ {d : Desk} (v : Inv d) (r : Request) (rs : List Request) (c : ℕ) (w :
       in-time (i, way, e) =
           (i, step-undisturbed v r c w k h .ways i way, ended-neither i (events d r) (historyOf (step d r .desk) (s .before)) (step-not-ended v r c w k i way) e)
 
-  -- one request more, where what is claimed of the rest is known
+  -- one more request, given the claim for the rest
   one-more : Patient (from d) c w (r ∷ rs) → (IsWaiting (step d r .desk) c w → Patient (from (step d r .desk)) c w rs → Waits (deskAfter (step d r .desk)) c w rs ⊎ Served (from (step d r .desk)) c w rs) → Waits (deskAfter d) c w (r ∷ rs) ⊎ Served (from d) c w (r ∷ rs)
   one-more p more = by-side (step-on v r c w k (p [] r rs refl k))
     where
@@ -97,7 +97,7 @@ module _ {d : Desk} {h : History} (s : Started d h) where
   v : Inv d
   v = started-inv s
 
-  -- who is in a waiter's way after some requests
+  -- some job is in a waiter's way after some requests
   blocker : (c : ℕ) (w : Waiter) (rs : List Request) → Waits (deskAfter d) c w rs → (i : ℕ) × InWay (deskAfter d rs .row c) w i
   blocker c w rs x = way-some (started-inv (run-started s rs)) c w (waits-end c w d rs x)
 

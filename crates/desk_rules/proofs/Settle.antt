@@ -1,4 +1,4 @@
--- Settling one row: what is woken stands ahead of what is left, locks only grow, a woken job holds what it wanted, and what holds of every row holds again. By one induction on the queue.
+-- Settling one row: the woken stood ahead of those left, locks only grow, a woken job holds what it wanted, and the invariant of rows holds again. By one induction on the queue.
 -- Assumes nothing.
 use Prim.Native.Nat.{ℕ, _<_}
 use mathlib.Core.Path.{_≡_, refl, sym, ap, subst, _∙_}
@@ -23,7 +23,7 @@ use Rattle.desk_rules.proofs.AheadLaws.{ahead-none, ahead-split, ahead-
 use Rattle.laws.proofs.Functions.{at-same, at-other, at-each}
 use Rattle.desk_rules.proofs.Tests.{agrees-each, agrees-not}
 
--- a row that can be settled: who holds and who waits is listed, and it is as every row is but for the blocker
+-- a row that can be settled: its holders and waiters are listed, and it keeps the invariant except for the blocker
 pub record Ready (js : List ℕ) (held : ℕ → Mode) (q : List Waiter) : Type 0 where
   pub seats : Seated js held
   pub waits : (w : Waiter) → In w q → member (w .job) js ≡ true
@@ -33,7 +33,7 @@ pub record Ready (js : List ℕ) (held : ℕ → Mode) (q : List Waiter) : Type 
 
 -- a row that was settled
 pub record Settles (js : List ℕ) (held : ℕ → Mode) (q : List Waiter) (s : Settled) : Type 0 where
-  -- what is woken stands ahead of what is left
+  -- the woken stood ahead of those left
   pub parted : q ≡ s .woken ++ s .row .queue
   -- a job that is not woken holds what it held
   pub kept : (i : ℕ) → ((w : Waiter) → In w (s .woken) → w .job ≢ i) → s .row .held i ≡ held i
@@ -44,7 +44,7 @@ pub record Settles (js : List ℕ) (held : ℕ → Mode) (q : List Waiter) (s : 
   pub in-turn : (v w : Waiter) → Ahead v w (s .woken) → grants (wants held v) (wants held w) ≡ true
   -- locks only grow
   pub grown : (i : ℕ) → covers (s .row .held i) (held i) ≡ true
-  -- holders are listed, beside each other and younger than the waiters left, the queue falls, and whoever is first in it is blocked
+  -- holders are listed, may hold together and are younger than the waiters left; the queue falls; and the first waiter left is blocked
   pub seats : Seated js (s .row .held)
   pub pairs : (i j : ℕ) → i ≢ j → beside (s .row .held i) (s .row .held j) ≡ true
   pub elder : (w : Waiter) (i : ℕ) → In w (s .row .queue) → i ≢ w .job → isFree (s .row .held i) ≡ false → w .job < i
@@ -61,12 +61,12 @@ pub wants-grows : (held : ℕ → Mode) (w : Waiter) → covers (wants held w) (
 unfolding wants
 wants-grows held w = asked-grows (held (w .job)) (needed (w .ask))
 
--- what a waiter wants depends on what it holds alone
+-- what a waiter wants depends only on what it holds
 pub wants-same : (f g : ℕ → Mode) (w : Waiter) → f (w .job) ≡ g (w .job) → wants f w ≡ wants g w
 unfolding wants
 wants-same f g w e = ap (λ m. asked m (needed (w .ask))) e
 
--- a job that takes a mode granted next to every other job leaves the locks beside each other
+-- if a job takes a mode granted beside every other job, the locks may still be held together
 pub taking-pairs : (held : ℕ → Mode) (j : ℕ) (m : Mode) → ((i : ℕ) → i ≢ j → grants (held i) m ≡ true) → ((i k : ℕ) → i ≢ k → beside (held i) (held k) ≡ true) → (i k : ℕ) → i ≢ k → beside (at held j m i) (at held j m k) ≡ true
 taking-pairs held j m g p i k n =
     at-each (λ x. beside x (at held j m k) ≡ true) held j m i
@@ -86,13 +86,13 @@ module _ (js : List ℕ) (held : ℕ → Mode) (w : Waiter) (q : List Waiter) (r
     down = r .down .1;
   }
 
-  -- who is woken further is another job
+  -- a job woken later is another job
   woken-other : (s : Settled) → Settles js (at held (w .job) (wants held w)) q s → (v : Waiter) → In v (s .woken) → v .job ≢ w .job
   woken-other s t v h e =
       let l : v .job < w .job = r .down .0 v (subst (In v) (sym (t .parted)) (in-left (s .row .queue) h)) in
       omega arith
 
-  -- who is woken further wants what it wanted
+  -- a job woken later wants what it wanted
   wanted : (s : Settled) → Settles js (at held (w .job) (wants held w)) q s → (v : Waiter) → In v (s .woken) → wants (at held (w .job) (wants held w)) v ≡ wants held v
   wanted s t v l = wants-same (at held (w .job) (wants held w)) held v (at-other held (w .job) (wants held w) (v .job) (woken-other s t v l))
 
@@ -124,7 +124,7 @@ module _ (js : List ℕ) (held : ℕ → Mode) (w : Waiter) (q : List Waiter) (r
     blocked = t .blocked;
   }
 
--- where whoever is first is blocked, the search stops and nothing changes
+-- if the first waiter is blocked, the search stops and nothing changes
 stopped-settles : (js : List ℕ) (held : ℕ → Mode) (q : List Waiter) → Ready js held q → FirstBlocked held q → Settles js held q (record { row = record { held = held; queue = q }; woken = [] })
 stopped-settles js held q r b = record {
   parted = refl;
@@ -140,7 +140,7 @@ stopped-settles js held q r b = record {
   blocked = b;
 }
 
--- settling a row that can be settled: at a waiter that does not agree the search stops, since some other job is in its way
+-- settling a row that can be settled: at a waiter that does not agree the search stops, since another job is in its way
 pub settle-settles : (js : List ℕ) (held : ℕ → Mode) (q : List Waiter) → Ready js held q → Settles js held q (settle js held q)
 unfolding settle
 settle-settles js held [] r = stopped-settles js held [] r tt

@@ -1,4 +1,4 @@
--- One step beside a job that holds U or X: nobody else gets a lock on that cell; and when a job gets its U, whoever is older and holds the cell held it before (02, No. 1).
+-- One step beside a job that holds U or X: no other job gets a lock on that cell. When a job gets its U, every older holder of the cell held it before (02, No. 1).
 -- Assumes nothing.
 use Prim.Native.Nat.{ℕ, _<_}
 use mathlib.Core.Path.{_≡_, refl, sym, ap, subst, _∙_}
@@ -29,15 +29,15 @@ use Rattle.desk_rules.proofs.Tests.{agrees-each}
 use Rattle.desk_rules.proofs.RunEnd.{row-ready, row-releases}
 
 module _ {d : Desk} (v : Inv d) (x c : ℕ) where
-  -- what a job holds of the cell once the run of job x has ended
+  -- what a job holds on the cell once the run of job x has ended
   abbrev after : ℕ → Mode
   after = rowsAfter d x c .row .held
 
-  -- who still holds something is not the job whose run ended
+  -- a job that still holds something is not the one whose run ended
   not-ended : (i : ℕ) → isFree (after i) ≡ false → i ≢ x
   not-ended i f e = not-both (rw (e, row-releases v x c .dropped) free-is-free) f
 
-  -- nobody is granted the cell beside a job that shuts others out before and after
+  -- no job is granted the cell beside a job that shuts others out before and after
   none-granted : (w : Waiter) → In w (rowsAfter d x c .woken) → (j : ℕ) → j ≢ w .job → shutsOut (d .row c .held j) ≡ true → shutsOut (after j) ≡ true → isFree (after (w .job)) ≡ true
   none-granted w k j n h g =
       let t = row-releases v x c in
@@ -46,7 +46,7 @@ module _ {d : Desk} (v : Inv d) (x c : ℕ) where
       (unfold wants in rw (← t .takes u l) (t .pairs (w .job) (u .job) (λ p. n (sym (p ∙ e))))))
       (λ none. rw (t .takes w k) (shut-free (d .row c .held j) (wants (d .row c .held) w) h (t .fits w k j n (not-ended j (shut-held (after j) g)) none)))
 
-  -- so whoever else holds the cell then held it before, in the same mode
+  -- so every other holder of the cell then held it before, in the same mode
   ended-beside : (i j : ℕ) → i ≢ j → shutsOut (d .row c .held j) ≡ true → shutsOut (after j) ≡ true → isFree (after i) ≡ false → after i ≡ d .row c .held i
   ended-beside i j n h g f =
       by-place i (rowsAfter d x c .woken)
@@ -61,7 +61,7 @@ module _ {d : Desk} (v : Inv d) (x c : ℕ) where
       rw (t .takes w l) (shut-free (wants (d .row c .held) u) (wants (d .row c .held) w) (u-shuts _ (sym (t .takes u k) ∙ e))
       (t .in-turn u w (younger-ahead u w (rowsAfter d x c .woken) down k l o)))
 
-  -- so where a job gets its U, whoever is older and holds the cell then held it before
+  -- so when a job gets its U, every older holder of the cell then held it before
   ended-got : (i j : ℕ) → i < j → shutsOut (d .row c .held j) ≡ false → after j ≡ U → isFree (after i) ≡ false → after i ≡ d .row c .held i
   ended-got i j o h e f =
       let t = row-releases v x c in
@@ -87,7 +87,7 @@ module _ {d : Desk} (v : Inv d) (r : Request) (c i j : ℕ) where
       (λ _ _. ap (λ b. d .row b .held i) (sym e)))
       (λ _ _. refl)
 
-  -- where a job so gets its U, every other job holds what it held
+  -- when a job gets its U this way, every other job holds what it held
   taken-got : (m : Mode) → i ≢ j → shutsOut (d .row c .held j) ≡ false →
       let row = at (d .row) (r .cell) (record { held = at (heldThere d r) (r .job) m; queue = queueThere d r }) c in
       row .held j ≡ U → row .held i ≡ d .row c .held i
@@ -98,7 +98,7 @@ module _ {d : Desk} (v : Inv d) (r : Request) (c i j : ℕ) where
       (λ _. ap (λ b. d .row b .held i) (sym e)))
       (λ _ _. refl)
 
-  -- in every move whoever else holds the cell beside a job that shuts others out before and after held it before, in the same mode
+  -- in every move, if a job shuts others out before and after, every other holder of the cell held it before, in the same mode
   pub moved-beside : {o : Outcome} → Moved d r o → i ≢ j → shutsOut (d .row c .held j) ≡ true → shutsOut (o .desk .row c .held j) ≡ true → isFree (o .desk .row c .held i) ≡ false → o .desk .row c .held i ≡ d .row c .held i
   unfolding refused withRow withStatus rule4
   moved-beside (refuses why _) n h g f = refl
@@ -113,7 +113,7 @@ module _ {d : Desk} (v : Inv d) (r : Request) (c i j : ℕ) where
   moved-beside (waits-last b k e z w u) n h g f = same-held _
   moved-beside (goes-back b k x) n h g f = ended-beside v (r .job) c i j n h g f
 
-  -- and whoever is older than a job that gets its U, and holds the cell then, held it before
+  -- and when a job gets its U, every older holder of the cell then held it before
   pub moved-got : {o : Outcome} → Moved d r o → i < j → shutsOut (d .row c .held j) ≡ false → o .desk .row c .held j ≡ U → isFree (o .desk .row c .held i) ≡ false → o .desk .row c .held i ≡ d .row c .held i
   unfolding refused withRow withStatus rule4
   moved-got (refuses why _) l h g f = refl

@@ -1,4 +1,4 @@
--- Whenever a job waits, some younger job is live and not waiting: it runs (demand 3, first sentence). From a waiter to one in its way, each younger than the one before, until one runs: the numbers above a waiter's run out.
+-- Whenever a job waits, some younger job is live and not waiting: it runs (demand 3, first sentence). The proof goes from a waiter to a job in its way, each younger than the one before, until one runs: the numbers above a waiter's run out.
 -- Assumes nothing.
 use Prim.Native.Nat.{ℕ, zero, suc, _+_, _<_, _≤_}
 use mathlib.Core.Path.{_≡_, refl}
@@ -19,7 +19,7 @@ live-split running h f g = f refl
 live-split (waiting c a) h f g = g c a refl
 live-split sentback h f g = not-both h refl
 
--- a job that waits has a younger one that runs: the numbers above it that were given are at most n
+-- a waiting job has a younger one that runs; at most n numbers above it were given
 pub runs-above : {d : Desk} → Inv d → (n j c : ℕ) (a : Ask) → d .next ≤ j + n → d .stat j ≡ waiting c a → (i : ℕ) × (j < i) × (d .stat i ≡ running)
 runs-above v zero j c a l e = absurd (omega (arith, v .below j (waiting-open e)))
 runs-above {d} v (suc n) j c a l e =

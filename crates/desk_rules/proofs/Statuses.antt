@@ -1,4 +1,4 @@
--- What a status says: who is open, who is live, and that a job waits for one cell with one ask or not at all.
+-- What a status says: which jobs are open, which are live, and that a job waits for one cell with one ask or not at all.
 -- Assumes nothing.
 use Prim.Native.Nat.{ℕ}
 use mathlib.Core.Path.{_≡_, refl}

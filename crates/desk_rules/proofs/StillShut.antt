@@ -1,4 +1,4 @@
--- Through any requests beside a job that holds U or X, as long as its run has not ended: it still does, and its other holders only grow fewer; so who is in its way when it is sent back held S since before it got its U (02, No. 1).
+-- Through any requests beside a job that holds U or X, while its run has not ended: it still holds U or X, and its other holders only become fewer. So a job in its way when it is sent back held S since before it got its U (02, No. 1).
 -- Assumes nothing.
 use Prim.Native.Nat.{ℕ}
 use mathlib.Core.Path.{_≡_, refl, sym, ap, _∙_}
@@ -30,18 +30,18 @@ neither j g h e =
     let f = sym (ended-append j g h) ∙ e in
     (nor-first (ended j g) (ended j h) f, nor-second (ended j g) (ended j h) f)
 
--- what holds of every started desk holds after any requests
+-- the invariant holds after any requests
 pub run-inv : {d : Desk} → Inv d → (rs : List Request) → Inv (deskAfter d rs)
 run-inv v [] = v
 run-inv v (r ∷ rs) = run-inv (step-inv v r) rs
 
 module _ (c j : ℕ) where
-  -- a step that does not end its run leaves a job that shuts others out shutting them out
+  -- after a step that does not end its run, a job that shuts others out still does
   pub step-shuts : {d : Desk} → Inv d → (r : Request) → ended j (events d r) ≡ false → shutsOut (d .row c .held j) ≡ true → shutsOut (step d r .desk .row c .held j) ≡ true
   step-shuts {d} v r e h =
       ⊎-elim (λ k. shut-grows (d .row c .held j) (step d r .desk .row c .held j) k h) (λ t. not-both t e) (moved-held v r j c (step-moved d r) refl)
 
-  -- so do requests
+  -- and so after any requests
   pub still-shuts : {d : Desk} → Inv d → (rs : List Request) → ended j (historyOf d rs) ≡ false → shutsOut (d .row c .held j) ≡ true → shutsOut (deskAfter d rs .row c .held j) ≡ true
   unfolding writes
   still-shuts v [] e h = h
@@ -49,7 +49,7 @@ module _ (c j : ℕ) where
       let (p, q) = neither j (events d r) (historyOf (step d r .desk) rs) e in
       still-shuts (step-inv v r) rs q (step-shuts v r p h)
 
-  -- and whoever else holds the cell after them held it before them, in the same mode
+  -- and every other holder of the cell after them held it before them, in the same mode
   pub fewer-through : {d : Desk} → Inv d → (rs : List Request) (i : ℕ) → i ≢ j → shutsOut (d .row c .held j) ≡ true → ended j (historyOf d rs) ≡ false → isFree (deskAfter d rs .row c .held i) ≡ false → deskAfter d rs .row c .held i ≡ d .row c .held i
   unfolding writes
   fewer-through v [] i n h e f = refl

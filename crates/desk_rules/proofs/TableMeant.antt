@@ -1,4 +1,4 @@
--- The step follows the refusal table: a walk through the letters and what the job is doing, made once (01, Refusals by number).
+-- The step follows the refusal table: one walk through the letters and what the job is doing (01, Refusals by number).
 -- Assumes nothing.
 use Prim.Native.Nat.{ℕ}
 use mathlib.Core.Path.{refl}

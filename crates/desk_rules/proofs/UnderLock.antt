@@ -1,4 +1,4 @@
--- Each action that the desk writes is done under a mode that covers it and may stand beside every other holder's, and stays under one until its run ends (01, The desk's rules).
+-- Each action that the desk writes is done under a mode that covers it and may stand beside every other holder's; and it stays under one until its run ends (01, The desk's rules).
 -- Assumes nothing.
 use Prim.Native.Nat.{ℕ}
 use mathlib.Core.Path.{_≡_, refl, sym, _∙_, subst}
@@ -36,7 +36,7 @@ use Rattle.desk_rules.proofs.WakeOrder.{GrantedAt, search-order}
 use Rattle.desk_rules.proofs.WakeRecords.{recorded-wake}
 use Rattle.laws.proofs.Standing.{in-none, in-split}
 
--- what an action of a step was asked by, and the lock that it is under after the step
+-- the request that an action of a step was asked by, and the lock that it is under after the step
 abbrev Locked : Desk → Request → Desk → Action → Type 0
 Locked d r e x = (a : Ask) × AskedBy d r x a × UnderLock e x a
 
@@ -79,7 +79,7 @@ module _ {d : Desk} (v : Inv d) {r : Request} where
   wrote-locked {o} (mark m s js said open′ last′ _) x h =
       in-split h no-mark (λ k. woken-locked (o .desk) x (λ c. refl) (search-order (rowsAfter d (r .job)) cells .granted (recorded-wake (wakesAfter d (r .job)) k)))
 
--- beside an action under a lock nobody else holds a mode that lets one that does not agree with it
+-- beside an action under a lock, no other job holds a mode that lets it do a disagreeing action
 kept-out : (e : Desk) (x : Action) (a : Ask) → UnderLock e x a → (i : ℕ) → i ≢ x .job → (l : Kind) → agree (x .kind) l ≡ false → lets (e .row (x .cell) .held i) l ≡ false
 kept-out e x a u i n l f =
     covering-keeps-out (e .row (x .cell) .held (x .job)) (e .row (x .cell) .held i) a l (u .covered) (beside-sym (e .row (x .cell) .held (x .job)) (e .row (x .cell) .held i) ∙ u .besides i n)

@@ -1,4 +1,4 @@
--- The update lock, of every started desk: what goes beside what, what a mode becomes, that nobody gets in beside a U or an X, who is sent back from a U, how u is recorded and when it is refused (02, No. 1).
+-- The update lock, for every started desk: what goes beside what, what a mode becomes, that no job gets in beside a U or an X, when the holder of a U is sent back, how u is recorded and when it is refused (02, No. 1).
 -- Assumes nothing.
 use Prim.Native.Nat.{ℕ, _<_}
 use mathlib.Core.Path.{_≡_, refl, sym, ap, ap₂, subst, subst₂, _∙_}
@@ -80,7 +80,7 @@ module _ {d : Desk} {h : History} (s : Started d h) where
   goes-beside-s : (r : Request) → Enters d r Update → queueThere d r ≡ [] → ((i : ℕ) → OtherHolder d r i → heldThere d r i ≡ S) → step d r .said ≡ Go (r .job)
   goes-beside-s r e q all = decides s r Update .entry-goes e q (λ i o. rw (all i o, needs-exactly .3) (beside-held-s U .1 (inr (inr refl))))
 
-  -- nobody goes beside a U or an X with a mode that it did not have
+  -- no job goes beside a U or an X with a mode that it did not have
   not-beside : (r : Request) (a : Ask) → Asking d r a → covers (ownMode d r) (needed a) ≡ false → (i : ℕ) → OtherHolder d r i → shutsOut (heldThere d r i) ≡ true → step d r .said ≢ Go (r .job)
   not-beside r a k n i o t g =
       not-both (sym (shut-grants (heldThere d r i) (askedThere d r a) t) ∙ decides s r a .goes-agreeing k n g i o)
@@ -110,7 +110,7 @@ module _ {d : Desk} {h : History} (s : Started d h) where
       let same : x ≡ record { kind = Read; job = j; cell = c } = λ i. record { kind = kind i; job = e i; cell = f i } in
       in-right (ownRecords r (step d r .said)) (subst (λ y. In (Does y) (wakeRecords (step d r .wakes))) same (wake-recorded k))
 
-  -- who else holds a cell whose holder shuts others out is as before, or that holder's run ended
+  -- every other holder of a cell whose holder shuts others out is as before, or that holder's run ended
   no-new : (r : Request) (c i j : ℕ) → i ≢ j → shutsOut (d .row c .held j) ≡ true → isFree (step d r .desk .row c .held i) ≡ false → (step d r .desk .row c .held i ≡ d .row c .held i) ⊎ (ended j (events d r) ≡ true)
   no-new r c i j n t f =
       by-test (ended j (events d r)) inr (λ e. inl (moved-beside v r c i j (step-moved d r) n t (step-shuts c j v r e t) f))
@@ -120,7 +120,7 @@ module _ {d : Desk} {h : History} (s : Started d h) where
   elder-holder {e} w j c t (holder o) = let (i, n, f, l) = not-older-holders (e .jobs) (e .row c .held) j o in (i, l, f)
   elder-holder {e} w j c t (waiter f o) = not-both f (shut-held (e .row c .held j) t)
 
-  -- who holds the cell of a job that has its U, and is older, has held S since before that got it
+  -- an older holder of the cell where a job has its U has held S since before that job got it
   held-since : (got : Request) (rest : List Request) (j c i : ℕ) → HasU (from d) got rest j c → i < j → isFree (deskAfter (step d got .desk) rest .row c .held i) ≡ false → HeldSince (from d) got rest i c
   held-since got rest j c i u l g =
       let mid = step d got .desk in

@@ -1,4 +1,4 @@
--- What a step is to a waiter: the end of another job's run, its own give-up, or a step that leaves it waiting, its lock as it was, and nobody new in its way. The one place that follows the moves for it.
+-- What a step is to a waiter: the end of another job's run, its own give-up, or a step that leaves it waiting, its lock as it was and no new job in its way. Only this file follows the moves for it.
 -- Assumes nothing.
 use Prim.Native.Nat.{ℕ, _<_}
 use mathlib.Core.Path.{_≡_, refl, sym, ap, subst, _∙_}
@@ -27,7 +27,7 @@ use Rattle.desk_rules.proofs.Tests.{empty-queue}
 use Rattle.desk_rules.proofs.AheadLaws.{ahead-split, ahead-last}
 use Rattle.desk_rules.proofs.InTheWay.{waiter-in}
 
--- from one row to another the waiter's lock stays, and nobody new comes in its way
+-- from one row to another the waiter's lock stays, and no new job comes in its way
 pub record Undisturbed (w : Waiter) (r s : Row) : Type 0 where
   pub hold : s .held (w .job) ≡ r .held (w .job)
   pub ways : (i : ℕ) → InWay s w i → InWay r w i
@@ -71,7 +71,7 @@ module _ {d : Desk} (v : Inv d) (r : Request) (c : ℕ) (w : Waiter) (k : IsWait
   runs-other : (j : ℕ) → d .stat j ≡ running → w .job ≢ j
   runs-other j e p = running-not-waiting e (sym (ap (d .stat) p) ∙ k)
 
-  -- so is one that was sent back
+  -- a job that was sent back is another job
   back-other : (j : ℕ) → d .stat j ≡ sentback → w .job ≢ j
   back-other j e p = sentback-not-waiting e (sym (ap (d .stat) p) ∙ k)
 
@@ -87,7 +87,7 @@ module _ {d : Desk} (v : Inv d) (r : Request) (c : ℕ) (w : Waiter) (k : IsWait
   waits-still : (j : ℕ) (s : Status) → w .job ≢ j → at (d .stat) j s (w .job) ≡ waiting c (w .ask)
   waits-still j s n = at-other (d .stat) j s (w .job) n ∙ k
 
-  -- every move is one of these to it
+  -- every move is one of these to a waiter
   pub moved-sees : {o : Outcome} → Moved d r o → Sees d r c w o
   unfolding refused withRow withStatus
   moved-sees (refuses why _) = calm k (same-row w (d .row c))

@@ -1,4 +1,4 @@
--- One step of a waiter: it waits on or is granted its cell, unless it gives up; while it waits, its lock stays as it was, and whoever is in its way was so before and has not ended a run.
+-- One step of a waiter: it goes on waiting or is granted its cell, unless it gives up. While it waits, its lock stays as it was, and every job in its way was there before and has not ended a run.
 -- Assumes nothing.
 use Prim.Native.Nat.{ℕ, _<_}
 use mathlib.Core.Path.{_≡_, refl, sym, ap, subst, _∙_}
@@ -63,7 +63,7 @@ module _ {d : Desk} (v : Inv d) (j c : ℕ) (w : Waiter) (k : IsWaiting d c w) w
   ended-on s js said n =
       by-test (isWoken (w .job) (wakesAfter d j)) (λ t. inr (granted-there s js said (woken-there t))) (λ f. inl (others-after v j s (w .job) n f ∙ k))
 
-  -- where it is left in its queue, its lock stays, and who is in its way was so before: who holds the cell now held it or was woken, and then stood ahead
+  -- if it is left in its queue, its lock stays, and a job in its way was there before: a holder of the cell now held it before, or was woken and so stood ahead
   left-undisturbed : In w (rowsAfter d j c .row .queue) → Undisturbed w (d .row c) (rowsAfter d j c .row)
   left-undisturbed h = record { hold = left-kept (row-releases v j c) w h; ways = by-way }
     where
@@ -91,7 +91,7 @@ module _ {d : Desk} (v : Inv d) (r : Request) (c : ℕ) (w : Waiter) (k : IsWait
   pub step-on : (GivesUp (w .job) r → ⊥) → IsWaiting (step d r .desk) c w ⊎ Granted (step d r) c w (wants (d .row c .held) w)
   step-on = sees-on (moved-sees v r c w k (step-moved d r))
 
-  -- after a step after which it waits its lock is as it was, and nobody new is in its way
+  -- if it waits after a step, its lock is as it was, and no new job is in its way
   sees-undisturbed : {o : Outcome} → Sees d r c w o → Inv (o .desk) → IsWaiting (o .desk) c w → Undisturbed w (d .row c) (o .desk .row c)
   sees-undisturbed (calm h u) x y = u
   sees-undisturbed (run-ends s js said g) x y = unfold rule4 in left-undisturbed v (r .job) c w k (waiter-in x c w y)
@@ -99,7 +99,7 @@ module _ {d : Desk} (v : Inv d) (r : Request) (c : ℕ) (w : Waiter) (k : IsWait
   pub step-undisturbed : IsWaiting (step d r .desk) c w → Undisturbed w (d .row c) (step d r .desk .row c)
   step-undisturbed = sees-undisturbed (moved-sees v r c w k (step-moved d r)) (step-inv v r)
 
-  -- and whoever is in its way has not ended a run in that step
+  -- and a job in its way has not ended a run in that step
   wrote-not-ended : {o : Outcome} {h : History} → Wrote d r o h → (i : ℕ) → InWay (o .desk .row c) w i → ended i h ≡ false
   unfolding rule4
   wrote-not-ended (nothing g) i way = ended-is i [] ∙ marked-none isEnd i

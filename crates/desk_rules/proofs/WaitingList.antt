@@ -1,4 +1,4 @@
--- The list of the waiting jobs names just those who wait, in ascending order (02, No. 3).
+-- The list of the waiting jobs names exactly the jobs that wait, in ascending order (02, No. 3).
 -- Assumes nothing.
 use Prim.Native.Nat.{ℕ, zero, suc, _<_}
 use mathlib.Core.Path.{_≡_, refl, sym, ap, subst, _∙_}
@@ -17,7 +17,7 @@ use Rattle.desk_rules.specs.Table.{isWaiting}
 use Rattle.desks.specs.Requests.{Rising}
 use Rattle.desk_rules.specs.Chain.{waitingBelow}
 
--- a list that rises and then a number above all of it
+-- a list that rises, followed by a number above all of it, rises
 pub rising-last : (ns : List ℕ) (n : ℕ) → Rising ns → ((m : ℕ) → member m ns ≡ true → m < n) → Rising (ns ++ n ∷ [])
 rising-last [] n r h = (λ m t. member-none m t, tt)
 rising-last (k ∷ ns) n r h = (
@@ -32,7 +32,7 @@ put-last true ns n = (λ _. refl, λ f. not-both refl f)
 put-last false ns n = (λ t. not-both t refl, λ _. append-nil ns)
 
 module _ (stat : ℕ → Status) where
-  -- with one job more: it is listed last where it waits, and else nothing changes
+  -- with one more job: it is listed last if it waits, and otherwise nothing changes
   pub more-waits : (n : ℕ) → isWaiting (stat n) ≡ true → waitingBelow stat (suc n) ≡ waitingBelow stat n ++ n ∷ []
   unfolding waitingBelow
   more-waits n t = put-last (isWaiting (stat n)) (waitingBelow stat n) n .0 t
@@ -41,7 +41,7 @@ module _ (stat : ℕ → Status) where
   unfolding waitingBelow
   more-not n f = put-last (isWaiting (stat n)) (waitingBelow stat n) n .1 f
 
-  -- who is listed is below and waits
+  -- a job that is listed is below n and waits
   pub listed-waits : (n j : ℕ) → member j (waitingBelow stat n) ≡ true → (j < n) × (isWaiting (stat j) ≡ true)
   listed-waits zero j h = member-none j (unfold waitingBelow in h)
   listed-waits (suc n) j h =
@@ -51,7 +51,7 @@ module _ (stat : ℕ → Status) where
       (λ m. member-split n [] j m (λ e. (omega (arith, e), subst (λ x. isWaiting (stat x) ≡ true) e t)) (member-none j)))
       (λ f. let (l, w) = listed-waits n j (ap (member j) (sym (more-not n f)) ∙ h) in (omega arith, w))
 
-  -- and who is below and waits is listed
+  -- and a job that is below n and waits is listed
   pub waits-listed : (n j : ℕ) → j < n → isWaiting (stat j) ≡ true → member j (waitingBelow stat n) ≡ true
   waits-listed zero j l w = absurd (omega arith)
   waits-listed (suc n) j l w =

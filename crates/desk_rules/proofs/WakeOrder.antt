@@ -1,4 +1,4 @@
--- What a search of cells wakes: exactly those granted at some cell that is searched, those of a smaller cell first and those of one cell as they stood (01, rule 4).
+-- What a search of cells wakes: exactly the jobs granted at some cell that is searched, those of a smaller cell first, and those of one cell in the order of its queue (01, rule 4).
 -- Assumes nothing.
 use Prim.Native.Nat.{ℕ, zero, suc, _<_}
 use mathlib.Core.Path.{_≡_, refl, ap, subst}
@@ -25,22 +25,22 @@ pub record GrantedAt (s : ℕ → Settled) (n : ℕ) (x : Action) : Type 0 where
   pub granted : In waiter (s cell .woken)
   pub is : x ≡ wake cell waiter
 
--- x comes before y in the search: its cell is the smaller, or both were granted at one cell, x ahead of y
+-- x comes before y in the search: its cell is smaller, or both were granted at one cell, x ahead of y
 pub data Searched (s : ℕ → Settled) (x y : Action) : Type 0 where
   smaller-cell : x .cell < y .cell → Searched s x y
   granted-ahead : (c : ℕ) (v w : Waiter) → x ≡ wake c v → y ≡ wake c w → Ahead v w (s c .woken) → Searched s x y
 
--- the wakes of the first n cells: each was granted at one of them, whoever was granted there is among them, and they are told in the order of the search
+-- the wakes of the first n cells: each was granted at one of them, every job granted there is among them, and they are told in the order of the search
 pub record Search (s : ℕ → Settled) (n : ℕ) : Type 0 where
   pub granted : {x : Action} → In x (wakesOf s n) → GrantedAt s n x
   pub reached : (c : ℕ) (w : Waiter) → c < n → In w (s c .woken) → In (wake c w) (wakesOf s n)
   pub ordered : {x y : Action} → Before x y (wakesOf s n) → Searched s x y
 
--- of no wakes none is told before another
+-- in an empty list of wakes none is told before another
 pub before-none : {P : Type 0} {x y : Action} → Before x y [] → P
 before-none = elim [ ]
 
--- who is told before another is the first, or is told before it among the rest
+-- a wake told before another is the first, or is told before it among the rest
 before-split : {P : Type 0} {x y z : Action} {rest : List Action} → Before x y (z ∷ rest) → (x ≡ z → In y rest → P) → (Before x y rest → P) → P
 before-split (next h) f g = f refl h
 before-split (further b) f g = g b
@@ -76,7 +76,7 @@ cell-at : (c : ℕ) (q : List Waiter) {x : Action} → In x (wakesAt c q) → x 
 unfolding wake
 cell-at c q h = let (w, i, e) = in-at c q h in ap (λ t. t .cell) e
 
--- who was granted at a cell is among its wakes
+-- a job that was granted at a cell is among its wakes
 at-in : (c : ℕ) {w : Waiter} {q : List Waiter} → In w q → In (wake c w) (wakesAt c q)
 unfolding wakesAt
 at-in c first = first

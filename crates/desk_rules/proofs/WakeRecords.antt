@@ -1,4 +1,4 @@
--- The records of the wakes: each is of a wake, and a job has one exactly if it is among the wakes.
+-- The records of the wakes: each belongs to a wake, and a job has one exactly if it is woken.
 -- Assumes nothing.
 use Prim.Native.Nat.{ℕ}
 use mathlib.Core.Path.{_≡_, ap, _∙_}

@@ -1,4 +1,4 @@
--- Who is among the wakes: exactly the jobs granted at some cell that is searched, and they run again; all others are as they were.
+-- Which jobs are woken: exactly those granted at some cell that is searched, and they run again; all others are as they were.
 -- Assumes nothing.
 use Prim.Native.Nat.{ℕ, _<_}
 use mathlib.Core.Path.{_≡_, refl, sym, ap, _∙_}
@@ -24,13 +24,13 @@ pub record WokenAt (s : ℕ → Settled) (n j : ℕ) : Type 0 where
   pub granted : In waiter (s cell .woken)
   pub is : waiter .job ≡ j
 
--- among two lists of wakes is among the first or among the second
+-- a job among two lists of wakes is among the first or among the second
 pub woken-either : (j : ℕ) (a b : List Action) → isWoken j (a ++ b) ≡ (isWoken j a || isWoken j b)
 unfolding isWoken
 woken-either j [] b = refl
 woken-either j (x ∷ a) b = by-test (eqb (x .job) j) (λ t. rw t) (λ f. rw f (woken-either j a b))
 
--- who is among the wakes has one
+-- a woken job has a wake in the list
 pub woken-in : (j : ℕ) (xs : List Action) → isWoken j xs ≡ true → (x : Action) × In x xs × (x .job ≡ j)
 unfolding isWoken
 woken-in j [] h = not-both h refl
@@ -39,13 +39,13 @@ woken-in j (v ∷ xs) h = or-either (eqb (v .job) j) (isWoken j xs) h (λ t. (v,
     more : (x : Action) × In x xs × (x .job ≡ j) → (x : Action) × In x (v ∷ xs) × (x .job ≡ j)
     more (x, i, e) = (x, later i, e)
 
--- and who has one is among them
+-- and a job that has one is woken
 in-woken : {x : Action} {xs : List Action} → In x xs → isWoken (x .job) xs ≡ true
 unfolding isWoken
 in-woken {x} first = rw (same-refl (x .job))
 in-woken {x} (later {v = v} {q = xs} h) = or-second (eqb (v .job) (x .job)) (isWoken (x .job) xs) (in-woken h)
 
--- who is among the wakes is granted at a cell that is searched
+-- a woken job is granted at a cell that is searched
 pub woken-at : (s : ℕ → Settled) (n j : ℕ) → isWoken j (wakesOf s n) ≡ true → WokenAt s n j
 unfolding wake
 woken-at s n j h =
@@ -53,7 +53,7 @@ woken-at s n j h =
     let g = search-order s n .granted i in
     record { cell = g .cell; within = g .below; waiter = g .waiter; granted = g .granted; is = sym (ap (λ t. t .job) (g .is)) ∙ e }
 
--- who is granted at a cell that is searched is among the wakes
+-- a job that is granted at a cell that is searched is woken
 pub at-woken : (s : ℕ → Settled) (n c : ℕ) (w : Waiter) → c < n → In w (s c .woken) → isWoken (w .job) (wakesOf s n) ≡ true
 unfolding wake
 at-woken s n c w l h = in-woken (search-order s n .reached c w l h)
@@ -68,7 +68,7 @@ pub others-stay : (stat : ℕ → Status) (wakes : List Action) (j : ℕ) → is
 unfolding runAgain
 others-stay stat wakes j f = rw f
 
--- so what holds of running and of a status holds of the new one
+-- so what holds for running and for the old status holds for the new one
 pub wakened-each : (P : Status → Type 0) (stat : ℕ → Status) (wakes : List Action) (j : ℕ) → (isWoken j wakes ≡ true → P running) → (isWoken j wakes ≡ false → P (stat j)) → P (runAgain stat wakes j)
 unfolding runAgain
 wakened-each P stat wakes j f g = by-test (isWoken j wakes) (λ t. rw t (f t)) (λ n. rw n (g n))

@@ -1,4 +1,4 @@
--- The job whose run ends and those who are woken are named once and have places, of which there are 32; so at most 31 are woken in a step (01, rule 4; 01, What is delivered).
+-- The job whose run ends and the jobs woken are named once and have places, of which there are 32. So at most 31 are woken in a step (01, rule 4; 01, What is delivered).
 -- Assumes nothing.
 use Prim.Native.Nat.{ℕ, _≤_}
 use mathlib.Core.Path.{_≡_, refl, sym, ap, _∙_, subst}
@@ -51,7 +51,7 @@ ends-open d r (by-give-up l g) = give-up-went d r (r .job) l g .was
 ends-open d r (by-back g) = running-open (ask-back d r (r .job) g .was .1 .runs)
 
 module _ {d : Desk} (v : Inv d) (r : Request) where
-  -- when its run ends, it and those who are woken have places
+  -- when its run ends, it and the woken jobs have places
   all-seated : RunEnds (step d r .said) r → (i : ℕ) → member i (r .job ∷ jobsOf (wakesAfter d (r .job))) ≡ true → member i (d .jobs) ≡ true
   all-seated b i m =
       member-split (r .job) (jobsOf (wakesAfter d (r .job))) i m (λ e. subst (λ j. member j (d .jobs) ≡ true) e (v .seats (r .job) (ends-open d r b)))

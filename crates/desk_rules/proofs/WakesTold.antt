@@ -1,4 +1,4 @@
--- The wakes of a step exactly: who is woken, cell by cell and from the front of each queue, each left with the very mode that it waited for; and nobody else's status, place or lock changes (01, rule 4).
+-- The wakes of a step exactly: which jobs are woken, cell by cell and from the front of each queue, each with exactly the mode that it waited for; and no other job's status, place or lock changes (01, rule 4).
 -- Assumes nothing.
 use Prim.Native.Nat.{ℕ, _<_}
 use mathlib.Core.Path.{_≡_, refl, sym, ap, _∙_, subst}
@@ -46,19 +46,19 @@ use Rattle.desk_rules.proofs.FewRecords.{records-size, own-size}
 use Rattle.desk_rules.proofs.RunEnded.{Ran, ran, only-rule-4, wake-ran}
 
 module _ {d : Desk} (v : Inv d) (j c : ℕ) where
-  -- who was granted ahead of another stood ahead of it
+  -- a job granted ahead of another stood ahead of it
   granted-stood : (u w : Waiter) → Ahead u w (rowsAfter d j c .woken) → Ahead u w (d .row c .queue)
   granted-stood u w a =
       let t = row-releases v j c in
       let down = falling-left (rowsAfter d j c .woken) (rowsAfter d j c .row .queue) (subst Falling (t .parted) (without-falling j (d .row c .queue) (v .rows c .down))) in
       younger-ahead u w (d .row c .queue) (v .rows c .down) (t .woken-was u (ahead-in a)) (t .woken-was w (ahead-of a)) (ahead-younger down a)
 
--- what comes first in the search of rule 4 stood first
+-- a wake that comes first in the search of rule 4 stood first
 searched-sooner : {d : Desk} → Inv d → (j : ℕ) {x y : Action} → Searched (rowsAfter d j) x y → Sooner d x y
 searched-sooner v j (searching.smaller-cell l) = smaller-cell l
 searched-sooner v j (granted-ahead c u w e k a) = stood-ahead c u w e k (granted-stood v j c u w a)
 
--- the mode that a waiter wants is what its mode becomes if it holds the cell, and what it needs if it does not
+-- the mode that a waiter wants is what its mode becomes if it holds the cell, else what it needs
 wants-exactly : (held : ℕ → Mode) (w : Waiter) → covers (held (w .job)) (needed (w .ask)) ≡ false → WokenWith (held (w .job)) (wants held w) (w .ask)
 unfolding wants
 wants-exactly held w n = record {
@@ -74,7 +74,7 @@ granted-exactly {d} v j c w i a k =
     (subst (λ m. WokenWith (d .row c .held (w .job)) m (w .ask)) (sym (t .takes w i)) (wants-exactly (d .row c .held) w (v .rows c .lacks w (t .woken-was w i))))
 
 module _ {d : Desk} (v : Inv d) where
-  -- who comes first in the search is another job than who comes later
+  -- a job that comes first in the search is not the one that comes later
   not-twice : {x y : Action} → Sooner d x y → x .job ≡ y .job → (a b : Ask) → d .stat (x .job) ≡ waiting (x .cell) a → d .stat (y .job) ≡ waiting (y .cell) b → ⊥
   unfolding wake
   not-twice (smaller-cell l) e a b p q = let z = one-cell p (ap (d .stat) e ∙ q) in omega (arith, l, z)
@@ -98,7 +98,7 @@ module _ {d : Desk} {h : History} (s : Started d h) (r : Request) where
   searched : {x y : Action} → Before x y (step d r .wakes) → Searched (rowsAfter d (r .job)) x y
   searched {x} {y} b = search-order (rowsAfter d (r .job)) cells .ordered (subst (Before x y) (wake-ran d r x (before-first b) .0 .wakes) b)
 
-  -- what a wake's job holds then, on its cell
+  -- what a woken job then holds on its cell
   left-with : (c : ℕ) (w : Waiter) → In w (rowsAfter d (r .job) c .woken) → Ran d r → (y : Action) → y ≡ wake c w → (a : Ask) → d .stat (y .job) ≡ waiting (y .cell) a → WokenWith (d .row (y .cell) .held (y .job)) (step d r .desk .row (y .cell) .held (y .job)) a
   unfolding wake
   left-with c w i t y e a q = rw (e, t .row c) (granted-exactly v (r .job) c w i a (rw e at q))

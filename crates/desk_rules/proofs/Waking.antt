@@ -1,4 +1,4 @@
--- Each wake was waiting for its cell with its kind, runs after the step, stands in no queue and holds what covers its need (01, rule 4; 01, Refusals by number).
+-- Each woken job was waiting for its cell with its kind, runs after the step, stands in no queue and holds a mode that covers its need (01, rule 4; 01, Refusals by number).
 -- Assumes nothing.
 use Prim.Native.Nat.{ℕ, _<_}
 use mathlib.Core.Path.{refl, sym, ap, _∙_, subst}
@@ -23,7 +23,7 @@ use Rattle.desk_rules.proofs.RunEnd.{wakesAfter, row-releases, granted-
 use Rattle.laws.proofs.Standing.{in-none}
 
 module _ {d : Desk} (v : Inv d) (j : ℕ) (s : Status) (js : List ℕ) (said : Answer) where
-  -- who is granted at a cell when job j's run ends
+  -- a job that is granted at a cell when job j's run ends
   granted-wakes : (c : ℕ) (w : Waiter) → c < cells → In w (rowsAfter d j c .woken) → WakeTells d (rule4 d j s js said .desk) (wake c w)
   unfolding rule4 wake
   granted-wakes c w l h = record {
@@ -37,14 +37,14 @@ module _ {d : Desk} (v : Inv d) (j : ℕ) (s : Status) (js : List ℕ) (said : A
     gone = λ b x k e. not-both (ap (λ i. isWoken i (wakesAfter d j)) e ∙ granted-woken v j c w h) (left-not-woken v j b x k);
   }
 
-  -- who is among the wakes when job j's run ends
+  -- a job that is woken when job j's run ends
   pub rule4-wakes : (a : Action) → In a (wakesAfter d j) → WakeTells d (rule4 d j s js said .desk) a
   rule4-wakes a h =
       let g = search-order (rowsAfter d j) cells .granted h in
       subst (WakeTells d (rule4 d j s js said .desk)) (sym (g .is)) (granted-wakes (g .cell) (g .waiter) (g .below) (g .granted))
 
 module _ {d : Desk} (v : Inv d) {r : Request} where
-  -- whatever the move, each wake was waiting for that cell with that kind before it, and runs after it with what it asked for
+  -- in any move, each woken job was waiting for that cell with that kind before it, and runs after it with what it asked for
   pub moved-wakes : {o : Outcome} (a : Action) → Moved d r o → In a (o .wakes) → WakeTells d (o .desk) a
   moved-wakes a (refuses why _) h = unfold refused in in-none h
   moved-wakes a (begins l n m) h = in-none h

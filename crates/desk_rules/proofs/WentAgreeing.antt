@@ -1,4 +1,4 @@
--- Whoever goes with a mode that it did not have before agrees with every other holder of the cell (01, rules 2 and 3; 02, No. 1).
+-- A job that goes with a mode that it did not have before agrees with every other holder of the cell (01, rules 2 and 3; 02, No. 1).
 -- Assumes nothing.
 use mathlib.Core.Path.{_≡_, refl, subst}
 use mathlib.Core.Bool.{true, false}
@@ -20,7 +20,7 @@ use Rattle.desks.proofs.Answers.{other-answer}
 use Rattle.desk_rules.proofs.AnswerTells.{no-ask, same-ask}
 
 module _ (d : Desk) (r : Request) (a : Ask) (l : letterOf (r .kind) ≡ Known (Asks a)) (n : covers (ownMode d r) (needed a) ≡ false) where
-  -- whatever the move, a go agrees
+  -- in any move, a go agrees
   pub went-agrees : {o : Outcome} → Moved d r o → o .said ≡ Go (r .job) → fitsIn d r (askedThere d r a) ≡ true
   went-agrees (refuses why _) q = unfold refused in other-answer q refl
   went-agrees (begins e m x) q = no-ask e refl l

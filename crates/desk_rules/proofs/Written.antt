@@ -1,4 +1,4 @@
--- What a step does to the locks, and what it writes: nothing, the action that was asked, or the mark of a run's end and then the wakes. The one place that follows the moves for it.
+-- What a step does to the locks, and what it writes: nothing, the action that was asked, or the mark of a run's end and then the wakes. Only this file follows the moves for it.
 -- Assumes nothing.
 use Prim.Native.Nat.{ℕ}
 use mathlib.Core.Path.{_≡_, refl}
@@ -43,7 +43,7 @@ use Rattle.desk_rules.proofs.ExactModes.{granted-mode}
 unfoldable pub asking : Request → Ask → Action
 asking r a = record { kind = recorded a; job = r .job; cell = r .cell }
 
--- no job holds less than before on any cell, and the locks of different jobs are beside each other
+-- no job holds less than before on any cell, and the locks of different jobs may be held together
 pub record Grew (before after : ℕ → Row) : Type 0 where
   pub grown : (j c : ℕ) → covers (after c .held j) (before c .held j) ≡ true
   pub pairs : (c i j : ℕ) → i ≢ j → beside (after c .held i) (after c .held j) ≡ true
@@ -68,7 +68,7 @@ module _ (d : Desk) (v : Inv d) where
         (λ _. v .rows c .pairs i j n) (λ _. v .rows b .pairs i j n);
   }
 
-  -- a job takes a mode that covers what it holds and is granted next to every other job's
+  -- a job takes a mode that covers what it holds and is granted beside every other job's
   one-more : (j c : ℕ) (m : Mode) → covers m (d .row c .held j) ≡ true → ((i : ℕ) → i ≢ j → grants (d .row c .held i) m ≡ true) → Grew (d .row) (grant d j c m .desk .row)
   unfolding grant withRow
   one-more j c m g h = record {

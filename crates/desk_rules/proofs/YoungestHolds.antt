@@ -1,4 +1,4 @@
--- THE YOUNGEST IN A WAITER'S WAY HOLDS ITS CELL: the first of the queue has a holder in its way that is younger than itself, and so than everybody in the queue (02, No. 3).
+-- THE YOUNGEST IN A WAITER'S WAY HOLDS ITS CELL: the first of the queue has a holder in its way that is younger than itself, and so younger than every job in the queue (02, No. 3).
 -- Assumes nothing.
 use Prim.Native.Nat.{ℕ, _<_, _≤_}
 use mathlib.Core.Path.{_≡_, sym, subst}
@@ -17,7 +17,7 @@ use Rattle.laws.proofs.Standing.{in-none, in-split}
 use Rattle.desk_rules.proofs.AheadLaws.{ahead-in, ahead-younger}
 use Rattle.desk_rules.proofs.InTheWay.{in-way-held}
 
--- in a queue that falls, whose first is blocked and whose waiters are older than every other holder, a holder is younger than everybody in the queue
+-- if a queue falls, its first waiter is blocked and its waiters are older than every other holder, then some holder is younger than every job in the queue
 younger-holder : (held : ℕ → Mode) (q : List Waiter) → Falling q → FirstBlocked held q → ((w : Waiter) (i : ℕ) → In w q → i ≢ w .job → isFree (held i) ≡ false → w .job < i) →
     (v : Waiter) → In v q → (i : ℕ) × (isFree (held i) ≡ false) × (v .job < i)
 younger-holder held [] f b e v h = in-none h
@@ -27,11 +27,11 @@ younger-holder held (u ∷ q) f (i, n, g) e v h =
     (i, k, in-split h (λ p. subst (λ x. x .job < i) (sym p) l) (λ m. let y = f .0 v m in omega arith))
 
 module _ {d : Desk} (v : Inv d) (c : ℕ) (w : Waiter) (k : IsWaiting d c w) where
-  -- who is next is another holder of the cell
+  -- the next job is another holder of the cell
   pub next-holds : (i : ℕ) → Next d c w i → (i ≢ w .job) × (isFree (d .row c .held i) ≡ false)
   next-holds i n = go (n .way)
     where
-      -- one who stands ahead is not the youngest: some holder is younger
+      -- a waiter ahead is not the youngest: some holder is younger
       go : InWay (d .row c) w i → (i ≢ w .job) × (isFree (d .row c .held i) ≡ false)
       go (holds-it x f) = (x, f)
       go (ahead u e a) =

@@ -26,8 +26,8 @@ pub record Ages (k : Course) : Type 0 where
   -- a job older than every other live job is never answered back, nor sent back after any step (demand 3)
   pub never-answered-back : (r : Request) (j : ℕ) → OldestLive (now k) j → to k r .said ≢ Back j
   pub never-back : (r : Request) (j : ℕ) → isLive (now k .stat j) ≡ true → OldestLive (now k) j → to k r .desk .stat j ≢ sentback
-  -- the jobs older than an open job only grow fewer: who is open and older after any requests was open before them
+  -- the jobs older than an open job only grow fewer: a job that is open and older after any requests was open before them
   pub older-only-shrinks : (j : ℕ) → isOpen (now k .stat j) ≡ true → (rs : List Request) (i : ℕ) → i < j → isOpen (k .seen rs .stat i) ≡ true → isOpen (now k .stat i) ≡ true
-  -- so once all of them have closed, it is older than every other open job, and is never sent back again, whatever is requested (01, Slips to rule out, 2)
+  -- so once all of them have closed, the job is older than every other open job, and is never sent back again, whatever is requested (01, Slips to rule out, 2)
   pub at-last-oldest : (j : ℕ) → isOpen (now k .stat j) ≡ true → (rs : List Request) → OlderClosed (now k) (k .seen rs) j → OldestOpen (k .seen rs) j
   pub retried-at-last-oldest : (j : ℕ) → isOpen (now k .stat j) ≡ true → (rs : List Request) → OlderClosed (now k) (k .seen rs) j → (more : List Request) (r : Request) → k .does (rs ++ more) r .said ≢ Back j

@@ -16,13 +16,13 @@ use Rattle.laws.specs.Standing.{In}
 use Rattle.desk_rules.specs.Desk.{running, Waiter, Desk}
 use Rattle.desk_rules.specs.Locks.{olderThanHolders, olderThanWaiters}
 
--- a running job asks for a cell that there is
+-- a running job asks for a cell from 0 to 63
 pub record Asking (d : Desk) (r : Request) (a : Ask) : Type 0 where
   pub letter : letterOf (r .kind) ≡ Known (Asks a)
   pub runs : d .stat (r .job) ≡ running
   pub within : r .cell < cells
 
--- who stands in the job's way is older: a holder, or for a job new to the cell a waiter
+-- a job older than the asking one stands in its way: a holder, or, for a job new to the cell, a waiter
 pub data Elder (d : Desk) (j c : ℕ) : Type 0 where
   holder : olderThanHolders (d .jobs) (d .row c .held) j ≡ false → Elder d j c
   waiter : isFree (d .row c .held j) ≡ true → olderThanWaiters (d .row c .queue) j ≡ false → Elder d j c
@@ -43,7 +43,7 @@ askedThere d r a = asked (ownMode d r) (needed a)
 abbrev pub asker : Request → Ask → Waiter
 asker r a = record { job = r .job; ask = a }
 
--- who waits there
+-- the queue of that cell
 abbrev pub queueThere : Desk → Request → List Waiter
 queueThere d r = d .row (r .cell) .queue
 
@@ -52,12 +52,12 @@ pub record OtherHolder (d : Desk) (r : Request) (i : ℕ) : Type 0 where
   pub other : i ≢ r .job
   pub holds : isFree (heldThere d r i) ≡ false
 
--- another holder of the cell whose mode does not let that mode be granted
+-- another holder of the cell whose mode does not let the mode asked for be granted
 pub record Opposed (d : Desk) (r : Request) (m : Mode) (i : ℕ) : Type 0 where
   pub holder : OtherHolder d r i
   pub disagrees : grants (heldThere d r i) m ≡ false
 
--- the job asks for a promotion: it holds the cell, and not in a mode that covers its need
+-- the job asks for a promotion: it holds the cell, but not in a mode that covers its need
 pub record Promotes (d : Desk) (r : Request) (a : Ask) : Type 0 where
   pub asking : Asking d r a
   pub holds : isFree (ownMode d r) ≡ false
@@ -68,7 +68,7 @@ pub record Enters (d : Desk) (r : Request) (a : Ask) : Type 0 where
   pub asking : Asking d r a
   pub holds-nothing : isFree (ownMode d r) ≡ true
 
--- a job new to the cell cannot have it at once: somebody waits for it, or somebody holds it in a mode that does not agree
+-- a job new to the cell cannot have it at once: some job waits for it, or some job holds it in a mode that does not agree
 pub data Hindered (d : Desk) (r : Request) (a : Ask) : Type 0 where
   waits-already : (w : Waiter) → In w (queueThere d r) → Hindered d r a
   disagrees : (i : ℕ) → Opposed d r (needed a) i → Hindered d r a

@@ -1,4 +1,4 @@
--- Who asks for a job's chain lends a list: when that is refused, what is answered, and what the list then holds (02, No. 3).
+-- A caller asks for a job's chain and lends a list: when the question is refused, what is answered, and what the list then holds (02, No. 3).
 use Prim.Native.Nat.{ℕ}
 use mathlib.Core.Bool.{Bool, false}
 use mathlib.Core.List.{List, [], _∷_}
@@ -16,7 +16,7 @@ use Rattle.desk_rules.specs.Desk.{Status, Desk}
 use Rattle.desk_rules.specs.Table.{notOpen, isSentBack}
 use Rattle.desk_rules.specs.Chain.{chainOf}
 
--- when the row of each refusal holds, by what the job is doing and how many places are lent: 3, job is not open; 5, job was sent back; 18, fewer than 32 places
+-- when the row of each refusal holds, by what the job is doing and how many places are lent: 3, the job is not open; 5, the job was sent back; 18, fewer than 32 places
 unfoldable pub chainHolds : Status → ℕ → Refusal → Bool
 chainHolds s n UnknownKind = false
 chainHolds s n CellAbove = false
@@ -50,16 +50,16 @@ pub record ChainTold : Type 0 where
   pub said : Chained
   pub list : List ℕ
 
--- a refusal leaves the list; else the chain stands in its first places, the answer is how many jobs it has, and the unused places stay
+-- a refusal leaves the list as it was; otherwise the chain is in its first places, the answer is how many jobs it has, and the unused places stay
 unfoldable pub chainTold : List ℕ → List ℕ → Option Refusal → ChainTold
 chainTold js list (some why) = record { said = No why; list = list }
 chainTold js list none = record { said = Jobs (length js); list = filled js list }
 
--- who asks a desk for the chain of job j, with a list lent for it
+-- a question to a desk for the chain of job j, with a list lent for it
 unfoldable pub askChain : Desk → ℕ → List ℕ → ChainTold
 askChain d j list = chainTold (chainOf d j) list (chainDue (d .stat j) (length list))
 
--- the answer in two numbers: 0 with how many jobs, or the refusal's number, and the field of a 9, which is never given here
+-- the answer in two numbers: 0 and how many jobs, or the refusal's number and the field of a 9, which is never given here
 unfoldable pub chainNumbers : Chained → List ℕ
 chainNumbers (Jobs n) = 0 ∷ n ∷ []
 chainNumbers (No why) = numberOf why ∷ fieldOf why ∷ []

@@ -1,4 +1,4 @@
--- The numbers that bound what a started desk can come to: that each is the least, and desks on which it is met (01, What is delivered; 01, Jobs and their numbers; 01, rule 4; demand 3; 02, No. 3).
+-- The numbers that bound what a started desk can reach: each is the least that holds, and desks on which it is reached (01, What is delivered; 01, Jobs and their numbers; 01, rule 4; demand 3; 02, No. 3).
 use Prim.Native.Nat.{ℕ, zero, suc, _≤_}
 use mathlib.Core.Path.{_≡_}
 use mathlib.Core.Bool.{true}
@@ -27,11 +27,11 @@ use Rattle.desk_rules.specs.GetsItsCell.{AtMostWereInWay}
 use Rattle.laws.specs.Lists.{distinct}
 use Rattle.desk_rules.specs.Chain.{inWayOf, chainOf}
 
--- the bound holds with this number and with no smaller one: a promise with a larger number is weaker than need be, and one with a smaller is false
+-- the bound holds with this number and with no smaller one: a promise with a larger number would be weaker than it need be, and one with a smaller would be false
 abbrev pub Least : (ℕ → Type 0) → ℕ → Type 0
 Least Bound n = Bound n × ((m : ℕ) → Bound m → n ≤ m)
 
--- something is so of every started desk of the paper
+-- a statement holds for every started desk of the paper
 abbrev pub OfStarted : (Desk → Type 0) → Type 0
 OfStarted P = (d : Desk) (h : History) → Started d h → P d
 
@@ -59,7 +59,7 @@ InWayAtMost n = OfStarted (λ d. (c : ℕ) (w : Waiter) → IsWaiting d c w → 
 abbrev pub JustAskedAtMost : ℕ → Type 0
 JustAskedAtMost n = OfStarted (λ d. (r : Request) (a : Ask) → letterOf (r .kind) ≡ Known (Asks a) → step d r .said ≡ Wait (r .job) → AtMostInWay n (step d r .desk .row (r .cell)) (asker r a))
 
--- at most n jobs held the cell or stood ahead when a job asked that was answered wait (demand 3)
+-- when a job asked and was answered wait, at most n jobs held the cell or stood ahead (demand 3)
 abbrev pub WereInWayAtMost : ℕ → Type 0
 WereInWayAtMost n = OfStarted (λ d. (r : Request) (j : ℕ) → step d r .said ≡ Wait j → AtMostWereInWay n d r)
 
@@ -75,30 +75,30 @@ WakesAtMost n = OfStarted (λ d. (r : Request) → length (step d r .wakes) ≤ 
 abbrev pub RecordsAtMost : ℕ → Type 0
 RecordsAtMost n = OfStarted (λ d. (r : Request) → length (events d r) ≤ n)
 
--- so many jobs, from number so many + 1 down to 2, ask to read cell 5
+-- this many jobs, from number so many + 1 down to 2, ask to read cell 5
 abbrev pub readInTurn : ℕ → List Request
 readInTurn zero = []
 readInTurn (suc n) = request 114 (suc (suc n)) 5 ∷ readInTurn n
 
--- so many jobs, down to 1, write each the cell of its own number
+-- this many jobs, down to 1, each write the cell of their own number
 abbrev pub writeOwn : ℕ → List Request
 writeOwn zero = []
 writeOwn (suc n) = request 119 (suc n) (suc n) ∷ writeOwn n
 
--- so many jobs, down to 1, ask to write each the cell of the number after its own
+-- this many jobs, down to 1, each ask to write the cell of the number after their own
 abbrev pub writeNext : ℕ → List Request
 writeNext zero = []
 writeNext (suc n) = request 119 (suc n) (suc (suc n)) ∷ writeNext n
 
--- a queue: of 32 jobs 32 writes cell 5, and 31 down to 2 wait to read it
+-- a queue: of 32 jobs, job 32 writes cell 5, and 31 down to 2 wait to read it
 abbrev pub toTheQueue : List Request
 toTheQueue = begins 32 ++ request 119 32 5 ∷ readInTurn 30
 
--- a line: of 32 jobs each but the last waits for the cell that the next has written
+-- a line: of 32 jobs, each but the last waits for the cell that the next has written
 abbrev pub toTheLine : List Request
 toTheLine = begins 32 ++ writeOwn 32 ++ writeNext 31
 
--- after them, on a desk that was started at 1
+-- the desks after those requests, started at 1
 unfoldable pub queueDesk : Desk
 queueDesk = deskAfter (freshDesk 1) toTheQueue
 

@@ -1,4 +1,4 @@
--- Requests by numbers, and then who asks for a chain: what is answered and what the list then holds (02, No. 3).
+-- Requests by numbers, and then questions for a chain: what is answered and what the list then holds (02, No. 3).
 use Prim.Native.Nat.{ℕ}
 use mathlib.Core.List.{List, [], _∷_, _++_}
 use lib.ListN.{take, replicate}
@@ -8,7 +8,7 @@ use Rattle.desk_rules.specs.Requests.{deskAfter}
 use Rattle.desk_rules.specs.AskedChain.{askChain, chainNumbers}
 use Rattle.desks.specs.Told.{request, begins}
 
--- who asks for a job's chain with so many places, which hold 7 before; the answer in its two numbers, and the first places of the list after it
+-- a question for a job's chain with this many places lent, each holding 7 before; the answer in its two numbers, and the first places of the list after it
 pub record Question : Type 0 where
   pub job : ℕ
   pub places : ℕ
@@ -20,7 +20,7 @@ pub record ChainExample : Type 0 where
   pub requests : List Request
   pub questions : List Question
 
--- the answer, and the first places of the list, that a question gets after requests
+-- the answer to a question after requests, and the first places of the list
 unfoldable pub answeredTo : List Request → Question → List (List ℕ)
 answeredTo rs q =
     let t = askChain (deskAfter (freshDesk 1) rs) (q .job) (replicate (q .places) 7) in
@@ -30,11 +30,11 @@ answeredTo rs q =
 unfoldable pub saidOf : Question → List (List ℕ)
 saidOf q = q .numbers ∷ q .list ∷ []
 
--- so many jobs, whose numbers stand in the first places of a list of 32
+-- the answer with this many jobs, whose numbers are in the first places of a list of 32
 abbrev pub told : ℕ → ℕ → List ℕ → Question
 told job n js = record { job = job; places = 32; numbers = 0 ∷ n ∷ []; list = take 5 (js ++ replicate 5 7) }
 
--- a refusal, with so many places lent, which stay
+-- a refusal, with this many places lent, which stay
 abbrev pub refusedWith : ℕ → ℕ → ℕ → Question
 refusedWith job places why = record { job = job; places = places; numbers = why ∷ 0 ∷ []; list = take 5 (replicate places 7) }
 
@@ -50,7 +50,7 @@ writes = request 119
 abbrev pub intends : ℕ → ℕ → Request
 intends = request 117
 
--- the night's first lines: job 3 reads, 2 is to write and waits, 1 is to read and waits behind it; the youngest in the way of 1 is the holder, not who stands ahead
+-- the night's first lines: job 3 reads, 2 asks to write and waits, 1 asks to read and waits behind it; the youngest in the way of 1 is the holder, not the job ahead
 abbrev pub twoWait : ChainExample
 twoWait =
     record {
@@ -66,7 +66,7 @@ oneAfterAnother =
       questions = told 1 4 (1 ∷ 2 ∷ 3 ∷ 4 ∷ []) ∷ told 2 3 (2 ∷ 3 ∷ 4 ∷ []) ∷ told 3 2 (3 ∷ 4 ∷ []) ∷ told 4 1 (4 ∷ []) ∷ [];
     }
 
--- of several holders the youngest; and a waiting promotion's own hold is left out: 1, 2 and 3 read, and 1 is to write
+-- of several holders the youngest counts, and a waiting promotion's own hold is left out: 1, 2 and 3 read, and 1 asks to write
 abbrev pub ownHoldLeftOut : ChainExample
 ownHoldLeftOut =
     record {
@@ -74,7 +74,7 @@ ownHoldLeftOut =
       questions = told 1 2 (1 ∷ 3 ∷ []) ∷ told 2 1 (2 ∷ []) ∷ [];
     }
 
--- beside a reader the holder of a U is not the youngest in the way: 4 reads, 3 has U, 2 is to read and waits, and 1 with its u waits behind it
+-- beside a reader the holder of a U is not the youngest in the way: 4 reads, 3 has U, 2 asks to read and waits, and 1 waits behind it with its u
 abbrev pub readerBesideU : ChainExample
 readerBesideU =
     record {
@@ -82,11 +82,11 @@ readerBesideU =
       questions = told 2 2 (2 ∷ 4 ∷ []) ∷ told 1 2 (1 ∷ 4 ∷ []) ∷ told 3 1 (3 ∷ []) ∷ told 4 1 (4 ∷ []) ∷ [];
     }
 
--- and where the holder of the U is the youngest, the chain goes on to it: 2 reads, 3 has U, and 1 is to read
+-- and if the holder of the U is the youngest, the chain goes on to it: 2 reads, 3 has U, and 1 asks to read
 abbrev pub youngestHasU : ChainExample
 youngestHasU = record { requests = begins 3 ++ reads 2 5 ∷ intends 3 5 ∷ reads 1 5 ∷ []; questions = told 1 2 (1 ∷ 3 ∷ []) ∷ told 3 1 (3 ∷ []) ∷ [] }
 
--- a U that waits to become X leaves its own hold out: 3 reads, 2 has U and is to write, and 1 is to read behind it
+-- a U that waits to become X leaves its own hold out: 3 reads, 2 has U and asks to write, and 1 asks to read behind it
 abbrev pub ownULeftOut : ChainExample
 ownULeftOut =
     record {
@@ -104,6 +104,6 @@ refusals =
           ∷ refusedWith 1 31 18 ∷ refusedWith 3 31 18 ∷ refusedWith 3 0 18 ∷ told 1 2 (1 ∷ 3 ∷ []) ∷ told 3 1 (3 ∷ []) ∷ [];
     }
 
--- all of them
+-- all of these examples
 abbrev pub chainExamples : List ChainExample
 chainExamples = twoWait ∷ oneAfterAnother ∷ ownHoldLeftOut ∷ readerBesideU ∷ youngestHasU ∷ ownULeftOut ∷ refusals ∷ []

@@ -1,4 +1,4 @@
--- All that a lock desk shows from now on, whatever way it is kept: the words of demand 3 and the promises are said of this, once for the paper's desk and for every desk that runs.
+-- All that a lock desk shows from now on, however it is kept. The words of demand 3 and the promises speak of this, so each is said once for the paper's desk and for every desk that runs.
 use Rattle.desks.specs.Course as desks
 use Rattle.desks.specs.Course.{course}
 use Rattle.desk_rules.specs.Desk.{Desk}

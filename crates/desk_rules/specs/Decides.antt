@@ -1,4 +1,4 @@
--- What is promised of rules 2 and 3, over all jobs: when a job that asks goes, waits or is sent back (01, rules 2 and 3).
+-- What is promised of rules 2 and 3, over all jobs: when an asking job goes, waits or is sent back (01, rules 2 and 3).
 use Prim.Native.Nat.{ℕ, _<_}
 use mathlib.Core.Path.{_≡_}
 use mathlib.Core.Bool.{true, false}
@@ -16,14 +16,14 @@ use Rattle.desk_rules.specs.Course.{Course}
 pub record Decides (k : Course) (r : Request) (a : Ask) : Type 0 where
   -- a job that holds a covering mode: go. Nothing changes (01, rule 1)
   pub has-it : Asking (now k) r a → covers (ownMode (now k) r) (needed a) ≡ true → (to k r .said ≡ Go (r .job)) × (to k r .desk ≡ now k) × (to k r .wakes ≡ [])
-  -- a promotion whose new mode agrees with the other holders: go; otherwise, older than every other holder: wait, in front; otherwise, behind any older holder: back (01, rule 2; 02, No. 1)
+  -- a promotion whose new mode agrees with the other holders: go; otherwise, older than every other holder: wait, in front; otherwise, with an older holder: back (01, rule 2; 02, No. 1)
   pub promotion-goes : Promotes (now k) r a → ((i : ℕ) → OtherHolder (now k) r i → grants (heldThere (now k) r i) (askedThere (now k) r a) ≡ true) → to k r .said ≡ Go (r .job)
   pub promotion-waits : Promotes (now k) r a → (i : ℕ) → Opposed (now k) r (askedThere (now k) r a) i → ((i : ℕ) → OtherHolder (now k) r i → r .job < i) → to k r .said ≡ Wait (r .job)
   pub promotion-in-front : Promotes (now k) r a → (i : ℕ) → Opposed (now k) r (askedThere (now k) r a) i → ((i : ℕ) → OtherHolder (now k) r i → r .job < i) → to k r .desk .row (r .cell) ≡ record { held = heldThere (now k) r; queue = asker r a ∷ queueThere (now k) r }
   pub promotion-back : Promotes (now k) r a → (i : ℕ) → Opposed (now k) r (askedThere (now k) r a) i → (o : ℕ) → OtherHolder (now k) r o → o < r .job → to k r .said ≡ Back (r .job)
-  -- and whoever goes with a mode that it did not have agrees with the other holders (01, rules 2 and 3)
+  -- and a job that goes with a mode it did not have agrees with the other holders (01, rules 2 and 3)
   pub goes-agreeing : Asking (now k) r a → covers (ownMode (now k) r) (needed a) ≡ false → to k r .said ≡ Go (r .job) → (i : ℕ) → OtherHolder (now k) r i → grants (heldThere (now k) r i) (askedThere (now k) r a) ≡ true
-  -- a job new to the cell, with nobody waiting and every holder agreeing: go; otherwise, older than every holder and every waiter: wait, at the end; otherwise back, behind an older holder or an older waiter (01, rule 3)
+  -- a job new to the cell, if no job waits and every holder agrees: go; otherwise, older than every holder and every waiter: wait, at the end; otherwise, with an older holder or an older waiter: back (01, rule 3)
   pub entry-goes : Enters (now k) r a → queueThere (now k) r ≡ [] → ((i : ℕ) → OtherHolder (now k) r i → grants (heldThere (now k) r i) (needed a) ≡ true) → to k r .said ≡ Go (r .job)
   pub entry-waits : Enters (now k) r a → Hindered (now k) r a → ((i : ℕ) → OtherHolder (now k) r i → r .job < i) → ((w : Waiter) → In w (queueThere (now k) r) → r .job < w .job) → to k r .said ≡ Wait (r .job)
   pub entry-at-end : Enters (now k) r a → Hindered (now k) r a → ((i : ℕ) → OtherHolder (now k) r i → r .job < i) → ((w : Waiter) → In w (queueThere (now k) r) → r .job < w .job) → to k r .desk .row (r .cell) ≡ record { held = heldThere (now k) r; queue = queueThere (now k) r ++ asker r a ∷ [] }

@@ -1,4 +1,4 @@
--- The paper's desk: jobs by number, what each job is doing, and for each cell who holds it and who waits (01, Jobs and their numbers).
+-- The paper's desk: jobs by number, what each job is doing, and for each cell its holders and its waiters (01, Jobs and their numbers).
 use Prim.Native.Nat.{ℕ}
 use mathlib.Core.Bool.{Bool, true, false}
 use mathlib.Core.List.{List, []}
@@ -8,7 +8,7 @@ use Rattle.terms.specs.Limits.{places}
 use Rattle.conflict.specs.declared.modes.Mode.{Mode}
 use Rattle.conflict.specs.declared.modes.Mode.the-variants.{Free}
 
--- a job is running, waiting for one cell with what it asked, or sent back while it is open, and closed else (01, Jobs and their numbers)
+-- an open job is running, waiting for one cell with what it asked, or sent back; every other job is closed (01, Jobs and their numbers)
 pub data Status : Type 0 where
   closed : Status
   running : Status
@@ -29,7 +29,7 @@ isLive running = true
 isLive (waiting c a) = true
 isLive sentback = false
 
--- who waits in a queue, and what for
+-- a job that waits in a queue, and what it asked for
 pub record Waiter : Type 0 where
   pub job : ℕ
   pub ask : Ask
@@ -39,14 +39,14 @@ pub record Row : Type 0 where
   pub held : ℕ → Mode
   pub queue : List Waiter
 
--- the desk: the next number, the 32 places with the job in each (0 where free), what each job is doing, and the cells
+-- the desk: the next number, the 32 places with the job in each (0 if free), what each job is doing, and the cells
 pub record Desk : Type 0 where
   pub next : ℕ
   pub jobs : List ℕ
   pub stat : ℕ → Status
   pub row : ℕ → Row
 
--- nobody holds the cell and nobody waits for it
+-- no job holds the cell, and none waits for it
 unfoldable pub idle : Row
 idle = record { held = λ j. Free; queue = [] }
 

@@ -1,4 +1,4 @@
--- What a step does, by its answer: from desk d, before it, to desk e, after it (01, The desk's rules).
+-- What a step does, by its answer, from desk d before it to desk e after it (01, The desk's rules).
 use Prim.Native.Nat.{ℕ, suc, _<_}
 use mathlib.Core.Path.{_≡_}
 use mathlib.Core.Logic.{_≢_}
@@ -26,7 +26,7 @@ pub record Away (d : Desk) (j : ℕ) : Type 0 where
   pub holds-nothing : (c : ℕ) → d .row c .held j ≡ Free
   pub waits-nowhere : (c : ℕ) (w : Waiter) → In w (d .row c .queue) → w .job ≢ j
 
--- from desk d to desk e job j was begun: it has the number that was next, was closed before, runs, has a place, and has no part in any cell; every other job and every cell is as before
+-- from desk d to desk e job j was begun: it has the number that was next, was closed before, now runs, has a place, and has no part in any cell; every other job and every cell is as before
 pub record Begins (d e : Desk) (j : ℕ) : Type 0 where
   pub number : j ≡ d .next
   pub next : e .next ≡ suc (d .next)
@@ -57,7 +57,7 @@ pub record Closes (d e : Desk) (j : ℕ) : Type 0 where
   pub others : (i : ℕ) → i ≢ j → i ≢ 0 → member i (e .jobs) ≡ member i (d .jobs)
   pub next : e .next ≡ d .next
 
--- from desk d to desk e job j was sent back: it has that status and no part in any cell, and keeps its number and its place among the 32
+-- from desk d to desk e job j was sent back: it has that status, has no part in any cell, and keeps its number and its place among the 32
 pub record SendsBack (d e : Desk) (j : ℕ) : Type 0 where
   pub status : e .stat j ≡ sentback
   pub away : Away e j
@@ -65,7 +65,7 @@ pub record SendsBack (d e : Desk) (j : ℕ) : Type 0 where
   pub places : e .jobs ≡ d .jobs
   pub next : e .next ≡ d .next
 
--- from desk d to desk e request r of job j went with ask a: the job holds a mode that covers its need, every other job holds what it held, every other cell, every queue, and all else is as before
+-- from desk d to desk e request r of job j went with ask a: the job holds a mode that covers its need; every other job holds what it held; every other cell, every queue and all else is as before
 pub record Grants (d e : Desk) (r : Request) (a : Ask) (j : ℕ) : Type 0 where
   pub job : j ≡ r .job
   pub holds : covers (e .row (r .cell) .held j) (needed a) ≡ true
@@ -76,7 +76,7 @@ pub record Grants (d e : Desk) (r : Request) (a : Ask) (j : ℕ) : Type 0 where
   pub places : e .jobs ≡ d .jobs
   pub next : e .next ≡ d .next
 
--- what a go leaves a job with that held one mode before and holds another after, asking with a: by rule 1 what it held, by rule 2 what that becomes, by rule 3 what it needs, read S, write X, increment I, u U (01, rules 1 to 3; 02, No. 1)
+-- the mode that a job holds after a go, given the mode before and its ask: by rule 1 the mode it held, by rule 2 what that becomes, by rule 3 what it needs: read S, write X, increment I, u U (01, rules 1 to 3; 02, No. 1)
 pub record Exactly (before after : Mode) (a : Ask) : Type 0 where
   pub kept : covers before (needed a) ≡ true → after ≡ before
   pub promoted : covers before (needed a) ≡ false → isFree before ≡ false → Becomes before a after
@@ -86,12 +86,12 @@ pub record Exactly (before after : Mode) (a : Ask) : Type 0 where
 abbrev pub Keeps : Desk → Desk → ℕ → ℕ → Type 0
 Keeps d e i c = covers (e .row c .held i) (d .row c .held i) ≡ true
 
--- the queue q is the queue p with waiter w put in front, for a job that holds the cell, or at the end, for a job that does not
+-- queue q is queue p with waiter w added: in front if its job holds the cell, at the end if it does not
 pub data Joined (holdsNothing : Bool) (w : Waiter) (p : List Waiter) : List Waiter → Type 0 where
   promotion : holdsNothing ≡ false → Joined holdsNothing w p (w ∷ p)
   newcomer : holdsNothing ≡ true → Joined holdsNothing w p (p ++ w ∷ [])
 
--- from desk d to desk e request r made its job j wait with ask a: its status says so, it stands in the queue as the rules say, everybody holds what they held, and all else is as before
+-- from desk d to desk e request r made its job j wait with ask a: its status says so, it is in the queue where the rules put it, every job holds what it held, and all else is as before
 pub record StartsToWait (d e : Desk) (r : Request) (a : Ask) (j : ℕ) : Type 0 where
   pub job : j ≡ r .job
   pub asking : Asking d r a
@@ -103,13 +103,13 @@ pub record StartsToWait (d e : Desk) (r : Request) (a : Ask) (j : ℕ) : Type 0 
   pub places : e .jobs ≡ d .jobs
   pub next : e .next ≡ d .next
 
--- the step that gives this answer is a commit, a give-up or a sending back of the request's job
+-- this answer says that the step commits, gives up or sends back the request's job
 pub data RunEnds (said : Answer) (r : Request) : Type 0 where
   by-commit : letterOf (r .kind) ≡ Known Commit → said ≡ Go (r .job) → RunEnds said r
   by-give-up : letterOf (r .kind) ≡ Known GiveUp → said ≡ Go (r .job) → RunEnds said r
   by-back : said ≡ Back (r .job) → RunEnds said r
 
--- from desk d to desk e the wake a: what was asked, that it waited for that, and what it is and holds now
+-- from desk d to desk e, for wake a: its job waited for exactly that, and what the job is and holds now
 pub record WakeTells (d e : Desk) (a : Action) : Type 0 where
   pub ask : Ask
   pub kind : a .kind ≡ recorded ask
@@ -120,7 +120,7 @@ pub record WakeTells (d e : Desk) (a : Action) : Type 0 where
   pub holds : covers (e .row (a .cell) .held (a .job)) (needed ask) ≡ true
   pub gone : (c : ℕ) (w : Waiter) → In w (e .row c .queue) → w .job ≢ a .job
 
--- what a wake leaves a job with that waited with a: what its mode becomes if it held the cell, and what it needs if it did not (01, rules 2 to 4; 02, No. 1)
+-- the mode that a job is woken with after it waited with a: what its mode becomes if it held the cell, else what it needs (01, rules 2 to 4; 02, No. 1)
 pub record WokenWith (before after : Mode) (a : Ask) : Type 0 where
   pub promoted : isFree before ≡ false → Becomes before a after
   pub entered : isFree before ≡ true → after ≡ needed a

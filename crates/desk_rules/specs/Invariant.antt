@@ -1,4 +1,4 @@
--- What holds of every started desk: of each row, and of the desk as a whole. Stated here; that every step keeps it is proved in the files that cite it.
+-- What holds for every started desk: for each row, and for the desk as a whole. It is stated here; the files that cite it prove that every step keeps it.
 use Prim.Native.Nat.{ℕ, _<_}
 use mathlib.Core.Path.{_≡_}
 use mathlib.Core.Logic.{_≢_}
@@ -20,14 +20,14 @@ abbrev pub Falling : List Waiter → Type 0
 Falling [] = Unit {0}
 Falling (w ∷ q) = ((v : Waiter) → In v q → v .job < w .job) × Falling q
 
--- the first waiter, if there is one, has somebody in its way: another job whose mode does not grant what it wants
+-- the first waiter, if there is one, has a job in its way: another job whose mode does not grant what it wants
 abbrev pub FirstBlocked : (ℕ → Mode) → List Waiter → Type 0
 FirstBlocked held [] = Unit {0}
 FirstBlocked held (w ∷ q) = (i : ℕ) × (i ≢ w .job) × (grants (held i) (wants held w) ≡ false)
 
--- of one cell
+-- for one cell
 pub record RowInv (stat : ℕ → Status) (c : ℕ) (r : Row) : Type 0 where
-  -- modes held by different jobs are beside each other
+  -- modes held by different jobs may be held together
   pub pairs : (i j : ℕ) → i ≢ j → beside (r .held i) (r .held j) ≡ true
   -- a waiter is older than every other holder
   pub elder : (w : Waiter) (i : ℕ) → In w (r .queue) → i ≢ w .job → isFree (r .held i) ≡ false → w .job < i
@@ -35,17 +35,17 @@ pub record RowInv (stat : ℕ → Status) (c : ℕ) (r : Row) : Type 0 where
   pub blocked : FirstBlocked (r .held) (r .queue)
   -- a waiter does not hold what it waits for
   pub lacks : (w : Waiter) → In w (r .queue) → covers (r .held (w .job)) (needed (w .ask)) ≡ false
-  -- a waiter's status says so: it waits for this cell with this ask
+  -- a waiter's status agrees: it waits for this cell with this ask
   pub stands : (w : Waiter) → In w (r .queue) → stat (w .job) ≡ waiting c (w .ask)
   -- a holder is live
   pub holds : (j : ℕ) → isFree (r .held j) ≡ false → isLive (stat j) ≡ true
-  -- only cells that there are have waiters
+  -- only cells 0 to 63 have waiters
   pub within : (w : Waiter) → In w (r .queue) → c < cells
 
--- of the desk
+-- for the desk
 pub record Inv (d : Desk) : Type 0 where
   pub rows : (c : ℕ) → RowInv (d .stat) c (d .row c)
-  -- waiting in the status is standing in that queue
+  -- a job's status is waiting for a cell exactly if it stands in that queue
   pub queues : (j c : ℕ) (a : Ask) → d .stat j ≡ waiting c a → In (record { job = j; ask = a }) (d .row c .queue)
   -- the open jobs are those in the places
   pub seats : (j : ℕ) → isOpen (d .stat j) ≡ true → member j (d .jobs) ≡ true

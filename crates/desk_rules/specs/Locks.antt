@@ -1,4 +1,4 @@
--- The locks of one cell: who agrees with whom, who is older, and how waiters are granted from the front (01, rules 2 to 4).
+-- The locks of one cell: which modes agree, which job is older, and how waiters are granted from the front (01, rules 2 to 4).
 use Prim.Native.Nat.{ℕ}
 use mathlib.Core.Bool.{Bool, true, false, _&&_, _||_}
 use mathlib.Core.List.{List, [], _∷_}
@@ -10,17 +10,17 @@ use Rattle.conflict.specs.Modes.{needed, grants, asked, isFree}
 use Rattle.laws.specs.Functions.{at}
 use Rattle.desk_rules.specs.Desk.{Waiter, Row}
 
--- the test holds of every job of the list
+-- the test holds for every job of the list
 unfoldable pub every : (ℕ → Bool) → List ℕ → Bool
 every f [] = true
 every f (i ∷ is) = f i && every f is
 
--- the test holds of every waiter of the queue
+-- the test holds for every waiter of the queue
 unfoldable pub everyWaiter : (Waiter → Bool) → List Waiter → Bool
 everyWaiter f [] = true
 everyWaiter f (w ∷ q) = f w && everyWaiter f q
 
--- whether nobody waits
+-- whether the queue is empty
 unfoldable pub isEmpty : List Waiter → Bool
 isEmpty [] = true
 isEmpty (w ∷ q) = false
@@ -42,7 +42,7 @@ unfoldable pub without : ℕ → List Waiter → List Waiter
 without j [] = []
 without j (w ∷ q) = pick (eqb (w .job) j) (without j q) (w ∷ without j q)
 
--- a row whose waiters have been granted from the front, and who was granted, in order
+-- a row after its waiters have been granted from the front, and those granted, in order
 pub record Settled : Type 0 where
   pub row : Row
   pub woken : List Waiter
@@ -51,7 +51,7 @@ pub record Settled : Type 0 where
 unfoldable pub wants : (ℕ → Mode) → Waiter → Mode
 wants held w = asked (held (w .job)) (needed (w .ask))
 
--- one more waiter at the head of those granted
+-- one more waiter in front of those granted
 unfoldable pub wokenFirst : Waiter → Settled → Settled
 wokenFirst w s = record { row = s .row; woken = w ∷ s .woken }
 
@@ -62,6 +62,6 @@ settle js held (w ∷ q) =
     pick (agrees js held (w .job) (wants held w)) (wokenFirst w (settle js (at held (w .job) (wants held w)) q))
     (record { row = record { held = held; queue = w ∷ q }; woken = [] })
 
--- one row after a job has dropped its lock and its place in the queue, and the waiters left have been granted (01, rule 4)
+-- one row after a job has dropped its lock and its place in the queue, and the remaining waiters have been granted (01, rule 4)
 unfoldable pub released : List ℕ → ℕ → Row → Settled
 released js j r = settle js (at (r .held) j Free) (without j (r .queue))

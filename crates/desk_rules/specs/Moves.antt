@@ -1,4 +1,4 @@
--- The rules as a relation: one move to a rule, with what the rule tests and what it leaves written out (01, The desk's rules; 01, Refusals by number).
+-- The rules as a relation: one move for each rule, with what the rule tests and what it leaves written out (01, The desk's rules; 01, Refusals by number).
 use Prim.Native.Nat.{ℕ, suc, _≤_}
 use mathlib.Core.Path.{_≡_}
 use mathlib.Core.Bool.{Bool, true, false, _&&_}
@@ -23,7 +23,7 @@ use Rattle.desk_rules.specs.Rules.{Outcome, withRow, withStatus, rule4}
 use Rattle.desk_rules.specs.Table.{Due}
 use Rattle.desk_rules.specs.Asked.{Asking, asker, heldThere, ownMode, askedThere, queueThere}
 
--- go: this desk, and nobody is woken
+-- go: the desk is this one, and no job is woken
 abbrev pub goes : Desk → ℕ → Outcome
 goes e j = record { desk = e; said = Go j; wakes = [] }
 
@@ -31,7 +31,7 @@ goes e j = record { desk = e; said = Go j; wakes = [] }
 abbrev pub taking : Desk → ℕ → ℕ → Mode → Outcome
 taking d j c m = goes (withRow d c (record { held = at (d .row c .held) j m; queue = d .row c .queue })) j
 
--- the job waits in this queue, and everybody still holds what they hold
+-- the job waits in this queue, and every job holds what it held
 abbrev pub standing : Desk → ℕ → ℕ → Ask → List Waiter → Outcome
 standing d j c a q =
     record {
@@ -48,15 +48,15 @@ eldest d r = olderThanHolders (d .jobs) (heldThere d r) (r .job)
 abbrev pub fitsIn : Desk → Request → Mode → Bool
 fitsIn d r m = agrees (d .jobs) (heldThere d r) (r .job) m
 
--- neither to go nor to wait: what is left of rules 2 and 3 where they say "otherwise"
+-- neither go nor wait: the rest of rules 2 and 3, where they say "otherwise"
 pub data Otherwise (d : Desk) (r : Request) (a : Ask) : Type 0 where
-  -- rule 2: a promotion, its new mode disagrees with another holder, and the job is not older than every other holder
+  -- rule 2: a promotion whose new mode disagrees with another holder, and the job is not older than every other holder
   no-promotion : covers (ownMode d r) (needed a) ≡ false → isFree (ownMode d r) ≡ false → fitsIn d r (askedThere d r a) ≡ false → eldest d r ≡ false → Otherwise d r a
-  -- rule 3: a newcomer, the queue is not empty or the mode disagrees with a holder, and the job is not older than every holder and every waiter
+  -- rule 3: a newcomer, the queue is not empty or its mode disagrees with a holder, and it is not older than every holder and every waiter
   no-entry : isFree (ownMode d r) ≡ true → (isEmpty (queueThere d r) && fitsIn d r (needed a)) ≡ false →
       (eldest d r && olderThanWaiters (queueThere d r) (r .job)) ≡ false → Otherwise d r a
 
--- the moves, with what each leaves and tells written out; what rule 4 does is said by its own definition, and what that is by the promises of wakes
+-- the moves, with what each leaves and tells written out. What rule 4 does is left to its own definition, and the promises of wakes say what that is
 pub data Moved (d : Desk) (r : Request) : Outcome → Type 0 where
   -- a refusal that the table says is due
   refuses : (why : Refusal) → Due d r why → Moved d r (refused d why)
@@ -72,13 +72,13 @@ pub data Moved (d : Desk) (r : Request) : Outcome → Type 0 where
   retries : letterOf (r .kind) ≡ Known Retry → d .stat (r .job) ≡ sentback → Moved d r (goes (withStatus d (r .job) running) (r .job))
   -- rule 1: the job holds a covering mode, and nothing changes
   has-it : (a : Ask) → Asking d r a → covers (ownMode d r) (needed a) ≡ true → Moved d r (goes d (r .job))
-  -- rule 2: a promotion goes where its new mode agrees with the other holders
+  -- rule 2: a promotion goes if its new mode agrees with the other holders
   promotes : (a : Ask) → Asking d r a → covers (ownMode d r) (needed a) ≡ false → isFree (ownMode d r) ≡ false → fitsIn d r (askedThere d r a) ≡ true →
       Moved d r (taking d (r .job) (r .cell) (askedThere d r a))
   -- rule 2: older than every other holder it waits at the front
   waits-in-front : (a : Ask) → Asking d r a → covers (ownMode d r) (needed a) ≡ false → isFree (ownMode d r) ≡ false → fitsIn d r (askedThere d r a) ≡ false → eldest d r ≡ true →
       Moved d r (standing d (r .job) (r .cell) a (asker r a ∷ queueThere d r))
-  -- rule 3: a newcomer goes where the queue is empty and its mode agrees with every holder
+  -- rule 3: a newcomer goes if the queue is empty and its mode agrees with every holder
   enters : (a : Ask) → Asking d r a → isFree (ownMode d r) ≡ true → isEmpty (queueThere d r) ≡ true → fitsIn d r (needed a) ≡ true →
       Moved d r (taking d (r .job) (r .cell) (needed a))
   -- rule 3: older than every holder and every waiter it waits at the end

@@ -1,4 +1,4 @@
--- EVERY PROMISE OF A DESK, said once: of the paper's desk, and of each desk that runs, by what it shows from now on and the history that it has written.
+-- EVERY PROMISE OF A DESK, said once: for the paper's desk and for each desk that runs, by what it shows from now on and the history that it has written.
 use Rattle.terms.specs.declared.letters.Ask.{Ask}
 use Rattle.conflict.specs.History.{History}
 use Rattle.desks.specs.DeskLimits.{DeskLimits}
@@ -34,7 +34,7 @@ pub record Promises (h : History) (k : Course) : Type 0 where
   -- demand 2: locks, and the history
   pub locking : Locking k h
   pub serial : SerialHistory h
-  -- demand 3: who waits is served, and who is oldest is never sent back
+  -- demand 3: a waiting job is served, and the oldest job is never sent back
   pub service : Service k
   pub ages : Ages k
   -- the update lock (02, No. 1)

@@ -1,4 +1,4 @@
--- What is promised of refusals and answers: a refusal exactly where the table has it due, and what an answer names (01, Refusals by number; 01, Lines).
+-- What is promised of refusals and answers: a refusal exactly if the table has it due, and what an answer names (01, Refusals by number; 01, Lines).
 use Prim.Native.Nat.{_≤_}
 use mathlib.Core.Path.{_≡_}
 use mathlib.Core.Bool.{true}
@@ -13,7 +13,7 @@ use Rattle.desk_rules.specs.Table.{holds, dueOf, Due, named}
 use Rattle.desk_rules.specs.Course.{Course}
 
 pub record Refuses (k : Course) : Type 0 where
-  -- a step is refused exactly where the table has that refusal due, and it changes nothing
+  -- a step is refused exactly if the table has that refusal due, and it then changes nothing
   pub by-table : RefusesBy dueOf named k
   -- the row of a refusal that is due holds
   pub due-holds : (r : Request) (why : Refusal) → Due (now k) r why → holds (letterOf (r .kind)) (now k .stat (r .job)) (r .cell) (now k) why ≡ true

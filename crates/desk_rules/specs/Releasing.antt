@@ -1,4 +1,4 @@
--- Rule 4 at one cell: the row after a run has ended, told of the row as it was before (01, rule 4).
+-- Rule 4 at one cell: the row after a run has ended, compared with the row before (01, rule 4).
 use Prim.Native.Nat.{ℕ, _<_}
 use mathlib.Core.Path.{_≡_}
 use mathlib.Core.Logic.{_≢_}
@@ -25,7 +25,7 @@ Seated js held = (i : ℕ) → isFree (held i) ≡ false → member i js ≡ tru
 pub record Releases (js : List ℕ) (j : ℕ) (r : Row) (s : Settled) : Type 0 where
   -- the job holds nothing
   pub dropped : s .row .held j ≡ Free
-  -- what is woken stands ahead of what is left, without the job's place
+  -- those woken stood ahead of those left, once the job's own place is gone
   pub parted : without j (r .queue) ≡ s .woken ++ s .row .queue
   -- another job that is not woken holds what it held
   pub kept : (i : ℕ) → i ≢ j → ((w : Waiter) → In w (s .woken) → w .job ≢ i) → s .row .held i ≡ r .held i
@@ -36,22 +36,22 @@ pub record Releases (js : List ℕ) (j : ℕ) (r : Row) (s : Settled) : Type 0 w
   pub in-turn : (v w : Waiter) → Ahead v w (s .woken) → grants (wants (r .held) v) (wants (r .held) w) ≡ true
   -- the others' locks only grow
   pub grown : (i : ℕ) → i ≢ j → covers (s .row .held i) (r .held i) ≡ true
-  -- who is woken is another job, and waited
+  -- a woken job is another job, and it waited
   pub woken-was : (w : Waiter) → In w (s .woken) → In w (r .queue)
   pub woken-other : (w : Waiter) → In w (s .woken) → w .job ≢ j
-  -- so did who is left
+  -- and so did every job left in the queue
   pub left-was : (w : Waiter) → In w (s .row .queue) → In w (r .queue)
   pub left-other : (w : Waiter) → In w (s .row .queue) → w .job ≢ j
-  -- who is left is older than who is woken
+  -- every job left is older than every job woken
   pub across : (v w : Waiter) → In v (s .woken) → In w (s .row .queue) → w .job < v .job
-  -- holders are listed, beside each other and younger than the waiters left, the queue falls, and whoever is first in it is blocked
+  -- holders are listed, may hold together and are younger than the waiters left; the queue falls; and the first waiter left is blocked
   pub seats : Seated js (s .row .held)
   pub pairs : (i k : ℕ) → i ≢ k → beside (s .row .held i) (s .row .held k) ≡ true
   pub elder : (w : Waiter) (i : ℕ) → In w (s .row .queue) → i ≢ w .job → isFree (s .row .held i) ≡ false → w .job < i
   pub down : Falling (s .row .queue)
   pub blocked : FirstBlocked (s .row .held) (s .row .queue)
 
--- the step carries rule 4 out for the request's job: every cell is released, and those granted there, cell by cell from 0 to 63, are the step's wakes (01, rule 4)
+-- the step carries out rule 4 for the request's job: every cell is released, and the jobs granted there, cell by cell from 0 to 63, are the step's wakes (01, rule 4)
 pub record AllReleased (d : Desk) (o : Outcome) (r : Request) : Type 0 where
   pub settled : ℕ → Settled
   pub rows : (c : ℕ) → o .desk .row c ≡ settled c .row

@@ -48,7 +48,7 @@ unfoldable pub isWoken : ℕ → List Action → Bool
 isWoken j [] = false
 isWoken j (a ∷ rest) = eqb (a .job) j || isWoken j rest
 
--- the statuses once the woken jobs run again
+-- the statuses when the woken jobs run again
 unfoldable pub runAgain : (ℕ → Status) → List Action → ℕ → Status
 runAgain stat wakes j = pick (isWoken j wakes) running (stat j)
 
@@ -56,7 +56,7 @@ runAgain stat wakes j = pick (isWoken j wakes) running (stat j)
 unfoldable pub rowsAfter : Desk → ℕ → ℕ → Settled
 rowsAfter d j c = released (d .jobs) j (d .row c)
 
--- rule 4: a run ends. The job has the status given, its place among the 32 is as given, the cells are settled and the woken jobs run
+-- rule 4: a run ends. The job gets the status given, the places are those given, the cells are settled and the woken jobs run
 unfoldable pub rule4 : Desk → ℕ → Status → List ℕ → Answer → Outcome
 rule4 d j s js said =
     let wakes : List Action = wakesOf (rowsAfter d j) cells in
@@ -113,7 +113,7 @@ rule3 d j c a =
     (queued d j c a (d .row c .queue ++ record { job = j; ask = a } ∷ []))
     (sendBack d j))
 
--- read, write, increment or u of a running job: rule 1 where what it holds covers what it needs, rule 3 where it holds nothing, rule 2 else
+-- read, write, increment or u of a running job: rule 1 if what it holds covers its need, rule 3 if it holds nothing, otherwise rule 2
 unfoldable pub ask : Desk → ℕ → ℕ → Ask → Outcome
 ask d j c a =
     let held = d .row c .held j in

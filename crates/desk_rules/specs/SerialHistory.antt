@@ -12,17 +12,17 @@ use Rattle.conflict.specs.Runs.{ended}
 use Rattle.conflict.specs.Dirty.{IsDirty}
 
 pub record SerialHistory (h : History) : Type 0 where
-  -- the committed part is conflict-equivalent to its jobs one after another in the order of their commits, which names no job twice (demand 2)
+  -- the committed part is conflict-equivalent to its jobs run one after another in the order of their commits, which names no job twice (demand 2)
   pub serial-by-commits : Equivalent (committedPart h) (serial (commitOrder h) (committedPart h))
   pub commits-once : distinct (commitOrder h) ≡ true
-  -- so it is conflict-serializable as the book has it, and has no knot (000, 18.2; 01, The judge's rules)
+  -- so it is conflict-serializable in the book's sense, and has no knot (000, 18.2; 01, The judge's rules)
   pub serializable : ConflictSerializable (committedPart h)
   pub never-a-knot : (js : List ℕ) → knot (edge (committedPart h)) js ≡ true → ⊥
-  -- from each action to the end of its run nothing of another job conflicts with it (01, The desk's rules)
+  -- from each action to the end of its run no action of another job conflicts with it (01, The desk's rules)
   pub history-strict : strict h ≡ true
-  -- an action stands only after the run of every earlier one that conflicts with it has ended: so a read after every write and increment of its cell by another job (02, No. 2)
+  -- an action comes only after the run of every earlier action that conflicts with it has ended: so a read comes after the end of every run of another job that wrote or incremented its cell (02, No. 2)
   pub after-their-ends : (before : History) (a : Action) (between : History) (b : Action) (after : History) → h ≡ before ++ Does a ∷ between ++ Does b ∷ after → conflicts a b ≡ true → ended (a .job) between ≡ true
-  -- the history is not dirty, and was not at any moment, however much of it had been written (02, No. 2)
+  -- the history is not dirty, and was not dirty at any moment, however much of it had been written (02, No. 2)
   pub never-dirty : (x y : History) → h ≡ x ++ y → IsDirty x → ⊥
   -- no event of a job follows its c or a, and the committed part is as the paper words it (01, refusals 3 and 13)
   pub no-event-after-end : endsForGood h ≡ true

@@ -17,21 +17,21 @@ use Rattle.desk_rules.specs.Rules.{Outcome, close, ask, retry, begin}
 use Rattle.desks.specs.Started.{StartedOn}
 use Rattle.desks.specs.Records.{recordsBy}
 
--- commit, by what the job is doing: 3 where it is not open, 4 where it waits, 5 where it was sent back
+-- commit, by what the job is doing: 3 if it is not open, 4 if it waits, 5 if it was sent back
 unfoldable pub stepCommit : Desk → ℕ → Status → Outcome
 stepCommit d j closed = refused d NotOpen
 stepCommit d j (waiting c a) = refused d Waiting
 stepCommit d j sentback = refused d SentBack
 stepCommit d j running = close d j
 
--- give-up: 3 where the job is not open
+-- give-up: 3 if the job is not open
 unfoldable pub stepGiveUp : Desk → ℕ → Status → Outcome
 stepGiveUp d j closed = refused d NotOpen
 stepGiveUp d j (waiting c a) = close d j
 stepGiveUp d j sentback = close d j
 stepGiveUp d j running = close d j
 
--- retry: 3 where the job is not open, 4 where it waits, 8 where it runs
+-- retry: 3 if the job is not open, 4 if it waits, 8 if it runs
 unfoldable pub stepRetry : Desk → ℕ → Status → Outcome
 stepRetry d j closed = refused d NotOpen
 stepRetry d j (waiting c a) = refused d Waiting
@@ -45,11 +45,11 @@ stepAsk d j c a (waiting c′ a′) = refused d Waiting
 stepAsk d j c a sentback = refused d SentBack
 stepAsk d j c a running = pick (ltb c cells) (ask d j c a) (refused d CellAbove)
 
--- begin: 7 where the last number was given, then 6 where no place is free
+-- begin: 7 if the last number was given, then 6 if no place is free
 unfoldable pub stepBegin : Desk → Outcome
 stepBegin d = beginning d (d .next) (d .jobs) (begin d)
 
--- a request by its letter; k is no request, nor is any other byte: 1
+-- a request by its letter; 1 for k and for any other byte, which are not requests
 unfoldable pub stepBy : Desk → Request → Lettered → Outcome
 stepBy d r Unknown = refused d UnknownKind
 stepBy d r (Known no-request) = refused d UnknownKind

@@ -1,4 +1,4 @@
--- The refusals of the desk as the paper's table prints them: each row by itself, then the order in which the rows are tested. Nothing here speaks of the step (01, Refusals by number).
+-- The refusals of the desk as the paper's table prints them: each row by itself, then the order in which the rows are tested. The step is not mentioned here (01, Refusals by number).
 use Prim.Native.Nat.{ℕ}
 use mathlib.Core.Path.{_≡_}
 use mathlib.Core.Bool.{Bool, true, false, not, _&&_}
@@ -51,7 +51,7 @@ wasSentBack l s = isSentBack s && letterIs asksOrCommits l
 abbrev pub retriesRunning : Lettered → Status → Bool
 retriesRunning l s = letterIs isRetry l && isRunning s
 
--- the table: when the row of each refusal holds. Rows from 9 on are not this desk's, or not a step's
+-- the table: when the row of each refusal holds. Rows from 9 on do not belong to this desk, or not to a step
 unfoldable pub holds : Lettered → Status → ℕ → Desk → Refusal → Bool
 holds l s c d UnknownKind = otherKind l
 holds l s c d CellAbove = cellAbove l c
@@ -76,7 +76,7 @@ holds l s c d NoRetry = false
 unfoldable pub order : Lettered → List Refusal
 order l = UnknownKind ∷ pick (letterIs isBegin l) (NoNumberLeft ∷ AllOpen ∷ []) (NotOpen ∷ Waiting ∷ SentBack ∷ Running ∷ CellAbove ∷ [])
 
--- what the table says of a request by its letter, what its job is doing and its cell
+-- what the table says of a request, given its letter, what its job is doing and its cell
 unfoldable pub dueBy : Desk → Lettered → Status → ℕ → Option Refusal
 dueBy d l s c = firstOf (holds l s c d) (order l)
 

@@ -1,4 +1,4 @@
--- What is promised of the update lock: what goes beside a held S, U or X, what U and X cover, what becomes of a mode, that nobody gets in beside a U, who alone is sent back from one, how u is recorded, and that it is refused as a read is (02, No. 1).
+-- What is promised of the update lock: what goes beside a held S, U or X; what U and X cover; what a mode becomes; that no job gets in beside a U; when its holder is sent back; how u is recorded; and that u is refused as a read is (02, No. 1).
 use Prim.Native.Nat.{ℕ, _<_}
 use mathlib.Core.Path.{_≡_}
 use mathlib.Core.Logic.{_≢_, _↔_, _⊎_}
@@ -25,15 +25,15 @@ use Rattle.desk_rules.specs.Asked.{Asking, OtherHolder, Enters, heldTher
 use Rattle.desks.specs.Course.{now, to, later, records}
 use Rattle.desk_rules.specs.Course.{Course}
 
--- what a job holds of a cell now
+-- what a job holds on a cell now
 abbrev pub holding : Course → ℕ → ℕ → Mode
 holding k c j = now k .row c .held j
 
--- what it holds of it after the step of a request
+-- what it holds there after the step of a request
 abbrev pub holdingAfter : Course → Request → ℕ → ℕ → Mode
 holdingAfter k r c j = to k r .desk .row c .held j
 
--- in the step of a request job j gets cell c with what it asked for: that request goes, or the job is woken
+-- in the step of a request job j gets cell c with what it asked for: the request goes, or the job is woken
 pub data Gets (k : Course) (r : Request) (j c : ℕ) (a : Ask) : Type 0 where
   by-go : letterOf (r .kind) ≡ Known (Asks a) → r .job ≡ j → r .cell ≡ c → to k r .said ≡ Go j → Gets k r j c a
   by-wake : (x : Action) → In x (to k r .wakes) → x .job ≡ j → x .cell ≡ c → now k .stat j ≡ waiting c a → Gets k r j c a
@@ -56,26 +56,26 @@ pub record HeldSince (k : Course) (got : Request) (rest : List Request) (i c : �
   pub since : (some more : List Request) → rest ≡ some ++ more → later k got .seen some .row c .held i ≡ S
 
 pub record UpdateLock (k : Course) : Type 0 where
-  -- beside a held S a U may be granted: u of a job new to a cell for which nobody waits goes exactly where every other holder has S
+  -- beside a held S a U may be granted: a u of a job new to a cell that no job waits for goes exactly if every other holder has S
   pub u-beside-s : (r : Request) → Enters (now k) r Update → queueThere (now k) r ≡ [] → to k r .said ≡ Go (r .job) ↔ ((i : ℕ) → OtherHolder (now k) r i → heldThere (now k) r i ≡ S)
-  -- beside a held U or X nothing may: nobody who does not have it already goes there, whatever is asked
+  -- beside a held U or X nothing may: a job that does not already have what it asks does not go there, whatever it asks
   pub nothing-beside-u-or-x : (r : Request) (a : Ask) → Asking (now k) r a → covers (ownMode (now k) r) (needed a) ≡ false → (i : ℕ) → OtherHolder (now k) r i → shutsOut (heldThere (now k) r i) ≡ true → to k r .said ≢ Go (r .job)
   -- I and U never go together
   pub never-i-and-u : (c i j : ℕ) → i ≢ j → holding k c i ≡ I → holding k c j ≢ U
   -- U covers reads and u, X covers all
   pub u-covers-reads : (r : Request) (a : Ask) → Asking (now k) r a → ownMode (now k) r ≡ U → (a ≡ asks-read) ⊎ (a ≡ Update) → GoesUnchanged k r
   pub x-covers-all : (r : Request) (a : Ask) → Asking (now k) r a → ownMode (now k) r ≡ X → GoesUnchanged k r
-  -- S with u becomes U, U with write or increment X, I with u X, and so on, as `Becomes` lists them: of a go and of a wake
+  -- S with u becomes U, U with write or increment X, I with u X, and so on, as `Becomes` lists them: for a go and for a wake
   pub becomes-so : (r : Request) (j c : ℕ) (a : Ask) (m : Mode) → Gets k r j c a → Becomes (holding k c j) a m → holdingAfter k r c j ≡ m
-  -- while a job holds U or X on a cell no other job gets a lock there: whoever else holds the cell after a step held it before in the same mode, or that step ended the job's run
+  -- while a job holds U or X on a cell, no other job gets a lock there: every other holder after a step held the cell before in the same mode, or that step ended the job's run
   pub nobody-gets-in : (r : Request) (c i j : ℕ) → i ≢ j → shutsOut (holding k c j) ≡ true → isFree (holdingAfter k r c i) ≡ false → (holdingAfter k r c i ≡ holding k c i) ⊎ (ended j (records k r) ≡ true)
-  -- so its other holders only grow fewer until its run ends
+  -- so its other holders only become fewer until its run ends
   pub only-fewer : (rs : List Request) (c i j : ℕ) → i ≢ j → shutsOut (holding k c j) ≡ true → ended j (k .wrote [] rs) ≡ false → isFree (k .seen rs .row c .held i) ≡ false → k .seen rs .row c .held i ≡ holding k c i
-  -- and of two jobs that read with intent only one at a time holds U
+  -- and of two jobs that read with intent to write, only one at a time holds U
   pub one-at-a-time : (c i j : ℕ) → i ≢ j → shutsOut (holding k c i) ≡ true → shutsOut (holding k c j) ≡ false
-  -- a job that holds U and asks for more is sent back only where an older job has held S there since before it got its U
+  -- a job that holds U and asks for more is sent back only if an older job has held S there since before it got its U
   pub back-only-behind-s : (got : Request) (rest : List Request) (r : Request) (j c : ℕ) → HasU k got rest j c → r .job ≡ j → r .cell ≡ c → later k got .does rest r .said ≡ Back j → (i : ℕ) × (i < j) × HeldSince k got rest i c
-  -- u is recorded as a read, at once, by rule 1 and as a wake
+  -- u is recorded as a read: at once, by rule 1, and as a wake
   pub recorded-as-read : (r : Request) (j c : ℕ) → Gets k r j c Update → In (Does (record { kind = Read; job = j; cell = c })) (records k r)
-  -- refusals apply to u as to r: of a u and an r with the same job and cell the one is refused exactly where the other is, and by the same refusal
+  -- refusals apply to u as to r: of a u and an r with the same job and cell, one is refused exactly if the other is, with the same refusal
   pub refused-as-a-read : (r s : Request) → letterOf (r .kind) ≡ Known (Asks Update) → letterOf (s .kind) ≡ Known (Asks asks-read) → r .job ≡ s .job → r .cell ≡ s .cell → (why : Refusal) → to k r .said ≡ No why ↔ to k s .said ≡ No why

@@ -1,4 +1,4 @@
--- Waiting: who is in a waiter's way, chains of waits, what it is to wait on for the same request, and to be served (demand 3).
+-- Waiting: which jobs are in a waiter's way, chains of waits, and what it means to go on waiting for the same request, and to be served (demand 3).
 use Prim.Native.Nat.{ℕ, _<_, _≤_, zero, suc, _+_}
 use mathlib.Core.Path.{_≡_}
 use mathlib.Core.Logic.{_≢_}
@@ -27,12 +27,12 @@ pub data Ahead (v w : Waiter) : List Waiter → Type 0 where
   in-front : {q : List Waiter} → In w q → Ahead v w (v ∷ q)
   further : {u : Waiter} {q : List Waiter} → Ahead v w q → Ahead v w (u ∷ q)
 
--- job i is in the way of waiter w at a cell: another job that holds the cell, or one that stands ahead of w in the queue (demand 3)
+-- job i is in the way of waiter w at a cell: it is another job that holds the cell, or one that stands ahead of w in the queue (demand 3)
 pub data InWay (r : Row) (w : Waiter) (i : ℕ) : Type 0 where
   holds-it : i ≢ w .job → isFree (r .held i) ≡ false → InWay r w i
   ahead : (v : Waiter) → v .job ≡ i → Ahead v w (r .queue) → InWay r w i
 
--- job i was in the way of a request's job when that asked, on the desk as it was then: another job that held the cell, or, since a job that holds nothing waits last, one that stood in the queue (demand 3)
+-- job i was in the way of a request's job when that one asked: another job that held the cell, or one that stood in the queue, if the asking job held nothing and so waits last (demand 3)
 pub data WasInWay (d : Desk) (r : Request) (i : ℕ) : Type 0 where
   held-it : i ≢ r .job → isFree (d .row (r .cell) .held i) ≡ false → WasInWay d r i
   stood-ahead : isFree (d .row (r .cell) .held (r .job)) ≡ true → (v : Waiter) → v .job ≡ i → In v (d .row (r .cell) .queue) → WasInWay d r i
@@ -41,7 +41,7 @@ pub data WasInWay (d : Desk) (r : Request) (i : ℕ) : Type 0 where
 abbrev pub IsWaiting : Desk → ℕ → Waiter → Type 0
 IsWaiting d c w = d .stat (w .job) ≡ waiting c (w .ask)
 
--- job j waits, and job i is in its way where it waits
+-- job j waits, and job i is in its way there
 pub record WaitsFor (d : Desk) (j i : ℕ) : Type 0 where
   pub cell : ℕ
   pub ask : Ask
@@ -61,7 +61,7 @@ OldestLive d j = (i : ℕ) → i ≢ j → isLive (d .stat i) ≡ true → j < i
 abbrev pub OldestOpen : Desk → ℕ → Type 0
 OldestOpen d j = (i : ℕ) → i ≢ j → isOpen (d .stat i) ≡ true → j < i
 
--- the waiter waits for one and the same request on the desk that is seen now and after each of the requests: a waiting job is refused all but give-up, so it asks nothing in between
+-- the waiter waits for one and the same request now and after each of the requests: a waiting job is refused everything but give-up, so it asks nothing in between
 abbrev pub Waits : (List Request → Desk) → ℕ → Waiter → List Request → Type 0
 Waits seen c w [] = IsWaiting (seen []) c w
 Waits seen c w (r ∷ rs) = IsWaiting (seen []) c w × Waits (λ more. seen (r ∷ more)) c w rs
@@ -70,15 +70,15 @@ Waits seen c w (r ∷ rs) = IsWaiting (seen []) c w × Waits (λ more. seen (r �
 abbrev pub GivesUp : ℕ → Request → Type 0
 GivesUp j r = (letterOf (r .kind) ≡ Known GiveUp) × (r .job ≡ j)
 
--- the waiter does not give up as long as it waits for that request
+-- the waiter does not give up while it waits for that request
 abbrev pub Patient : Course → ℕ → Waiter → List Request → Type 0
 Patient k c w rs = (before : List Request) (r : Request) (rest : List Request) → rs ≡ before ++ r ∷ rest → Waits (k .seen) c w before → GivesUp (w .job) r → ⊥
 
--- every run that was in the waiter's way now ends in the requests: its job gets a c, an a or a k in what they write
+-- every run that is in the waiter's way now ends in the requests: what they write has a c, an a or a k of its job
 abbrev pub AllEnd : Course → ℕ → Waiter → List Request → Type 0
 AllEnd k c w rs = (i : ℕ) → InWay (now k .row c) w i → ended i (k .wrote [] rs) ≡ true
 
--- the step gives the waiter the cell in this mode: it is among the wakes for the cell with what it asked, it runs, and it holds the mode, which covers what it needs
+-- the step gives the waiter the cell in this mode: the wakes have it for the cell with what it asked, it runs, and it holds the mode, which covers its need
 pub record Granted (o : Outcome) (c : ℕ) (w : Waiter) (m : Mode) : Type 0 where
   pub woken : In (wake c w) (o .wakes)
   pub runs : o .desk .stat (w .job) ≡ running
@@ -101,20 +101,20 @@ pub record Served (k : Course) (c : ℕ) (w : Waiter) (rs : List Request) : Type
 abbrev pub AtMostInWay : ℕ → Row → Waiter → Type 0
 AtMostInWay n r w = (is : List ℕ) → distinct is ≡ true → ((i : ℕ) → member i is ≡ true → InWay r w i) → length is ≤ n
 
--- the second sentence of demand 3 of a waiter, from right after it asked on
+-- the second sentence of demand 3 for a waiter, from right after it asked
 pub record ServedInTime (k : Course) (c : ℕ) (w : Waiter) : Type 0 where
   pub waits : IsWaiting (now k) c w
-  -- those in its way are each in a run, and there are at most 31
+  -- the jobs in its way are each in a run, and there are at most 31
   pub in-a-run : (i : ℕ) → InWay (now k .row c) w i → isLive (now k .stat i) ≡ true
   pub at-most : AtMostInWay 31 (now k .row c) w
   -- whatever is requested from then on: if it does not give up while it waits, then once all those runs have ended, it was given its cell in the mode it asked for, at the latest in the step that ended the last of them
   pub served : (rs : List Request) → Patient k c w rs → AllEnd k c w rs → Served k c w rs
 
--- how many stand in the queues of the first n cells
+-- how many jobs stand in the queues of the first n cells
 unfoldable pub standingIn : (ℕ → Row) → ℕ → ℕ
 standingIn rows zero = 0
 standingIn rows (suc n) = standingIn rows n + length (rows n .queue)
 
--- how many stand in the queues of a desk
+-- how many jobs stand in the queues of a desk
 abbrev pub waitersOf : Desk → ℕ
 waitersOf d = standingIn (d .row) cells

@@ -13,7 +13,7 @@ pub data Before (x y : Action) : List Action → Type 0 where
   next : {rest : List Action} → In y rest → Before x y (x ∷ rest)
   further : {z : Action} {rest : List Action} → Before x y rest → Before x y (z ∷ rest)
 
--- the queues are searched cell by cell from 0 to 63, each from the front: x comes before y if its cell is the smaller, or if it is the same cell and its job stood ahead in that cell's queue (01, rule 4)
+-- the queues are searched cell by cell from 0 to 63, each from the front: x comes before y if its cell is smaller, or if the cell is the same and its job stood ahead in that queue (01, rule 4)
 pub data Sooner (d : Desk) (x y : Action) : Type 0 where
   smaller-cell : x .cell < y .cell → Sooner d x y
   stood-ahead : (c : ℕ) (v w : Waiter) → x ≡ wake c v → y ≡ wake c w → Ahead v w (d .row c .queue) → Sooner d x y
