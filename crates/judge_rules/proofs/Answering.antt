@@ -1,4 +1,4 @@
--- The judge's answer is one of the paper's: 14, the refusal of the first faulty line, or of a faultless text dirty, orderly or a knot (01, Refusals by number; 01, The judge's rules; 02, No. 2).
+-- The judge's answer is one of the paper's: 14, the refusal of the first faulty line, or, for a faultless text, dirty, orderly or a knot (01, Refusals by number; 01, The judge's rules; 02, No. 2).
 -- Assumes nothing.
 use Prim.Native.Nat.{ℕ, _≤_}
 use mathlib.Core.Path.{_≡_, refl, sym, _∙_}

@@ -1,4 +1,4 @@
--- The judge in the paper's words and numbers: which texts are faultless, which line is refused, with which number and at which field, and of which texts dirty, orderly and a knot are said; each both ways (01, Refusals by number; 01, The judge's rules; 02, No. 2 and No. 5).
+-- The judge in the paper's words and numbers: which texts are faultless; which line is refused, with which number and at which field; and for which texts dirty, orderly and a knot are said. Each in both directions (01, Refusals by number; 01, The judge's rules; 02, No. 2 and No. 5).
 -- Assumes nothing.
 use Prim.Native.Nat.{ℕ, _-_, _≤_, _<_}
 use mathlib.Core.Path.{_≡_, refl, sym, ap, _∙_, subst}
@@ -46,7 +46,7 @@ module _ (text : List ℕ) where
   few-before : (n : ℕ) → ((m : ℕ) → 1 ≤ m → m < n → Faultless (readingsOf text) m) → n ≤ 4_097
   few-before n all = by-test (leb n 4_097) (λ t. leb-true n 4_097 t) (λ f. absurd (not-4097 (all 4_097 (omega arith) (leb-false n 4_097 f))))
 
-  -- a text is faultless by the table exactly where it is so in the paper's words: at most 4,096 lines, each good, jobs from 1 to 255, cells up to 63, and no line of a job after its c or a
+  -- a text is faultless by the table exactly if it is in the paper's words: at most 4,096 lines, each good, jobs from 1 to 255, cells up to 63, and no line of a job after its c or a
   pub faultless-exactly : AllFaultless (readingsOf text) ↔ SoundText text
   faultless-exactly = (
     λ all.
@@ -79,14 +79,14 @@ module _ (text : List ℕ) where
       }
 
 module _ (text buffer : List ℕ) where
-  -- A REFUSED LINE: with 255 places, line n is refused with a number, and of 9 with a field, exactly where the paper says so
+  -- A REFUSED LINE: with 255 places, line n is refused with a number, and for 9 with a field, exactly if the paper says so
   pub refused-as-worded : (n : ℕ) (why : Refusal) → 1 ≤ n → (judgementOf text buffer .said ≡ No n why) ↔ ((255 ≤ length buffer) × RefusesLine text n (numberOf why) (fieldOf why))
   refused-as-worded n why h = (
     λ e. let p = refused-exactly text buffer n why h .0 e in (p .0, first-worded text n why (p .1)),
     λ p. refused-exactly text buffer n why h .1 (p .0, worded-first text n why (p .1)),
   )
 
-  -- LINE 4,097: 11 is given with line number 4,097 exactly where there is a line 4,097, good or bad, and the 4,096 before it are faultless
+  -- LINE 4,097: 11 is given with line number 4,097 exactly if there is a line 4,097, good or bad, and the 4,096 before it are faultless
   pub too-many-exactly : 255 ≤ length buffer → (inNumbers (judgementOf text buffer .said) ≡ 2 ∷ 11 ∷ 4_097 ∷ 0 ∷ []) ↔ ((4_097 ≤ length (linesOf text)) × SoundTo (linesOf text) 4_096)
   too-many-exactly room = (
     λ e.
@@ -95,7 +95,7 @@ module _ (text buffer : List ℕ) where
     λ p. unfold inNumbers in ap inNumbers (refused-as-worded 4_097 TooManyLines (omega arith) .1 (room, record { from = omega arith; to = p .0; before = p .1; fault = too-many refl })),
   )
 
-  -- WHICH FIELD: 9 is given with line n and a field's number exactly where the lines before are faultless, line n is one of the first 4,096, and that field of it is at fault (02, No. 5)
+  -- WHICH FIELD: 9 is given with line n and a field's number exactly if the lines before are faultless, line n is one of the first 4,096, and that field of it is at fault (02, No. 5)
   pub nine-as-worded : (n : ℕ) (at : Field) → 1 ≤ n → (inNumbers (judgementOf text buffer .said) ≡ 2 ∷ 9 ∷ n ∷ fieldNumber at ∷ [])
       ↔ ((255 ≤ length buffer) × (n ≤ 4_096) × (n ≤ length (linesOf text)) × SoundTo (linesOf text) (n - 1) × AtFault ofHistories (lineAt (linesOf text) n) at)
   nine-as-worded n at h = (
@@ -120,28 +120,28 @@ module _ (text buffer : List ℕ) where
   by-said (Orderly n) e one′ two′ three′ four′ = three′ n e
   by-said (Knot n) e one′ two′ three′ four′ = four′ n e
 
-  -- DIRTY: it is said with this reader and this writer exactly of a faultless text, with 255 places, of which they are those of the first dirty read
+  -- DIRTY: it is said with this reader and this writer exactly if there are 255 places, the text is faultless, and they are those of its first dirty read
   pub dirty-as-worded : (i j : ℕ) → (judgementOf text buffer .said ≡ Dirty i j) ↔ ((255 ≤ length buffer) × SoundText text × FirstDirty says i j)
   dirty-as-worded i j = (
     λ e. let d = dirty-said text buffer i j e in (d .0, faultless-exactly text .0 (d .1), d .2 .first),
     λ p. dirty-said-exactly text buffer (p .0) (faultless-exactly text .1 (p .1)) i j .1 (p .2),
   )
 
-  -- in numbers it is 3, reader, writer, 0
+  -- in numbers that is 3, reader, writer, 0
   pub dirty-in-numbers : (i j : ℕ) → (inNumbers (judgementOf text buffer .said) ≡ 3 ∷ i ∷ j ∷ 0 ∷ []) ↔ ((255 ≤ length buffer) × SoundText text × FirstDirty says i j)
   dirty-in-numbers i j = (
     λ e. dirty-as-worded i j .0 (same-verdict (judgementOf text buffer .said) (Dirty i j) (unfold inNumbers in e)),
     λ p. unfold inNumbers in ap inNumbers (dirty-as-worded i j .1 p),
   )
 
-  -- ORDERLY: it is said exactly of a faultless text, with 255 places, of which the committed part is conflict-serializable and which is not dirty
+  -- ORDERLY: it is said exactly if there are 255 places, the text is faultless and not dirty, and its committed part is conflict-serializable
   pub orderly-as-worded : ((n : ℕ) × (judgementOf text buffer .said ≡ Orderly n)) ↔ ((255 ≤ length buffer) × SoundText text × ConflictSerializable (committedPart says) × (IsDirty says → ⊥))
   orderly-as-worded = (
     λ s. let o = orderly-said text buffer (s .0) (s .1) in (o .0, faultless-exactly text .0 (o .1), orderly-said-exactly text buffer (o .0) (o .1) .0 s .0, o .2 .clean),
     λ p. orderly-said-exactly text buffer (p .0) (faultless-exactly text .1 (p .1)) .1 (p .2, p .3),
   )
 
-  -- A KNOT: it is said exactly of a faultless text, with 255 places, of which the committed part is not conflict-serializable and which is not dirty
+  -- A KNOT: it is said exactly if there are 255 places, the text is faultless and not dirty, and its committed part is not conflict-serializable
   pub knot-as-worded : ((n : ℕ) × (judgementOf text buffer .said ≡ Knot n)) ↔ ((255 ≤ length buffer) × SoundText text × (ConflictSerializable (committedPart says) → ⊥) × (IsDirty says → ⊥))
   knot-as-worded = (
     λ s. let k = knot-said text buffer (s .0) (s .1) in (k .0, faultless-exactly text .0 (k .1), knot-said-exactly text buffer (k .0) (k .1) .0 s .0, k .2 .clean),
@@ -160,7 +160,7 @@ module _ (text buffer : List ℕ) where
       let small : length buffer < 255 = short-exactly text buffer .0 (q ∙ ap (No 0) (line-0-short text buffer why q)) in
       omega arith)
 
-  -- A REFUSAL: one is said exactly where the buffer has fewer than 255 places or the text is not faultless
+  -- A REFUSAL: it is said exactly if the buffer has fewer than 255 places or the text is not faultless
   pub no-as-worded : ((n : ℕ) × (why : Refusal) × (judgementOf text buffer .said ≡ No n why)) ↔ ((length buffer < 255) ⊎ (SoundText text → ⊥))
   no-as-worded = (
     λ s. by-test (leb 255 (length buffer)) (λ t. inr (refused-not-sound (s .0) (s .1) (s .2) (leb-true 255 (length buffer) t))) (λ f. inl (leb-false 255 (length buffer) f)),
@@ -169,7 +169,7 @@ module _ (text buffer : List ℕ) where
         (λ n e. absurd (faulty′ (orderly-as-worded .0 (n, e) .1))) (λ n e. absurd (faulty′ (knot-as-worded .0 (n, e) .1)))),
   )
 
-  -- ALWAYS ONE: one of the four is so of every text and buffer
+  -- ALWAYS ONE: for every text and buffer one of the four holds
   pub always-one : Refused text buffer ⊎ (Dirtied text buffer ⊎ (Ordered text buffer ⊎ Knotted text buffer))
   always-one =
       by-said (judgementOf text buffer .said) refl (λ n why e. inl (no-as-worded .0 (n, why, e)))

@@ -1,4 +1,4 @@
--- A bad line by the table and in the paper's words: it is refused with 9, at the field that is at fault, exactly where it is no good line (01, Lines: all else is refusal 9; 02, No. 5).
+-- A bad line by the table and in the paper's words: it is refused with 9, at the field at fault, exactly if it is not a good line (01, Lines: all else is refusal 9; 02, No. 5).
 -- Assumes nothing.
 use Prim.Native.Nat.{ℕ, _≤_}
 use mathlib.Core.Path.{_≡_, refl, sym, _∙_}
@@ -26,7 +26,7 @@ use Rattle.judge_rules.specs.AsWorded.RefusedAs.{too-many, bad, outside,
 use Rattle.judge_rules.proofs.Readings.{reading-at}
 use Rattle.judge_rules.proofs.OverBefore.{good-at, at-good}
 
--- the table says 9 of a line up to 4,096 that reads as bad, at the field that the reader has
+-- for a line up to 4,096 that reads as bad, the table says 9, at the field that the reader tells
 pub bad-says : (n : ℕ) (before : List Reading) (at : Field) → n ≤ 4_096 → tableSays n before (Bad at) ≡ some (BadLine at)
 unfolding tableSays firstOf holds order
 bad-says n before First h = rw (ne-eqb n 4_097 (omega arith))
@@ -43,7 +43,7 @@ module _ (text : List ℕ) (n : ℕ) where
   pub at-bad : (at : Field) → AtFault ofHistories (lineAt (linesOf text) n) at → readingAt (readingsOf text) n ≡ Bad at
   at-bad at f = reading-at text n ∙ field-exactly ofHistories (lineAt (linesOf text) n) at .1 f
 
-  -- a line that is refused with 9 is one of the first 4,096, and the field of that number is at fault
+  -- a line that is refused with 9 is one of the first 4,096, and the field told is at fault
   pub nine-fault : {k m : ℕ} → RefusedAs (linesOf text) n k m → k ≡ 9 → (n ≤ 4_096) × (at : Field) × (m ≡ fieldNumber at) × AtFault ofHistories (lineAt (linesOf text) n) at
   nine-fault (too-many e) q = absurd (omega arith)
   nine-fault (bad h at b) q = (h, at, refl, b)
@@ -56,7 +56,7 @@ module _ (text : List ℕ) (n : ℕ) where
   some-field other (Bad at) e = (at, bad-at at e)
   some-field other (Good l job cell) e = absurd (other l job cell (good-at text n l job cell e))
 
-  -- NINE: a line is refused with 9, at one of its fields, exactly where it is one of the first 4,096 and no good line (01, Lines: all else is refusal 9)
+  -- NINE: a line is refused with 9, at one of its fields, exactly if it is one of the first 4,096 and not a good line (01, Lines: all else is refusal 9)
   pub nine-exactly : ((field : ℕ) × RefusedAs (linesOf text) n 9 field) ↔ ((n ≤ 4_096) × ((l : Letter) (job cell : ℕ) → LineIs (linesOf text) n l job cell → ⊥))
   nine-exactly = (
     λ r.

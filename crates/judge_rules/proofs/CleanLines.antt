@@ -1,4 +1,4 @@
--- A line is faultless by the table exactly where none of its rows holds (01, Refusals by number).
+-- A line is faultless by the table exactly if none of the rows holds for it (01, Refusals by number).
 -- Assumes nothing.
 use Prim.Native.Nat.{ℕ}
 use mathlib.Core.Path.{_≡_, refl, sym, _∙_}
@@ -31,7 +31,7 @@ bad-nowhere r a b c d Second = b
 bad-nowhere r a b c d Third = c
 bad-nowhere r a b c d Fourth = d
 
--- AT ONE FIELD: of the four rows of 9 at most one holds of a line (02, No. 5)
+-- AT ONE FIELD: at most one of the four rows of 9 holds for a line (02, No. 5)
 pub bad-at-one : (f g : Field) (r : Reading) → isBad f r ≡ true → isBad g r ≡ true → f ≡ g
 bad-at-one f g (Good l job cell) a b = not-both a refl
 bad-at-one f g (Bad at) a b =
@@ -39,7 +39,7 @@ bad-at-one f g (Bad at) a b =
     let e : BadLine f ≡ BadLine g = same-number (BadLine f) (BadLine g) refl q in
     cc
 
--- no row holds of a faultless line
+-- no row holds for a faultless line
 pub record Clean (n : ℕ) (before : List Reading) (r : Reading) : Type 0 where
   pub few : tooMany n ≡ false
   pub good : (at : Field) → isBad at r ≡ false
@@ -47,7 +47,7 @@ pub record Clean (n : ℕ) (before : List Reading) (r : Reading) : Type 0 where
   pub below : above r ≡ false
   pub open′ : overAlready before r ≡ false
 
--- where the table says nothing, each row by itself does not hold
+-- if the table says nothing, no row holds
 pub clean-line : (n : ℕ) (before : List Reading) (r : Reading) → tableSays n before r ≡ none → Clean n before r
 unfolding tableSays firstOf holds order
 clean-line n before r e =
@@ -61,12 +61,12 @@ clean-line n before r e =
     let u = pick-none (overAlready before r) Ended _ (t .1) in
     record { few = p .0; good = bad-nowhere r (q .0) (v .0) (w .0) (x .0); inside = s .0; below = t .0; open′ = u .0 }
 
--- where none of the rows holds the table says nothing
+-- if no row holds, the table says nothing
 pub no-row : (f : Refusal → Bool) → f TooManyLines ≡ false → ((at : Field) → f (BadLine at) ≡ false) → f JobOutside ≡ false → f CellAbove ≡ false → f Ended ≡ false → firstOf f order ≡ none
 unfolding firstOf order
 no-row f a b c d e = rw (a, b First, b Second, b Third, b Fourth, c, d, e)
 
--- and so of a line of which no row holds
+-- and so for a line for which no row holds
 pub line-clean : (n : ℕ) (before : List Reading) (r : Reading) → Clean n before r → tableSays n before r ≡ none
 unfolding tableSays holds
 line-clean n before r c = no-row (holds n before r) (c .few) (c .good) (c .inside) (c .below) (c .open′)

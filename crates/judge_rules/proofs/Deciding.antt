@@ -1,4 +1,4 @@
--- The verdict on a schedule's jobs by its edges: orderly is said exactly where the schedule is conflict-serializable, and then with a serial order of it.
+-- The verdict on a schedule's jobs by its edges: orderly is said exactly if the schedule is conflict-serializable, and then with a serial order of it.
 -- Assumes nothing.
 use Prim.Native.Nat.{ℕ}
 use mathlib.Core.Path.{_≡_, refl, ap}
@@ -51,7 +51,7 @@ module _ (s : Schedule) (jobs : List ℕ) (all : names jobs s ≡ true) where
     pub knot-refutes : (js : List ℕ) → judged (edge s) jobs ≡ knotted js → ConflictSerializable s → ⊥
     knot-refutes js h c = refuted s js (says-knot (edge s) jobs up js h .knots) c
 
-    -- orderly is said exactly where the schedule is conflict-serializable
+    -- orderly is said exactly if the schedule is conflict-serializable
     pub decides : (isOrderly (judged (edge s) jobs) ≡ true) ↔ ConflictSerializable s
     decides = (
       λ t. by-finding (judged (edge s) jobs) (λ order h. forward-serializable order s (said-forward order h)) (λ js h. not-both t (knotted-is js h)),

@@ -1,4 +1,4 @@
--- Reader and writer of a dirty read in a faultless text are 1 to 255, as every job that acts in one is (01, refusal 12; 02, No. 2).
+-- The reader and the writer of a dirty read in a faultless text are 1 to 255, as every job that acts in one is (01, refusal 12; 02, No. 2).
 -- Assumes nothing.
 use Prim.Native.Nat.{ℕ, suc, _-_, _≤_, _<_}
 use mathlib.Core.Path.{_≡_, _∙_, subst}
@@ -35,11 +35,11 @@ module _ {P : Type 0} (h before : History) (a : Action) (after : History) (later
       by-front [] r = first cc
       by-front (b ∷ front) r = later front cc
 
-  -- a mark is no action
+  -- a mark is not an action
   not-a-mark : (m : Mark) (job : ℕ) → Ends m job ∷ h ≡ before ++ Does a ∷ after → P
   not-a-mark m job q = first-or-later (Ends m job) q (λ e. let z : _≡_ {A = ℕ} 0 1 = cc in absurd (omega arith))
 
-  -- what a line says stands before the rest
+  -- the event of a line comes before the rest
   line-or-later : (r : Reading) → outside r ≡ false → eventOf r ++ h ≡ before ++ Does a ∷ after → (Judged (a .job) → P) → P
   unfolding eventOf
   line-or-later (Bad at) o q one = later before q

@@ -1,5 +1,5 @@
--- Histories and texts, computed. The histories: the empty one, one with a k and a committed job without actions, a walk that starts off its cycle, a knot of three that shows the direction,
--- and where there is a choice: an order behind two predecessors, a job with two remaining predecessors, and two cycles. The texts: specs/JudgedSet.antt.
+-- Histories and texts, computed. The histories: the empty one; one with a k and a committed job without actions; a walk that starts off its cycle; a knot of three that shows the direction;
+-- and three with a choice: an order with two predecessors, a job with two remaining predecessors, and two cycles. The texts: specs/JudgedSet.antt.
 -- Assumes nothing.
 use Prim.Native.Nat.{ℕ}
 use mathlib.Core.Path.{_≡_, refl}
@@ -57,7 +57,7 @@ k j = Ends Back j
 abbrev sent-back : History
 sent-back = r 1 A ∷ w 2 A ∷ k 1 ∷ r 1 A ∷ c 1 ∷ c 2 ∷ c 9 ∷ []
 
--- H1 between 3 and 7, where 1 reads what 7 writes and 5 writes what 3 reads last: 5 is behind the knot, and the walk starts at 1, off it
+-- H1 between 3 and 7; 1 reads what 7 writes, and 5 writes what 3 reads last: 5 is behind the knot, and the walk starts at 1, off it
 abbrev off-cycle : History
 off-cycle = w 7 2 ∷ r 1 2 ∷ r 3 A ∷ r 7 A ∷ w 3 A ∷ w 7 A ∷ r 3 4 ∷ w 5 4 ∷ c 7 ∷ c 5 ∷ c 3 ∷ c 1 ∷ []
 
@@ -65,7 +65,7 @@ off-cycle = w 7 2 ∷ r 1 2 ∷ r 3 A ∷ r 7 A ∷ w 3 A ∷ w 7 A ∷ r 3 4 �
 abbrev three-round : History
 three-round = w 3 0 ∷ w 5 0 ∷ w 5 1 ∷ w 2 1 ∷ w 2 2 ∷ w 3 2 ∷ c 5 ∷ c 3 ∷ c 2 ∷ []
 
--- 3 and then 2 give to 1, and 4 is free: at each place the smallest whose predecessors all stand, so 1 stands as soon as both do, and before 4
+-- 3 and then 2 have edges to 1, and 4 has none: at each place the smallest whose predecessors all stand, so 1 stands as soon as both do, and before 4
 abbrev two-ahead : History
 two-ahead = w 3 A ∷ r 2 B ∷ w 1 A ∷ w 1 B ∷ r 4 2 ∷ c 4 ∷ c 3 ∷ c 1 ∷ c 2 ∷ []
 
@@ -77,7 +77,7 @@ two-predecessors = w 1 0 ∷ w 3 0 ∷ w 3 1 ∷ w 1 1 ∷ w 1 2 ∷ w 2 2 ∷ w
 abbrev two-cycles : History
 two-cycles = w 2 0 ∷ w 3 0 ∷ w 3 1 ∷ w 2 1 ∷ c 2 ∷ c 3 ∷ w 1 2 ∷ w 4 2 ∷ w 4 3 ∷ w 1 3 ∷ c 4 ∷ c 1 ∷ []
 
--- a history and what is found of it
+-- a history and what is found for it
 pub record Sample : Type 0 where
   pub history : History
   pub finding : Finding
@@ -94,12 +94,12 @@ samples =
     ∷ record { history = two-cycles; finding = knotted (1 ∷ 4 ∷ []) }
     ∷ []
 
--- each is judged so
+-- each is judged as listed
 pub tried : map (λ s. findingOf (s .history)) samples ≡ map (λ s. s .finding) samples
 unfolding member agree conflicts keep touches edge isCommit isBack marked partOf committedPart put commitOrder preceded first ready without ends leads taken orderOf stuck predecessor upTo from walk least turnTo turn knotIn findingBy judged insert sorted jobsOf findingOf
 tried = refl
 
--- each of these texts is told so
+-- each of these texts is told as listed
 pub all-told : map tells cases ≡ map told cases
 unfolding bytes parts fieldAhead afterField isDigit digitsOnly valueFrom shortest isNumber numberThen ending cellPart jobPart letterIn letterPart readLine inFront linesOf member put recorded agree conflicts keep touches edge isCommit isBack marked partOf committedPart commitOrder preceded first ready without ends leads taken orderOf stuck predecessor upTo from walk least turnTo turn knotIn findingBy judged insert sorted jobsOf findingOf readingsOf faultOfGood faultOf lineFault endedAfter orLater firstFaulty eventOf eventsIn bare commits isEnd ended changes spoils lookBack writerOf readOrLater dirtyFrom dirtyOf filled sayFinding sayHistory sayLines judgementOf inNumbers
 all-told = refl

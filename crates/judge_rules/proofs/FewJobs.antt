@@ -62,7 +62,7 @@ marked-here m job j h e one′ two′ =
     or-either (eqb job j && isCommit m) (marked isCommit j h) (sym (marked-ends isCommit j m job h) ∙ e)
     (λ t. one′ (eqb-true job j (and-first (eqb job j) (isCommit m) t))) two′
 
--- the same by what the line reads
+-- the same, by how the line reads
 marked-line : {P : Type 0} (r : Reading) (h : History) (j : ℕ) → outside r ≡ false → marked isCommit j (eventOf r ++ h) ≡ true →
     ((1 ≤ j) × (j ≤ judgedJobs) → P) → (marked isCommit j h ≡ true → P) → P
 unfolding eventOf

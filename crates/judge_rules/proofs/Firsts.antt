@@ -1,4 +1,4 @@
--- The first job that passes a test: it is there and passes, it is missing only where none does, and in an ascending list it is the smallest that does.
+-- The first job that passes a test: it is in the list and passes, it is missing only if none passes, and in an ascending list it is the smallest that does.
 -- Assumes nothing.
 use Prim.Native.Nat.{ℕ, _≤_}
 use mathlib.Core.Path.{_≡_, refl, sym, ap, _∙_}
@@ -30,7 +30,7 @@ some-same e = cc
 some-none : {P : Type 0} {a : ℕ} → _≡_ {A = Option ℕ} (some a) none → P
 some-none e = let z : _≡_ {A = ℕ} 0 1 = cc in absurd (omega arith)
 
--- the one found is of the list, and passes
+-- the job found is in the list, and passes
 pub first-is : (f : ℕ → Bool) (js : List ℕ) (j : ℕ) → first f js ≡ some j → (member j js ≡ true) × (f j ≡ true)
 unfolding first
 first-is f [] j h = some-none (sym h)
@@ -38,7 +38,7 @@ first-is f (k ∷ ks) j h =
     by-test (f k) (λ t. let e : k ≡ j = some-same (rw t at h) in (rw e (member-first j ks), rw (← e) t))
     (λ g. let r = first-is f ks j (rw g at h) in (member-more k ks j (r .0), r .1))
 
--- where none is found, none passes
+-- if none is found, none passes
 pub first-none : (f : ℕ → Bool) (js : List ℕ) → first f js ≡ none → (j : ℕ) → member j js ≡ true → f j ≡ false
 unfolding first member
 first-none f [] h j m = not-both m refl
@@ -46,7 +46,7 @@ first-none f (k ∷ ks) h j m =
     by-test (f k) (λ t. some-none (rw t at h))
     (λ g. or-either (eqb k j) (member j ks) m (λ e. rw (← eqb-true k j e) g) (λ l. first-none f ks (rw g at h) j l))
 
--- in an ascending list the one found is the smallest that passes
+-- in an ascending list the job found is the smallest that passes
 pub first-least : (f : ℕ → Bool) (js : List ℕ) → ascending js ≡ true → (j : ℕ) → first f js ≡ some j → (k : ℕ) → member k js ≡ true → f k ≡ true → j ≤ k
 unfolding first ascending member
 first-least f [] a j h k m p = not-both m refl
@@ -55,7 +55,7 @@ first-least f (i ∷ js) a j h k m p =
     (λ g. first-least f js (and-second (under i js) (ascending js) a) j (rw g at h) k
     (or-either (eqb i k) (member k js) m (λ e. not-both p (rw (← eqb-true i k e) g)) (λ l. l)) p)
 
--- as the paper words it
+-- the same in the paper's words
 pub first-smallest : (f : ℕ → Bool) (js : List ℕ) → ascending js ≡ true → (j : ℕ) → first f js ≡ some j → Smallest f js j
 first-smallest f js a j h = record { job = first-is f js j h .0; passes = first-is f js j h .1; least = first-least f js a j h }
 

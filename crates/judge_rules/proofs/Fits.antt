@@ -1,4 +1,4 @@
--- Which jobs may stand next in an order: those without a predecessor left, whether the jobs that stand are counted as placed or as gone.
+-- Which jobs may stand next in an order: those without a predecessor left, whether the jobs that already stand are counted as placed or as gone.
 -- Assumes nothing.
 use Prim.Native.Nat.{ℕ}
 use mathlib.Core.Path.{_≡_, refl, sym, _∙_}
@@ -34,7 +34,7 @@ module _ (e : Edges) where
   unfolding member
   first-fits left k m f = record { job = m; free = refl; behind = λ i mi h. not-both (precedes e left i k mi h) f }
 
-  -- who may stand next among the others may stand next behind the first
+  -- a job that may stand next among the others may stand next after the first
   pub fits-more : (j : ℕ) (left placed : List ℕ) (k : ℕ) → Fits e (without j left) placed k → Fits e left (j ∷ placed) k
   fits-more j left placed k f =
       record {
@@ -44,7 +44,7 @@ module _ (e : Edges) where
             (λ g. member-more j placed i (f .behind i (still j left i m g) h));
       }
 
-  -- who may stand next behind the first may stand next among the others
+  -- a job that may stand next after the first may stand next among the others
   pub fits-less : (j : ℕ) (left placed : List ℕ) (k : ℕ) → Fits e left (j ∷ placed) k → Fits e (without j left) placed k
   fits-less j left placed k f =
       let other′ = member-none j k placed (f .free) in

@@ -1,4 +1,4 @@
--- The verdict on a history: orderly exactly where its committed part is conflict-serializable, with a serial order of exactly the jobs with a c; else a knot of such jobs (demand 2).
+-- The verdict on a history: orderly exactly if its committed part is conflict-serializable, with a serial order of exactly the jobs with a c; otherwise a knot of such jobs (demand 2).
 -- Assumes nothing.
 use Prim.Native.Nat.{ℕ}
 use mathlib.Core.Path.{_≡_, sym, _∙_}
@@ -36,7 +36,7 @@ jobs-only h js a m = ascending-only js (jobsOf h) a (jobs-ascending h) (λ j. m 
 pub jobs-name : (h : History) → names (jobsOf h) (committedPart h) ≡ true
 jobs-name h = committed-part-names (jobsOf h) h (λ j m. jobs-committed h j ∙ m)
 
--- orderly is said exactly where the committed part is conflict-serializable
+-- orderly is said exactly if the committed part is conflict-serializable
 pub orderly-exactly : (h : History) → (isOrderly (findingOf h) ≡ true) ↔ ConflictSerializable (committedPart h)
 unfolding findingOf
 orderly-exactly h = decides (committedPart h) (jobsOf h) (jobs-name h) (jobs-ascending h)
@@ -46,7 +46,7 @@ pub serializable-order : (h : History) → ConflictSerializable (committedPart h
 serializable-order h c =
     by-finding (findingOf h) (λ order v. (order, v)) (λ js v. not-both (orderly-exactly h .1 c) (knotted-is js v))
 
--- where a knot is said it is not
+-- if a knot is said, it is not
 pub knot-refuses : (h : History) (js : List ℕ) → findingOf h ≡ knotted js → ConflictSerializable (committedPart h) → ⊥
 knot-refuses h js v c = not-both (orderly-exactly h .1 c) (knotted-is js v)
 
@@ -55,12 +55,12 @@ pub order-serial : (h : History) (order : List ℕ) → findingOf h ≡ orderly 
 unfolding findingOf
 order-serial h order v = said-serial (committedPart h) (jobsOf h) (jobs-name h) order v
 
--- it names none twice
+-- the order names none twice
 pub order-once : (h : History) (order : List ℕ) → findingOf h ≡ orderly order → distinct order ≡ true
 unfolding findingOf
 order-once h order v = says-orderly (edge (committedPart h)) (jobsOf h) order v .once
 
--- it names exactly the jobs with a c
+-- the order names exactly the jobs with a c
 pub order-names : (h : History) (order : List ℕ) → findingOf h ≡ orderly order → (j : ℕ) → member j order ≡ marked isCommit j h
 unfolding findingOf
 order-names h order v j =
@@ -68,7 +68,7 @@ order-names h order v j =
     by-test (member j order) (λ m. m ∙ sym (sym (jobs-committed h j) ∙ o .only j m))
     (λ f. by-test (marked isCommit j h) (λ m. not-both (o .all j (jobs-committed h j ∙ m)) f) (λ g. f ∙ sym g))
 
--- it takes at each place the smallest number whose predecessors all stand already
+-- the order takes at each place the smallest number whose predecessors all stand already
 pub order-smallest : (h : History) (order : List ℕ) → findingOf h ≡ orderly order → SmallestFirst (edge (committedPart h)) (jobsOf h) order
 unfolding findingOf
 order-smallest h order v = says-smallest-first (edge (committedPart h)) (jobsOf h) (jobs-ascending h) order v

@@ -1,4 +1,4 @@
--- The judge whole: of a faultless text dirty is said exactly where its history is dirty; orderly exactly where it is not and its committed part is conflict-serializable as the book has it, with a serial order in the buffer; else a knot (demand 2; 01, The judge's rules; 02, No. 2).
+-- The whole judge, for a faultless text: dirty is said exactly if its history is dirty; orderly exactly if it is not and its committed part is conflict-serializable in the book's sense, with a serial order in the buffer; otherwise a knot (demand 2; 01, The judge's rules; 02, No. 2).
 -- Assumes nothing.
 use Prim.Native.Nat.{ℕ, _≤_}
 use mathlib.Core.Path.{_≡_, refl, ap₂, _∙_}
@@ -25,12 +25,12 @@ use Rattle.judge_rules.proofs.Histories.{orderly-exactly, knot-refuses,
 use Rattle.judge_rules.proofs.Answering.{answers}
 use Rattle.judge_rules.proofs.OneAnswer.{no-fault}
 
--- what is said to be an order of a history is a serial one, so its committed part is conflict-serializable
+-- an order told for a history is a serial one, so its committed part is conflict-serializable
 order-serializable : (h : History) (before after : List ℕ) (n : ℕ) → InOrder h before after n → ConflictSerializable (committedPart h)
 order-serializable h before after n o =
     orderly-exactly h .0 (orderly-is (o .order) (finding-exactly h (orderly (o .order)) .0 (says-order (o .smallest))))
 
--- what is said to be a knot of a history shows that it is not
+-- a knot told for a history shows that it is not
 knot-not-serializable : (h : History) (before after : List ℕ) (n : ℕ) → InKnot h before after n → ConflictSerializable (committedPart h) → ⊥
 knot-not-serializable h before after n k = knot-refuses h (k .knot) (finding-exactly h (knotted (k .knot)) .0 (says-cycle (k .takes) (k .walked)))
 
@@ -71,11 +71,11 @@ module _ (text buffer : List ℕ) where
   pub dirty-said : (i j : ℕ) → judgementOf text buffer .said ≡ Dirty i j → (255 ≤ length buffer) × AllFaultless (readingsOf text) × InDirt says buffer (judgementOf text buffer .order) i j
   dirty-said i j e = dirt-case (judgementOf text buffer) (answers text buffer) i j e
 
-  -- orderly is said only of a faultless text that is not dirty, and then a serial order of its committed jobs, each once, smallest first, fills the buffer's first places; the length said is its, at most 255
+  -- orderly is said only of a faultless text that is not dirty, and then a serial order of its committed jobs, each once, smallest first, fills the buffer's first places; the length told is that of the order, at most 255
   pub orderly-said : (n : ℕ) → judgementOf text buffer .said ≡ Orderly n → (255 ≤ length buffer) × AllFaultless (readingsOf text) × InOrder says buffer (judgementOf text buffer .order) n
   orderly-said n e = order-case (judgementOf text buffer) (answers text buffer) n e
 
-  -- a knot is said only of a faultless text that is not dirty, and then a knot of conflicts between committed jobs, none twice, from its smallest, fills the buffer's first places; the length said is its, at most 255
+  -- a knot is said only of a faultless text that is not dirty, and then a knot of conflicts between committed jobs, none twice, from its smallest, fills the buffer's first places; the length told is that of the knot, at most 255
   pub knot-said : (n : ℕ) → judgementOf text buffer .said ≡ Knot n → (255 ≤ length buffer) × AllFaultless (readingsOf text) × InKnot says buffer (judgementOf text buffer .order) n
   knot-said n e = knot-case (judgementOf text buffer) (answers text buffer) n e
 
@@ -89,7 +89,7 @@ module _ (text buffer : List ℕ) where
     by-answer v (in-order {n = n} room′ all′ o) one′ two′ three′ = two′ n refl o
     by-answer v (in-knot {n = n} room′ all′ k) one′ two′ three′ = three′ n refl k
 
-    -- DIRTY: it is said with this reader and this writer exactly where they are those of the first dirty read of the history that the lines say
+    -- DIRTY: it is said with this reader and this writer exactly if they are those of the first dirty read of the history that the lines say
     pub dirty-said-exactly : (i j : ℕ) → (judgementOf text buffer .said ≡ Dirty i j) ↔ FirstDirty says i j
     dirty-said-exactly i j = (
       λ e. dirty-said i j e .2 .first,
@@ -98,14 +98,14 @@ module _ (text buffer : List ℕ) where
           (λ n e o. absurd (o .clean (first-is-dirty says i j f))) (λ n e k. absurd (k .clean (first-is-dirty says i j f))),
     )
 
-    -- so it is said exactly where that history is dirty
+    -- so it is said exactly if that history is dirty
     pub dirty-said-where : ((i : ℕ) × (j : ℕ) × (judgementOf text buffer .said ≡ Dirty i j)) ↔ IsDirty says
     dirty-said-where = (
       λ s. first-is-dirty says (s .0) (s .1) (dirty-said-exactly (s .0) (s .1) .0 (s .2)),
       λ d. let f = dirty-first says d in (f .0, f .1, dirty-said-exactly (f .0) (f .1) .1 (f .2)),
     )
 
-    -- ORDERLY: it is said exactly where the committed part of the history that the lines say is conflict-serializable and the history is not dirty (demand 2; 02, No. 2)
+    -- ORDERLY: it is said exactly if the committed part of the history that the lines say is conflict-serializable and the history is not dirty (demand 2; 02, No. 2)
     pub orderly-said-exactly : ((n : ℕ) × (judgementOf text buffer .said ≡ Orderly n)) ↔ (ConflictSerializable (committedPart says) × (IsDirty says → ⊥))
     orderly-said-exactly = (
       λ s. let o = orderly-said (s .0) (s .1) .2 in (order-serializable says buffer (judgementOf text buffer .order) (s .0) o, o .clean),
@@ -113,7 +113,7 @@ module _ (text buffer : List ℕ) where
           (λ n e k. absurd (knot-not-serializable says buffer (judgementOf text buffer .order) n k (c .0))),
     )
 
-    -- A KNOT: exactly where it is neither
+    -- A KNOT: it is said exactly if neither dirty nor orderly is
     pub knot-said-exactly : ((n : ℕ) × (judgementOf text buffer .said ≡ Knot n)) ↔ ((ConflictSerializable (committedPart says) → ⊥) × (IsDirty says → ⊥))
     knot-said-exactly = (
       λ s. let k = knot-said (s .0) (s .1) .2 in (knot-not-serializable says buffer (judgementOf text buffer .order) (s .0) k, k .clean),

@@ -1,4 +1,4 @@
--- The verdict on jobs and their edges: an orderly one is an order in which every edge goes forward, a knot is a cycle of edges, and each is the paper's, with no second.
+-- The verdict on jobs and their edges: an orderly one is an order in which every edge goes forward, a knot is a cycle of edges, and each is the paper's and the only one.
 -- Assumes nothing.
 use Prim.Native.Nat.{ℕ}
 use mathlib.Core.Path.{_≡_, refl, sym, ap, _∙_, subst, subst₂}
@@ -36,7 +36,7 @@ by-some e taken [] js h = let z : _≡_ {A = ℕ} 0 1 = cc in absurd (omega arit
 by-some e taken (j ∷ left) js h = (j, left, refl, cc)
 
 module _ (e : Edges) (jobs : List ℕ) where
-  -- what is said to be an order of the jobs is one, and every edge goes forward in it
+  -- an order told for the jobs is an order of them, and every edge goes forward in it
   pub says-orderly : (order : List ℕ) → judged e jobs ≡ orderly order → Orderly e jobs order
   unfolding judged
   says-orderly order h =
@@ -60,7 +60,7 @@ module _ (e : Edges) (jobs : List ℕ) where
         subst₂ (Shown e) (sym (q .2)) (ap (knotIn e) (sym (q .2)) ∙ q .3)
         (knot-shown e (q .0) (q .1) (rest-ascending e t up) (rest-preceded e t))
 
-    -- what is said to be a knot is one, of some of the jobs, none twice, the smallest first
+    -- a knot told is a knot, of some of the jobs, none twice, the smallest first
     pub says-knot : (js : List ℕ) → judged e jobs ≡ knotted js → Knotted e jobs js
     says-knot js h =
         let s : Shown e (stuck e jobs) js = says-shown js h in

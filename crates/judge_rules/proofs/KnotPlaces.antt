@@ -1,4 +1,4 @@
--- The paper's walk by its places: the jobs come to, from the first to the one that comes again, are those of the knot in words.
+-- The paper's walk by its places: the jobs visited, from the first to the one that comes again, are those of the knot in words.
 -- Assumes nothing.
 use Prim.Native.Nat.{ℕ, zero, suc, _+_, _-_, _≤_, _<_}
 use mathlib.Core.Path.{_≡_, refl, sym, ap, _∙_, subst, subst₂}
@@ -20,7 +20,7 @@ use Rattle.judge_rules.proofs.Walking.{walk-once}
 use Rattle.judge_rules.proofs.Places.{once-places, pos-at, round-at}
 
 module _ (e : Edges) (jobs : List ℕ) where
-  -- the jobs that remain are those of a part in which each has a predecessor, and no others
+  -- the jobs that remain are those of a set in which each has a predecessor, and no others
   pub remains-exactly : (j : ℕ) → Remains e jobs j ↔ (member j (stuck e jobs) ≡ true)
   remains-exactly j = (
     λ r. never-taken e (order-taken e jobs) (r .part)
@@ -54,7 +54,7 @@ module _ (e : Edges) (jobs : List ℕ) where
   walk-next (goes w f s) (suc k) h = walk-next w k (omega arith)
 
   module _ {round : List ℕ} (c : Cycle e (stuck e jobs) round) where
-    -- the jobs come to, the last place, how far back the same job stands, and the place where it came first
+    -- the jobs visited, the last place, how far back the same job is, and the place where it came first
     abbrev pub way : List ℕ
     way = reverseAux (c .job ∷ c .seen) []
 
@@ -67,11 +67,11 @@ module _ (e : Edges) (jobs : List ℕ) where
     abbrev pub first : ℕ
     first = last - suc apart
 
-    -- a place counted from the last back
+    -- a place counted back from the last
     pub from-last : (k m : ℕ) → k + m ≡ last → getD way k 0 ≡ getD (c .job ∷ c .seen) m 0
     from-last k m h = round-at (c .job ∷ c .seen) [] k m (omega arith)
 
-    -- one comes again at the last place, and none before
+    -- one job comes again at the last place, and none before
     pub comes-again : ComesAgain e jobs way first last
     comes-again =
         let p = pos-at (c .seen) (c .job) (c .again) in

@@ -1,4 +1,4 @@
--- Of a faultless text a knot is said exactly where its history is not dirty and has the knot in words, and then with these jobs in the buffer's first places (01, The judge's rules: Knot).
+-- For a faultless text a knot is said exactly if its history is not dirty and has the knot in words, and then with these jobs in the buffer's first places (01, The judge's rules: Knot).
 -- Assumes nothing.
 use Prim.Native.Nat.{ℕ, _≤_}
 use mathlib.Core.Path.{_≡_, sym, ap, _∙_, subst}
@@ -38,13 +38,13 @@ module _ (text buffer : List ℕ) where
   abbrev says : History
   says = eventsIn (readingsOf text)
 
-  -- the jobs of a knot that is said are those of the knot in words
+  -- the jobs of a knot that is told are those of the knot in words
   pub knot-told : (n : ℕ) → judgementOf text buffer .said ≡ Knot n → (js : List ℕ) × (n ≡ length js) × Fills js buffer (judgementOf text buffer .order) × KnotTold (edge (committedPart says)) (jobsOf says) js
   knot-told n e =
       let k = knot-said text buffer n e .2 in
       (k .knot, k .count, k .fills, knot-found says (k .knot) .0 (knot-is says k))
 
-  -- THE KNOT: these jobs are told exactly where they are the knot in words of a history that is not dirty
+  -- THE KNOT: these jobs are told exactly if they are the knot in words of a history that is not dirty
   pub knot-told-exactly : 255 ≤ length buffer → AllFaultless (readingsOf text) → (js : List ℕ) →
       ((judgementOf text buffer .said ≡ Knot (length js)) × Fills js buffer (judgementOf text buffer .order)) ↔ (KnotTold (edge (committedPart says)) (jobsOf says) js × (IsDirty says → ⊥))
   knot-told-exactly room all js = (

@@ -1,4 +1,4 @@
--- The knot in words: what the judge finds of jobs and their edges, and of a history, is a knot exactly where the words have one, and there is no second list (01, The judge's rules: Knot).
+-- The knot in words: what the judge finds for jobs and their edges, and for a history, is a knot exactly if the words have one, and there is no second list (01, The judge's rules: Knot).
 -- Assumes nothing.
 use Prim.Native.Nat.{ℕ, zero, suc, _+_, _-_, _≤_, _<_}
 use mathlib.Core.Path.{_≡_, refl, sym, ap, _∙_, subst}
@@ -29,7 +29,7 @@ use Rattle.judge_rules.proofs.Histories.{jobs-ascending}
 use Rattle.judge_rules.proofs.OneWorded.{told-only}
 
 module _ (e : Edges) (jobs : List ℕ) {js : List ℕ} (s : Shown e (stuck e jobs) js) where
-  -- what is turned before it is told has as many jobs as stand between the two comings
+  -- the list before it is turned has as many jobs as stand between the two comings
   round-size : length (s .round) ≡ suc (apart e jobs (s .closed))
   round-size = ap length (s .closed .along) ∙ ap suc (upTo-size (s .closed .job) (s .closed .seen) (s .closed .again))
 
@@ -104,7 +104,7 @@ module _ (e : Edges) (jobs : List ℕ) (up : ascending jobs ≡ true) where
   order-none order h j r =
       not-both (remains-exactly e jobs j .0 r) (ap (member j) (sym (remains-stuck e (smallest-first-takes e jobs order (says-smallest-first e jobs up order h)))))
 
-  -- a knot is found exactly where the words have it
+  -- a knot is found exactly if the words have it
   pub knot-worded : (js : List ℕ) → (judged e jobs ≡ knotted js) ↔ KnotTold e jobs js
   knot-worded js = (
     λ h. shown-told e jobs (says-shown e jobs up js h),
@@ -112,7 +112,7 @@ module _ (e : Edges) (jobs : List ℕ) (up : ascending jobs ≡ true) where
         (λ ks h. h ∙ ap knotted (told-only (shown-told e jobs (says-shown e jobs up ks h)) t)),
   )
 
--- a knot is found of a history exactly where the words have it of its committed jobs and the edges of its committed part
+-- a knot is found for a history exactly if the words have it for its committed jobs and the edges of its committed part
 pub knot-found : (h : History) (js : List ℕ) → (findingOf h ≡ knotted js) ↔ KnotTold (edge (committedPart h)) (jobsOf h) js
 unfolding findingOf
 knot-found h js = knot-worded (edge (committedPart h)) (jobsOf h) (jobs-ascending h) js

@@ -21,7 +21,7 @@ use Rattle.judge_rules.proofs.Turns.{cut, from-first, least-is, least-l
 use Rattle.judge_rules.proofs.Walking.{cycle-knot, cycle-within, cycle-once, walk-closes}
 
 module _ (e : Edges) (left : List ℕ) where
-  -- a cycle from its smallest number on is what the paper shows
+  -- a cycle listed from its smallest number is what the paper shows
   turn-shown : (round : List ℕ) → Cycle e left round → Shown e left (turn round)
   unfolding turn turnTo
   turn-shown [] c = not-empty (c .along)
@@ -61,7 +61,7 @@ module _ (e : Edges) (left : List ℕ) where
 pub start-smallest : (j : ℕ) (js : List ℕ) → ascending (j ∷ js) ≡ true → Smallest (λ k. true) (j ∷ js) j
 start-smallest j js a = record { job = member-first j js; passes = refl; least = λ k m t. head-least j js a k m }
 
--- the knot shown is the paper's, where some job remains and each that does has a predecessor that does
+-- the knot shown is the paper's, if some job remains and each job that remains has a predecessor that does
 pub knot-shown : (e : Edges) (j : ℕ) (left : List ℕ) → ascending (j ∷ left) ≡ true → ((k : ℕ) → member k (j ∷ left) ≡ true → preceded e (j ∷ left) k ≡ true) → Shown e (j ∷ left) (knotIn e (j ∷ left))
 unfolding knotIn
 knot-shown e j left up each =

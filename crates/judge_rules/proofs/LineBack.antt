@@ -1,4 +1,4 @@
--- The line handed back is that line as it stands in the text, without its newline, and no other bytes are (01, Lines).
+-- The line handed back is that line as it stands in the text, without its newline; no other bytes are (01, Lines).
 -- Assumes nothing.
 use Prim.Native.Nat.{ℕ, zero, suc, _-_, _≤_, _<_}
 use mathlib.Core.Path.{_≡_, refl, sym, ap, _∙_}
@@ -20,7 +20,7 @@ use Rattle.judge_rules.specs.Answers.{NewlineOff, Stands}
 use Rattle.judge_rules.specs.Answers.NewlineOff.{taken-off, lacks-it}
 use Rattle.judge_rules.proofs.Readings.{readings-length}
 
--- lines one after another, in two parts
+-- joining lines in two parts
 pub joined-append : (ls ms : List (List ℕ)) → joined (ls ++ ms) ≡ joined ls ++ joined ms
 unfolding joined
 joined-append [] ms = refl
@@ -33,12 +33,12 @@ one-at [] k e h = absurd (omega arith)
 one-at (l ∷ ls) zero e h = and-first (oneLine l) (every oneLine ls) e
 one-at (l ∷ ls) (suc k) e h = one-at ls k (and-second (oneLine l) (every oneLine ls) e) (omega arith)
 
--- a byte that is no newline stands in front of both
+-- a byte that is not a newline may be put in front of both
 off-more : (b : ℕ) {l bytes : List ℕ} → NewlineOff l bytes → NewlineOff (b ∷ l) (b ∷ bytes)
 off-more b taken-off = taken-off
 off-more b lacks-it = lacks-it
 
--- what is left of one line is the line without its newline
+-- what the judge hands back of one line is the line without its newline
 bare-off : (l : List ℕ) → oneLine l ≡ true → NewlineOff l (bare l)
 unfolding oneLine bare
 bare-off [] h = not-both h refl
@@ -87,7 +87,7 @@ line-place text n a b =
     sym (lines-join text) ∙ ap joined (split-at (linesOf text) (n - 1) [] (omega arith))
     ∙ joined-append (linesBefore (linesOf text) n) (lineAt (linesOf text) n ∷ drop (suc (n - 1)) (linesOf text))
 
--- a line of the text, taken as the judge takes it, stands there
+-- a line of the text as the judge hands it back stands there
 pub bare-stands : (text : List ℕ) (n : ℕ) → 1 ≤ n → n ≤ length (readingsOf text) → Stands text n (bare (lineAt (linesOf text) n))
 bare-stands text n a c =
     let b : n ≤ length (linesOf text) = omega (arith, readings-length text) in
@@ -108,7 +108,7 @@ bare-stands text n a c =
 pub stands-only : (text : List ℕ) (n : ℕ) (bytes : List ℕ) → Stands text n bytes → bytes ≡ bare (lineAt (linesOf text) n)
 stands-only text n bytes s = off-only (lineAt (linesOf text) n) bytes (s .whole) (s .one)
 
--- the bytes from behind the lines before it on, as many as it has, are the line
+-- the bytes after the lines before it, as many as the line has, are the line
 pub stands-behind : (text : List ℕ) (n : ℕ) (bytes : List ℕ) → Stands text n bytes → take (length bytes) (drop (length (joined (linesBefore (linesOf text) n))) text) ≡ bytes
 stands-behind text n bytes s =
     let before : List ℕ = joined (linesBefore (linesOf text) n) in

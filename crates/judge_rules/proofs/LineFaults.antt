@@ -1,4 +1,4 @@
--- The judge's walk along the lines finds the table's first fault: what it keeps of the jobs that have ended is what the lines before say (01, Refusals by number).
+-- The judge's walk along the lines finds the table's first fault: the jobs it keeps as ended are those that the lines before say (01, Refusals by number).
 -- Assumes nothing.
 use Prim.Native.Nat.{ℕ, suc, _+_, _-_, _≤_, _<_}
 use mathlib.Core.Path.{_≡_, refl, sym, ap, ap₂, _∙_, subst}
@@ -28,7 +28,7 @@ use Rattle.judge_rules.specs.LineTable.{readingAt, linesBefore, ends, en
 abbrev pub Keeps : List ℕ → List Reading → Type 0
 Keeps ended before = (j : ℕ) → member j ended ≡ endedIn j before
 
--- before the first line none has ended
+-- before the first line no job has ended
 pub none-ended : Keeps [] []
 unfolding member endedIn
 none-ended j = refl
@@ -50,7 +50,7 @@ keeps-reading ended j (Good Retry job cell) = refl
 keeps-reading ended j (Good Back job cell) = refl
 keeps-reading ended j (Good (Asks a) job cell) = refl
 
--- after one more line the jobs kept are the right ones
+-- after one more line the jobs kept as ended are the right ones
 pub keeps-more : (ended : List ℕ) (before : List Reading) (r : Reading) → Keeps ended before → Keeps (endedAfter ended r) (before ++ r ∷ [])
 keeps-more ended before r k j = keeps-reading ended j r ∙ ap (λ x. ends j r || x) (k j) ∙ sym (ended-more j before r)
 
@@ -71,7 +71,7 @@ too-many-is n h =
     (λ t. let g : judgedLines < n = ltb-true judgedLines n t in t ∙ sym (eq-eqb n (suc judgedLines) (omega arith)))
     (λ f. let g : n ≤ judgedLines = ltb-false judgedLines n f in f ∙ sym (ne-eqb n (suc judgedLines) (omega arith)))
 
--- the judge's fault of a line that reads so is the table's
+-- the judge's fault of a line, by how it reads, is the table's
 reading-fault : (n : ℕ) (ended : List ℕ) (before : List Reading) (r : Reading) → n ≤ suc judgedLines → Keeps ended before →
     pick (ltb judgedLines n) (some TooManyLines) (faultOf ended r) ≡ firstOf (holds n before r) order
 unfolding faultOf faultOfGood holds firstOf order
@@ -134,6 +134,6 @@ walks whole before (l ∷ ls) n ended w e h k good =
     walks whole (before ++ l ∷ []) ls (suc n) (endedAfter ended l) (w ∙ sym (append-assoc before (l ∷ []) ls))
     (omega (arith, length-append before (l ∷ []))) (omega arith) (keeps-more ended before l k) (good-more whole before l ls n ended w e h k good q))
 
--- the judge finds the first faulty line of the table, or that every line is faultless
+-- the judge finds the table's first faulty line, or that every line is faultless
 pub finds-fault : (ls : List Reading) → Tells ls (firstFaulty 1 [] ls)
 finds-fault ls = walks ls [] ls 1 [] refl refl (omega arith) none-ended (λ m a b. absurd (omega arith))

@@ -65,12 +65,12 @@ module _ (e : Edges) (rises : (i j : ℕ) → e i j ≡ true → i < j) where
       ∙ ap (leads j) (taken-ascending js (and-second (under j js) (ascending js) up)))
 
   module _ (jobs : List ℕ) (up : ascending jobs ≡ true) where
-    -- ASCENDING: the order that takes the smallest first is the jobs as they ascend
+    -- ASCENDING: the order that takes the smallest first is the jobs in ascending order
     pub order-ascending : orderOf e jobs ≡ jobs
     unfolding orderOf
     order-ascending = ap (λ (t : Taken). t .order) (taken-ascending jobs up)
 
-    -- and none remains
+    -- and no job remains
     pub none-stuck : stuck e jobs ≡ []
     unfolding stuck
     none-stuck = ap (λ (t : Taken). t .remaining) (taken-ascending jobs up)
@@ -80,7 +80,7 @@ module _ (e : Edges) (rises : (i j : ℕ) → e i j ≡ true → i < j) where
     unfolding judged findingBy
     judged-ascending = rw (none-stuck, order-ascending)
 
--- OF A HISTORY IN NUMBER ORDER it is found that its committed jobs in ascending numbers are a serial order (02, No. 6)
+-- FOR A HISTORY IN NUMBER ORDER it is found that its committed jobs in ascending numbers are a serial order (02, No. 6)
 pub number-order-found : (h : History) → ActsInNumberOrder h → findingOf h ≡ orderly (jobsOf h)
 unfolding findingOf
 number-order-found h o =
@@ -97,7 +97,7 @@ module _ (text : List ℕ) where
     only-ascending order s =
         smallest-first-unique (edge (committedPart says)) (jobsOf says) order (jobsOf says) s (order-smallest says (jobsOf says) (number-order-found says o))
 
-    -- NEVER A KNOT: whatever the buffer, the judge finds none in a text whose history is in number order; where it is dirty, that is said (`dirty-said-exactly` in JudgedTexts.antt)
+    -- NEVER A KNOT: whatever the buffer, the judge finds none in a text whose history is in number order; if it is dirty, that is said (`dirty-said-exactly` in JudgedTexts.antt)
     pub number-order-never-knot : (buffer : List ℕ) (n : ℕ) → judgementOf text buffer .said ≡ Knot n → ⊥
     number-order-never-knot buffer n e =
         let k = knot-said text buffer n e in knot-said-exactly text buffer (k .0) (k .1) .0 (n, e) .0 (number-order-serializable says o)
@@ -110,7 +110,7 @@ module _ (text : List ℕ) where
         (i .count ∙ ap length q, subst (λ js. Fills js buffer (judgementOf text buffer .order)) q (i .fills))
 
     module _ (all : AllFaultless (readingsOf text)) (clean : IsDirty says → ⊥) where
-      -- ORDERLY: of a faultless text that is not dirty it is said, with the number of committed jobs
+      -- ORDERLY: it is said for a faultless text that is not dirty, with the number of committed jobs
       pub number-order-orderly : (buffer : List ℕ) → 255 ≤ length buffer → judgementOf text buffer .said ≡ Orderly (length (jobsOf says))
       number-order-orderly buffer room =
           let s = orderly-said-exactly text buffer room all .1 (number-order-serializable says o, clean) in

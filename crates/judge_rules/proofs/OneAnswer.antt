@@ -1,4 +1,4 @@
--- There is no second answer: what the paper asks of the judge's answer fixes it, with the line number, the refusal, the line handed back, the length and the buffer (01, How much a contract says).
+-- There is no second answer: what the paper asks of the judge's answer fixes the line number, the refusal, the line handed back, the length and the buffer (01, How much a contract says).
 -- Assumes nothing.
 use Prim.Native.Nat.{ℕ, _≤_, _<_}
 use mathlib.Core.Path.{_≡_, refl, sym, ap, ap₂, _∙_, subst}
@@ -36,7 +36,7 @@ use Rattle.judge_rules.proofs.Answering.{answers}
 never-both : {P : Type 0} (ls : List Reading) (n : ℕ) (why : Refusal) → Faultless ls n → Due ls n why → P
 never-both ls n why f d = let q : _≡_ {A = Option Refusal} none (some why) = sym f ∙ d in let z : _≡_ {A = ℕ} 0 1 = cc in absurd (omega arith)
 
--- at most one line is the first faulty one, and for one reason
+-- at most one line is the first faulty one, for one reason
 pub one-fault : (ls : List Reading) (m n : ℕ) (x y : Refusal) → FirstFault ls m x → FirstFault ls n y → (m ≡ n) × (x ≡ y)
 one-fault ls m n x y f g =
     by-test (ltb m n) (λ t. never-both ls m x (g .before m (f .from) (ltb-true m n t)) (f .due))
@@ -49,7 +49,7 @@ one-fault ls m n x y f g =
     let s : _≡_ {A = Option Refusal} (some x) (some y) = sym d ∙ g .due in
     (e, cc)))
 
--- where every line is faultless none is refused
+-- if every line is faultless, none is refused
 pub no-fault : {P : Type 0} (ls : List Reading) (n : ℕ) (why : Refusal) → AllFaultless ls → FirstFault ls n why → P
 no-fault ls n why all f = never-both ls n why (all n (f .from) (f .to)) (f .due)
 

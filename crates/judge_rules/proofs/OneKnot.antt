@@ -1,4 +1,4 @@
--- There is no second knot: the paper's walk and its cycle are fixed, and so is the cycle from its smallest number on.
+-- There is no second knot: the paper's walk and its cycle are fixed, and so is the cycle listed from its smallest number.
 -- Assumes nothing.
 use Prim.Native.Nat.{ℕ, suc, _+_, _-_, _≤_, _<_}
 use mathlib.Core.Path.{_≡_, refl, sym, ap, _∙_}
@@ -76,6 +76,6 @@ module _ (e : Edges) (s : ℕ) (left : List ℕ) (up : ascending (s ∷ left) �
       turn-only (k .round) js (k .ahead) (k .leader) (k .rest) (cycle-once e (s ∷ left) (k .closed)) (k .parts) (k .turned) (k .smallest)
       ∙ ap turn (cycle-only (k .closed))
 
-  -- any number of jobs looked at that is larger than the number of those that remain comes to the same cycle
+  -- any limit on the jobs looked at that is larger than the number of jobs that remain gives the same cycle
   pub looks-enough : ((k : ℕ) → member k (s ∷ left) ≡ true → preceded e (s ∷ left) k ≡ true) → (n : ℕ) → length (s ∷ left) < n → walk e (s ∷ left) n [] s ≡ walk e (s ∷ left) (suc (length (s ∷ left))) [] s
   looks-enough each n h = cycle-only (walk-closes e (s ∷ left) up each n [] s (starts (start-smallest s left up)) (omega arith))

@@ -1,4 +1,4 @@
--- The knot in words has no second list: the jobs come to are fixed place by place, and so are where one comes again and where the smallest of the cycle stands.
+-- The knot in words has no second list: the jobs visited are fixed place by place, and so are the place where one comes again and the place of the smallest in the cycle.
 -- Assumes nothing.
 use Prim.Native.Nat.{ℕ, zero, suc, _+_, _-_, _≤_, _<_}
 use mathlib.Core.Path.{_≡_, refl, sym, ap, _∙_, subst}
@@ -13,7 +13,7 @@ use Rattle.laws.specs.Choice.{by-test}
 use Rattle.judge_rules.specs.Order.{Edges}
 use Rattle.judge_rules.specs.KnotWorded.{Remains, SmallestOf, ComesAgain, KnotTold}
 
--- there is one smallest
+-- there is only one smallest
 pub smallest-one : {these : ℕ → Type 0} {i j : ℕ} → SmallestOf these i → SmallestOf these j → i ≡ j
 smallest-one {i = i} {j = j} a b = omega (arith, a .below j (b .among), b .below i (a .among))
 
@@ -99,6 +99,6 @@ module _ {e : Edges} {jobs : List ℕ} where
         let few : k < x .last - x .from = omega (arith, x .size, x .behind, x .within) in
         ap (λ m. getD js m 0) one′ ∙ x .on k few ∙ holds (x .last - k) (y .last - k) (omega arith) (omega arith) ∙ sym (y .on k (omega arith)) ∙ sym (ap (λ m. getD ks m 0) two′))
 
-    -- and the lists are one
+    -- and the lists are equal
     pub told-only : js ≡ ks
     told-only = ext-getD 0 js ks (omega (arith, x .size, y .size, same-last (x .comes) (y .comes), first-same)) told-place

@@ -1,4 +1,4 @@
--- Whichever jobs without a remaining predecessor are taken away first: the jobs taken are those that do not remain, each once, and every edge goes forward among them.
+-- Whichever jobs without a remaining predecessor are taken away first, the jobs taken are those that do not remain, each once, and every edge goes forward among them.
 -- Assumes nothing.
 use Prim.Native.Nat.{ℕ, _<_}
 use mathlib.Core.Path.{_≡_, refl, ap, _∙_}
@@ -44,7 +44,7 @@ module _ (e : Edges) where
       by-test (eqb k j) (λ s. rw (← eqb-true k j s) (member-first k order))
       (λ g. member-more k order j (taken-all t j (still k left j m g) f))
 
-  -- what remains was there
+  -- every job that remains was there
   pub rest-only : {left order rest : List ℕ} → Takes e left order rest → (j : ℕ) → member j rest ≡ true → member j left ≡ true
   rest-only (stops end) j m = m
   rest-only (takes {j = k} {left = left} here′ free t) j m = left-before k left j (rest-only t j m)
@@ -58,7 +58,7 @@ module _ (e : Edges) where
       (λ s. by-test (member j rest) (λ r. not-both s (left-other k left j (rest-only t j r))) (λ f. f))
       (λ l. taken-gone t j l)
 
-  -- what remains is in ascending order where the jobs were
+  -- the jobs that remain ascend if the jobs did
   pub rest-ascending : {left order rest : List ℕ} → Takes e left order rest → ascending left ≡ true → ascending rest ≡ true
   rest-ascending (stops end) a = a
   rest-ascending (takes {j = k} {left = left} here′ free t) a = rest-ascending t (ascending-left k left a)
@@ -72,7 +72,7 @@ module _ (e : Edges) where
       (λ f. by-test (eqb k i) (λ s. first-ahead k order i j s f)
       (λ g. pos-both k order i j g f (taken-ahead t i j (still k left i mi g) (rw f at mj) h)))
 
-  -- where none remains, the jobs taken are an order of all jobs in which every edge goes forward
+  -- if none remains, the jobs taken are an order of all jobs in which every edge goes forward
   pub all-taken : {left order : List ℕ} → Takes e left order [] → Orderly e left order
   unfolding member
   all-taken t =

@@ -1,4 +1,4 @@
--- A job is over before a line by the table exactly where a line before it is a c or an a of that job (01, refusal 13).
+-- A job is over before a line by the table exactly if a line before it is a c or an a of that job (01, refusal 13).
 -- Assumes nothing.
 use Prim.Native.Nat.{ℕ, zero, suc, _-_, _<_}
 use mathlib.Core.Path.{_≡_, refl, sym, ap, _∙_, subst}
@@ -51,11 +51,11 @@ at-ended j (suc k) zero (r ∷ rs) h e = or-first (ends j r) (endedIn j (take k 
 at-ended j (suc k) (suc i) (r ∷ rs) h e = or-second (ends j r) (endedIn j (take k rs)) (at-ended j k i rs (omega arith) e)
 
 module _ (text : List ℕ) where
-  -- how a line reads where it reads as good
+  -- the good line behind a reading that is good
   pub good-at : (n : ℕ) (l : Letter) (job cell : ℕ) → readingAt (readingsOf text) n ≡ Good l job cell → LineIs (linesOf text) n l job cell
   good-at n l job cell e = good-is-record ofHistories (lineAt (linesOf text) n) l job cell (sym (reading-at text n) ∙ e)
 
-  -- and a good line reads so
+  -- and a good line reads as good
   pub at-good : (n : ℕ) (l : Letter) (job cell : ℕ) → LineIs (linesOf text) n l job cell → readingAt (readingsOf text) n ≡ Good l job cell
   at-good n l job cell g = reading-at text n ∙ good-exactly ofHistories (lineAt (linesOf text) n) l job cell .1 g
 
@@ -92,7 +92,7 @@ module _ (text : List ℕ) where
   unfolding ends
   give-up-ends m job g = rw (at-good m GiveUp job 0 g) (eq-eqb job job refl)
 
-  -- and one that has it is over by the table
+  -- and a job that has one is over by the table
   pub over-ended : (n job : ℕ) → OverBefore (linesOf text) n job → endedIn job (linesBefore (readingsOf text) n) ≡ true
   over-ended n job o =
       let less : o .at - 1 < n - 1 = omega (arith, o .from, o .before) in

@@ -1,4 +1,4 @@
--- Whether a job is preceded: by whom, and by nobody; and which job is ready.
+-- Whether a job has a predecessor, and which; and which job is ready.
 -- Assumes nothing.
 use Prim.Native.Nat.{ℕ}
 use mathlib.Core.Path.{_≡_, refl}
@@ -16,7 +16,7 @@ use Rattle.judge_rules.specs.Order.{Edges, preceded, ready}
 use Rattle.judge_rules.specs.Meant.{Smallest}
 use Rattle.judge_rules.proofs.Firsts.{first-is, first-none, first-smallest}
 
--- who has a predecessor in the list has one by name
+-- a job that has a predecessor in the list has one by name
 pub preceded-by : (e : Edges) (left : List ℕ) (j : ℕ) → preceded e left j ≡ true → (i : ℕ) × (member i left ≡ true) × (e i j ≡ true)
 unfolding preceded
 preceded-by e [] j h = not-both h refl
@@ -24,7 +24,7 @@ preceded-by e (k ∷ left) j h =
     or-either (e k j) (preceded e left j) h (λ t. (k, member-first k left, t))
     (λ l. let r = preceded-by e left j l in (r .0, member-more k left (r .0) (r .1), r .2))
 
--- an edge from one of the list precedes
+-- an edge from a job of the list makes it a predecessor
 pub precedes : (e : Edges) (left : List ℕ) (i j : ℕ) → member i left ≡ true → e i j ≡ true → preceded e left j ≡ true
 unfolding preceded member
 precedes e [] i j m h = m
@@ -37,12 +37,12 @@ pub ready-is : (e : Edges) (left : List ℕ) (j : ℕ) → ready e left ≡ some
 unfolding ready
 ready-is e left j h = let r = first-is (λ k. not (preceded e left k)) left j h in (r .0, not-true (preceded e left j) (r .1))
 
--- where no job is ready, each of those left is preceded by one of them
+-- if no job is ready, each of those left has a predecessor among them
 pub ready-none : (e : Edges) (left : List ℕ) → ready e left ≡ none → (j : ℕ) → member j left ≡ true → preceded e left j ≡ true
 unfolding ready
 ready-none e left h j m = not-false (preceded e left j) (first-none (λ k. not (preceded e left k)) left h j m)
 
--- where the jobs left ascend, the one that is ready is the smallest that none of them precedes
+-- if the jobs left ascend, the ready one is the smallest without a predecessor among them
 pub ready-smallest : (e : Edges) (left : List ℕ) → ascending left ≡ true → (j : ℕ) → ready e left ≡ some j → Smallest (λ k. not (preceded e left k)) left j
 unfolding ready
 ready-smallest e left a j h = first-smallest (λ k. not (preceded e left k)) left a j h

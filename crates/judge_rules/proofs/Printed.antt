@@ -1,4 +1,4 @@
--- What the verdict program prints of every text, byte by byte: of one that is too long, that has a faulty line, a bad one among them, that is dirty, that is orderly, and of a knot (01, The judge's rules; 02, No. 2 and No. 5).
+-- What the verdict program prints for every text, byte by byte: for one that is too long, has a faulty line, has a bad line, is dirty, is orderly, or has a knot (01, The judge's rules; 02, No. 2 and No. 5).
 -- Assumes nothing.
 use Prim.Native.Nat.{ℕ, _+_, _≤_, _<_}
 use mathlib.Core.Path.{_≡_, ap, _∙_}
@@ -65,7 +65,7 @@ no-field : (n m f : ℕ) → f ≡ 0 → wordLine the-word-no (n ∷ m ∷ given
 unfolding given
 no-field n m f z = rw z
 
--- TOO LONG: of a text of more than 65,536 bytes no, 0, 16 is printed, whatever it says
+-- TOO LONG: for a text of more than 65,536 bytes the program prints no, 0, 16, whatever the text says
 pub printed-too-long : (text : List ℕ) → 65_536 < length text → verdictOf text ≡ 110 ∷ 111 ∷ 9 ∷ 48 ∷ 9 ∷ 49 ∷ 54 ∷ 10 ∷ []
 unfolding verdictOf wordLine tabbed decimal digitsIn
 printed-too-long text h = rw (lt-ltb judgedBytes (length text) h)
@@ -81,22 +81,22 @@ module _ (text : List ℕ) (short : length text ≤ 65_536) where
       let e = refused-exactly text places n why (f .from) .1 (room, f) in
       short-text text short ∙ said-refusal (judgementOf text places .said) (judgementOf text places .order) n why e
 
-  -- REFUSED: of the first faulty line no, its number and the refusal's are printed, where the refusal tells no field, as all but 9 do
+  -- REFUSED: for the first faulty line it prints no, the line's number and the refusal's number, if the refusal tells no field, as all but 9 do
   pub printed-refusal : (n : ℕ) (why : Refusal) → FirstFault (readingsOf text) n why → fieldOf why ≡ 0 → verdictOf text ≡ 110 ∷ 111 ∷ 9 ∷ decimal n ++ 9 ∷ decimal (numberOf why) ++ 10 ∷ []
   printed-refusal n why f z = refusal-line n why f ∙ no-field n (numberOf why) (fieldOf why) z ∙ refusal-bytes n (numberOf why)
 
-  -- A BAD LINE: of a 9 no, the line's number, 9 and the number of the field at fault are printed (02, No. 5)
+  -- A BAD LINE: for a 9 it prints no, the line's number, 9 and the number of the field at fault (02, No. 5)
   pub printed-bad-line : (n : ℕ) (at : Field) → FirstFault (readingsOf text) n (BadLine at) → verdictOf text ≡ 110 ∷ 111 ∷ 9 ∷ decimal n ++ 9 ∷ 57 ∷ 9 ∷ (48 + fieldNumber at) ∷ 10 ∷ []
   printed-bad-line n at f = refusal-line n (BadLine at) f ∙ nine-line-bytes n at
 
   module _ (all : AllFaultless (readingsOf text)) where
-    -- DIRTY: of a faultless text dirty, reader and writer of its first dirty read are printed, a tab before each
+    -- DIRTY: for a faultless text with a dirty read it prints dirty, and the reader and the writer of the first one, a tab before each
     pub printed-dirty : (i j : ℕ) → FirstDirty says i j → verdictOf text ≡ 100 ∷ 105 ∷ 114 ∷ 116 ∷ 121 ∷ 9 ∷ decimal i ++ 9 ∷ decimal j ++ 10 ∷ []
     printed-dirty i j f =
         let e = dirty-said-exactly text places room all i j .1 f in
         short-text text short ∙ said-dirty (judgementOf text places .said) (judgementOf text places .order) i j e ∙ dirty-bytes i j
 
-    -- ORDERLY: of a faultless text that is not dirty and whose committed part is conflict-serializable, orderly and each job of its order are printed, a tab before each
+    -- ORDERLY: for a faultless text that is not dirty and whose committed part is conflict-serializable it prints orderly and each job of the order, a tab before each
     pub printed-orderly : ConflictSerializable (committedPart says) → (IsDirty says → ⊥) →
         (order : List ℕ) × SmallestFirst (edge (committedPart says)) (jobsOf says) order × (verdictOf text ≡ 111 ∷ 114 ∷ 100 ∷ 101 ∷ 114 ∷ 108 ∷ 121 ∷ joined (map (λ j. 9 ∷ decimal j) order) ++ 10 ∷ [])
     printed-orderly c clean =
@@ -110,7 +110,7 @@ module _ (text : List ℕ) (short : length text ≤ 65_536) where
               ∙ orderly-bytes (o .order),
         )
 
-    -- A KNOT: of any other, knot and each job of its cycle
+    -- A KNOT: for any other faultless text it prints knot and each job of its cycle
     pub printed-knot : (ConflictSerializable (committedPart says) → ⊥) → (IsDirty says → ⊥) →
         (knot : List ℕ) × (taken : List ℕ) × (remain : List ℕ) × Takes (edge (committedPart says)) (jobsOf says) taken remain × Shown (edge (committedPart says)) remain knot
         × (verdictOf text ≡ 107 ∷ 110 ∷ 111 ∷ 116 ∷ joined (map (λ j. 9 ∷ decimal j) knot) ++ 10 ∷ [])

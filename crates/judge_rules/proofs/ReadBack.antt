@@ -1,4 +1,4 @@
--- Every record of a history is read back: it is a good line, its cell is there, and its job has not ended before; so only a line 4,097 or a job above 255 is refused of such a text (01, Refusals by number).
+-- Every record of a history is read back: it is a good line, its cell is at most 63, and its job has not ended before. So in such a text only a line 4,097 or a job above 255 is refused (01, Refusals by number).
 -- Assumes nothing.
 use Prim.Native.Nat.{ℕ, suc, _-_, _≤_}
 use mathlib.Core.Path.{_≡_, refl, sym, ap, ap₂, _∙_, subst}
@@ -85,7 +85,7 @@ mark-no-cell commits = refl
 mark-no-cell gives-up = refl
 mark-no-cell goes-back = refl
 
--- a record behind some others is no bad line, has no cell above 63, and its job has not ended on them
+-- a record after some others is not a bad line, has no cell above 63, and its job has not ended on them
 record-rows : (h : History) (e : Event) (k : History) → allWithin lastNumber (h ++ e ∷ k) ≡ true → endsForGood (h ++ e ∷ k) ≡ true → let r = eventReads e in
     ((at : Field) → isBad at r ≡ false) × (above r ≡ false) × (overAlready (map eventReads h) r ≡ false)
 unfolding allWithin
@@ -123,7 +123,7 @@ parted (e ∷ h) n from to f =
     let more : n ≢ 1 = eqb-false n 1 o in
     parted h (n - 1) (omega arith) (omega arith) (λ b x k p q. f (e ∷ b) x k (ap (λ l. e ∷ l) p) (omega arith)))
 
--- each line of the text is so
+-- this holds for each line of the text
 pub line-of : (h : History) (n : ℕ) → 1 ≤ n → n ≤ length (readingsOf (textOf h)) → Line h n
 line-of h n from to =
     parted h n from (omega (arith, ap length (text-readings h), length-map h eventReads)) (λ b e k p q.
@@ -148,7 +148,7 @@ event-within last h n l w =
 pub row-of : (h : History) (n : ℕ) (l : Line h n) (why : Refusal) → holdsAt (readingsOf (textOf h)) n why ≡ holds n (map (λ e. readLine ofHistories (eventLine e)) (l .before)) (readLine ofHistories (eventLine (l .event))) why
 row-of h n l why = ap₂ (λ before r. holds n before r why) (l .ahead) (l .reads)
 
--- every line of the text is read back, where jobs are 1 to 4,294,967,295, cells 0 to 63, and no line of a job follows its c or a
+-- every line of the text is read back, if jobs are 1 to 4,294,967,295, cells 0 to 63, and no line of a job follows its c or a
 pub written-read-back : (h : History) → allWithin lastNumber h ≡ true → endsForGood h ≡ true → AllReadBack (readingsOf (textOf h))
 unfolding holds
 written-read-back h w g n from to =
@@ -156,7 +156,7 @@ written-read-back h w g n from to =
     let r = record-rows (l .before) (l .event) (l .after) (subst (λ x. allWithin lastNumber x ≡ true) (l .parts) w) (subst (λ x. endsForGood x ≡ true) (l .parts) g) in
     (λ at. row-of h n l (BadLine at) ∙ r .0 at, row-of h n l CellAbove ∙ r .1, row-of h n l Ended ∙ r .2)
 
--- of lines that are read back the judge refuses one only as line 4,097 or for a job outside 1 to 255
+-- if every line is read back, the judge refuses a line only as line 4,097 or for a job outside 1 to 255
 pub only-limits : (ls : List Reading) → AllReadBack ls → (n : ℕ) (why : Refusal) → FirstFault ls n why → (why ≡ TooManyLines) ⊎ (why ≡ JobOutside)
 only-limits ls all n why f = by-row why (due-holds ls n why (f .due))
   where

@@ -1,4 +1,4 @@
--- How the lines of a text read: a reading for each line, in order, as the reader has it of that line's bytes (01, Lines).
+-- How the lines of a text read: one reading for each line, in order, as the reader reads that line's bytes (01, Lines).
 -- Assumes nothing.
 use Prim.Native.Nat.{ℕ, _-_, _+_, _<_}
 use mathlib.Core.Path.{_≡_, ap}
@@ -11,7 +11,7 @@ use Rattle.text_rules.proofs.TextLines.{next-line}
 use Rattle.judge_rules.specs.HistoryText.{readingsOf, lineAt}
 use Rattle.judge_rules.specs.LineTable.{readingAt}
 
--- as many as there are lines
+-- there are as many readings as lines
 pub readings-length : (text : List ℕ) → length (readingsOf text) ≡ length (linesOf text)
 unfolding readingsOf
 readings-length text = length-map (linesOf text) (readLine ofHistories)
@@ -21,7 +21,7 @@ pub reading-at : (text : List ℕ) (n : ℕ) → readingAt (readingsOf text) n �
 unfolding readingsOf readLine letterPart letterIn fieldAhead
 reading-at text n = List·getD-map (readLine ofHistories) (linesOf text) (n - 1) []
 
--- the readings from a place of a text on, for a caller who goes from line end to line end
+-- the readings from a place of a text, for a caller that goes from line end to line end
 pub readings-next : (text : List ℕ) (from to : ℕ) → from < length text → to ≡ from + used (drop from text) →
     readingsOf (drop from text) ≡ readLine ofHistories (part text from to) ∷ readingsOf (drop to text)
 unfolding readingsOf

@@ -1,4 +1,4 @@
--- The judge's refusals are given exactly when the table says, with the right line number; the line is handed back then and only then, and the buffer stays (01, Refusals by number; 01, Lines).
+-- The judge's refusals are given exactly when the table says, with the right line number. The line is handed back then and only then, and the buffer stays (01, Refusals by number; 01, Lines).
 -- Assumes nothing.
 use Prim.Native.Nat.{ℕ, _≤_, _<_}
 use mathlib.Core.Path.{_≡_, refl, ap}
@@ -36,7 +36,7 @@ module _ (text buffer : List ℕ) where
   refused-cases j (in-order room all o) n why e one′ two′ = let z : _≡_ {A = ℕ} 0 1 = cc in absurd (omega arith)
   refused-cases j (in-knot room all k) n why e one′ two′ = let z : _≡_ {A = ℕ} 0 1 = cc in absurd (omega arith)
 
-  -- refusal 14, with line number 0, is given exactly where the buffer has fewer than 255 places, whatever the text is
+  -- refusal 14, with line number 0, is given exactly if the buffer has fewer than 255 places, whatever the text is
   pub short-exactly : (judgementOf text buffer .said ≡ No 0 ShortOrder) ↔ (length buffer < 255)
   short-exactly = (
     λ e. refused-cases (judgementOf text buffer) (answers text buffer) 0 ShortOrder e (λ n w h l o. h) (λ room f s o. let one : 1 ≤ 0 = f .from in absurd (omega arith)),
@@ -48,7 +48,7 @@ module _ (text buffer : List ℕ) where
   line-0-short why e =
       refused-cases (judgementOf text buffer) (answers text buffer) 0 why e (λ n w h l o. w) (λ room f s o. let one : 1 ≤ 0 = f .from in absurd (omega arith))
 
-  -- a line is refused exactly where the buffer has its 255 places, the lines before it are faultless, and the refusal is the first of 11, 9, 12, 2, 13 whose row holds for it
+  -- a line is refused exactly if the buffer has its 255 places, the lines before it are faultless, and the refusal is the first of 11, 9, 12, 2, 13 whose row holds for it
   pub refused-exactly : (n : ℕ) (why : Refusal) → 1 ≤ n → (judgementOf text buffer .said ≡ No n why) ↔ ((255 ≤ length buffer) × FirstFault (readingsOf text) n why)
   refused-exactly n why h = (
     λ e. refused-cases (judgementOf text buffer) (answers text buffer) n why e (λ z w g l o. absurd (omega arith)) (λ room f s o. (room, f)),
@@ -81,7 +81,7 @@ module _ (text buffer : List ℕ) where
   at-start j (in-order room all o) other = refl
   at-start j (in-knot room all k) other = refl
 
-  -- where no line is at fault the empty part handed back stands at the text's first byte, and not at its end
+  -- if no line is at fault, the empty part handed back is at the text's first byte, and not at its end
   pub else-at-start : ((n : ℕ) (why : Refusal) → 1 ≤ n → judgementOf text buffer .said ≡ No n why → ⊥) → lineFrom text (judgementOf text buffer .said) ≡ 0
   else-at-start other = at-start (judgementOf text buffer) (answers text buffer) other
 

@@ -1,4 +1,4 @@
--- What remains does not depend on which job is taken away first: it is the largest part of the jobs in which each has a predecessor.
+-- The jobs that remain do not depend on which job is taken away first: they are the largest set of jobs in which each has a predecessor.
 -- Assumes nothing.
 use Prim.Native.Nat.{ℕ}
 use mathlib.Core.Path.{_≡_, refl, sym, ap, _∙_}
@@ -67,7 +67,7 @@ module _ (e : Edges) where
       by-test (member j rest) (λ m. m ∙ sym (never-taken u rest (rest-preceded t) (rest-only e t) j m))
       (λ f. by-test (member j rest′) (λ m. not-both (never-taken t rest′ (rest-preceded u) (rest-only e u) j m) f) (λ g. f ∙ sym g))
 
-  -- what remains is the list without the jobs that do not
+  -- what remains is the list without the jobs that do not remain
   rest-is : {left order rest : List ℕ} → Takes e left order rest → rest ≡ passing (λ k. member k rest) left
   rest-is (stops {left = left} end) = sym (passing-all (λ k. member k left) left (λ k m. m))
   rest-is (takes {j = k} {left = left} {rest = rest} here′ free t) =
@@ -79,6 +79,6 @@ module _ (e : Edges) where
   same-remains {left = left} {rest = rest} {rest′ = rest′} t u =
       rest-is t ∙ passing-alike (λ k. member k rest) (λ k. member k rest′) left (same-jobs-remain t u) ∙ sym (rest-is u)
 
-  -- whichever jobs are taken away first, what remains is what remains when the smallest is
+  -- whichever jobs are taken away first, the jobs that remain are those that remain when the smallest is taken each time
   pub remains-stuck : {jobs order rest : List ℕ} → Takes e jobs order rest → rest ≡ stuck e jobs
   remains-stuck {jobs = jobs} t = same-remains t (order-taken e jobs)

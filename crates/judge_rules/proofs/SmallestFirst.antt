@@ -1,4 +1,4 @@
--- The order that the judge gives is the paper's, smallest first; and there is no second one.
+-- The order that the judge gives is the paper's, smallest first, and the only one.
 -- Assumes nothing.
 use Prim.Native.Nat.{ℕ, zero, suc, _≤_}
 use mathlib.Core.Path.{_≡_, refl, sym, ap, ap₂, _∙_, subst}

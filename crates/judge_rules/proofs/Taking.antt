@@ -1,4 +1,4 @@
--- Jobs are taken away until none is left to take: as many times as there are jobs is enough.
+-- Jobs are taken away until none is left to take; as many times as there are jobs is enough.
 -- Assumes nothing.
 use Prim.Native.Nat.{ℕ, zero, suc, _≤_, _<_}
 use mathlib.Core.Path.{_≡_, refl, ap}
@@ -42,7 +42,7 @@ order-taken e jobs = taken-takes e (length jobs) jobs (omega arith)
 none-ready : (e : Edges) (left : List ℕ) → length left ≤ 0 → ready e left ≡ none
 none-ready e left h = by-one (ready e left) (λ q. q) (λ j q. absurd (empty-list left h j (ready-is e left j q .0)))
 
--- any two numbers of times that are enough come to the same
+-- any two limits that are enough give the same
 pub times-enough : (e : Edges) (n m : ℕ) (left : List ℕ) → length left ≤ n → length left ≤ m → taken e n left ≡ taken e m left
 unfolding taken
 times-enough e zero zero left p q = refl

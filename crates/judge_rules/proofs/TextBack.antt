@@ -1,4 +1,4 @@
--- The history that a faultless text says is the one whose records are that text, byte for byte: nothing of the text is lost or added (01, Lines).
+-- The history that a faultless text says is the one whose records are that text, byte for byte: nothing is lost or added (01, Lines).
 -- Assumes nothing.
 use Prim.Native.Nat.{ℕ, suc, _-_, _<_}
 use mathlib.Core.Path.{_≡_, refl, sym, ap, ap₂, _∙_, subst}
@@ -45,7 +45,7 @@ good-back bytes Back job cell g = append-nil (lineRecord Back job 0) ∙ ap (lin
 good-back bytes (Asks a) job cell g =
     append-nil (lineRecord (Asks (askBy (recorded a))) job cell) ∙ ap (λ x. lineRecord (Asks x) job cell) (ask-back a (g .1)) ∙ sym (g .0)
 
--- what is known of each line: that it is good
+-- each line is good
 pub record IsGood (bytes : List ℕ) : Type 0 where
   pub letter : Letter
   pub job : ℕ

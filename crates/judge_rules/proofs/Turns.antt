@@ -1,4 +1,4 @@
--- A list of jobs cut where a job stands and put together the other way round: a cycle from one of its jobs on, and from its smallest.
+-- A list of jobs cut at a job and put together the other way round: a cycle listed from one of its jobs, and from its smallest.
 -- Assumes nothing.
 use Prim.Native.Nat.{ℕ, _≤_}
 use mathlib.Core.Path.{_≡_, refl, sym, ap, ap₂, _∙_, subst}
@@ -14,13 +14,13 @@ use Rattle.laws.proofs.Parts.{and-both, or-either, nor-first, nor-second}
 use Rattle.judge_rules.specs.Knot.{upTo, from, least}
 use Rattle.laws.proofs.Joined.{member-append}
 
--- what stands up to a job and what stands from it on are the whole
+-- the part up to a job and the part from it are the whole
 pub cut : (j : ℕ) (ks : List ℕ) → ks ≡ upTo j ks ++ from j ks
 unfolding upTo from
 cut j [] = refl
 cut j (k ∷ ks) = by-test (eqb k j) (λ t. rw t) (λ f. rw f (ap (λ js. k ∷ js) (cut j ks)))
 
--- a job of the list stands first in what stands from it on
+-- a job of the list comes first in the part from it
 pub from-first : (j : ℕ) (ks : List ℕ) → member j ks ≡ true → (rest : List ℕ) × (from j ks ≡ j ∷ rest)
 unfolding from member
 from-first j [] m = not-both m refl
@@ -28,13 +28,13 @@ from-first j (k ∷ ks) m =
     by-test (eqb k j) (λ t. (ks, rw t (ap (λ i. i ∷ ks) (eqb-true k j t))))
     (λ f. let r = from-first j ks (rw f at m) in (r .0, rw f (r .1)))
 
--- it does not stand before that
+-- the job is not in the part before it
 pub upTo-none : (j : ℕ) (ks : List ℕ) → member j (upTo j ks) ≡ false
 unfolding upTo member
 upTo-none j [] = refl
 upTo-none j (k ∷ ks) = by-test (eqb k j) (λ t. rw t) (λ f. rw f (member-later k (upTo j ks) j f ∙ upTo-none j ks))
 
--- who stands before it is in the list
+-- every job before it is in the list
 pub upTo-part : (j : ℕ) (ks : List ℕ) (i : ℕ) → member i (upTo j ks) ≡ true → member i ks ≡ true
 unfolding upTo member
 upTo-part j [] i m = m
@@ -42,7 +42,7 @@ upTo-part j (k ∷ ks) i m =
     by-test (eqb k j) (λ t. not-both (rw t at m) refl)
     (λ f. or-either (eqb k i) (member i (upTo j ks)) (rw f at m) (λ s. rw s) (λ l. member-more k ks i (upTo-part j ks i l)))
 
--- none of those before it stands there twice, if none does in the list
+-- the part before it names none twice, if the list does not
 pub upTo-once : (j : ℕ) (ks : List ℕ) → distinct ks ≡ true → distinct (upTo j ks) ≡ true
 unfolding upTo distinct
 upTo-once j [] d = refl
@@ -66,7 +66,7 @@ from-mid j [] ks f = rw (same-refl j)
 from-mid j (i ∷ js) ks f =
     by-test (eqb i j) (λ t. not-both refl (rw t at f)) (λ g. rw g (from-mid j js ks (rw g at f)))
 
--- who is the first or in the rest is so too with one between
+-- a job that is the first or in the rest still is with one between
 member-between : (i k j : ℕ) (js : List ℕ) → member i (k ∷ js) ≡ true → member i (k ∷ j ∷ js) ≡ true
 unfolding member
 member-between i k j js m = or-either (eqb k i) (member i js) m (λ s. rw s) (λ l. member-more k (j ∷ js) i (member-more j js i l))
@@ -78,7 +78,7 @@ least-is k [] = member-first k []
 least-is k (j ∷ js) =
     by-test (ltb j k) (λ t. rw t (member-more k (j ∷ js) (least j js) (least-is j js))) (λ f. rw f (member-between (least k js) k j js (least-is k js)))
 
--- and no larger than any
+-- and no larger than any of them
 pub least-low : (k : ℕ) (ks : List ℕ) (i : ℕ) → member i (k ∷ ks) ≡ true → least k ks ≤ i
 unfolding least member
 least-low k [] i m = or-either (eqb k i) false m (λ s. let e : k ≡ i = eqb-true k i s in omega arith) (λ l. not-both l refl)
@@ -93,7 +93,7 @@ least-low k (j ∷ js) i m =
     (λ s. let e : j ≡ i = eqb-true j i s in omega (arith, ltb-false j k f, least-low k js k (member-first k js)))
     (λ r. least-low k js i (member-more k js i r)))))
 
--- a fact that moving the first to the end keeps is kept when a list is turned
+-- what is kept when the first moves to the end is kept when a list is turned
 pub turned-keeps : (P : List ℕ → Type 0) → ((k : ℕ) (ks : List ℕ) → P (k ∷ ks) → P (ks ++ k ∷ [])) → (js ks : List ℕ) → P (js ++ ks) → P (ks ++ js)
 turned-keeps P step [] ks h = subst P (sym (append-nil ks)) h
 turned-keeps P step (k ∷ js) ks h =

@@ -1,4 +1,4 @@
--- The verdict program prints no, 0, 16 exactly for a text longer than 65,536 bytes, and of every text one line (01, The judge's rules; 01, refusal 16).
+-- The verdict program prints no, 0, 16 exactly for a text longer than 65,536 bytes, and prints one line for every text (01, The judge's rules; 01, refusal 16).
 -- Assumes nothing.
 use Prim.Native.Nat.{ℕ, _<_}
 use mathlib.Core.Path.{_≡_, refl, sym, ap, _∙_}
@@ -92,7 +92,7 @@ module _ (text : List ℕ) where
       let h = short-exactly text (replicate judgedJobs 0) .0 (l ∙ ap (is-refused 0) (line-0-short text (replicate judgedJobs 0) why l)) in
       omega (arith, length-replicate {A = ℕ} judgedJobs 0)
 
-  -- so what is printed of its verdict is not no, 0, 16
+  -- so the line printed for its verdict is not no, 0, 16
   not-16 : (v : Verdict) (order : List ℕ) → judgementOf text (replicate judgedJobs 0) .said ≡ v → sayLine v order ≡ wordLine No (0 ∷ 16 ∷ []) → ⊥
   unfolding sayLine wordLine
   not-16 (is-orderly n) order e p = other-word Orderly (take n order) p refl
@@ -100,7 +100,7 @@ module _ (text : List ℕ) where
   not-16 (is-dirty i j) order e p = other-word Dirty (i ∷ j ∷ []) p refl
   not-16 (is-refused n why) order e p = refused-line n why e (printed-line-0 n (numberOf why) (given (fieldOf why)) p)
 
--- SIXTEEN EXACTLY FOR A LONGER TEXT: no, 0, 16 is printed of a text exactly where it has more than 65,536 bytes
+-- SIXTEEN EXACTLY FOR A LONGER TEXT: no, 0, 16 is printed exactly if the text has more than 65,536 bytes
 pub too-long-exactly : (text : List ℕ) → (verdictOf text ≡ wordLine No (0 ∷ 16 ∷ [])) ↔ (65_536 < length text)
 unfolding verdictOf judgedLine
 too-long-exactly text = (printed, λ h. rw (lt-ltb judgedBytes (length text) h))

@@ -12,14 +12,14 @@ use Rattle.judge_rules.specs.declared.verdict.Verdict.{Verdict}
 use Rattle.judge_rules.specs.declared.verdict.Verdict.the-variants.{Orderly, Knot, Dirty, No}
 use Rattle.judge_rules.specs.Judgement.{inNumbers}
 
--- the words' numbers, and what stands beside them: 0 orderly, 1 knot, 2 a refusal (of line 5 with 9 at the second field, of line 6 with 13), 3 dirty (6 read what 1 had written)
+-- the numbers of the words, and those beside them: 0 orderly, 1 knot, 2 a refusal (line 5 with 9 at the second field, line 6 with 13), 3 dirty (6 read what 1 had written)
 pub verdicts-are :
     map inNumbers (Orderly 4 ∷ Knot 2 ∷ No 5 (BadLine Second) ∷ No 6 Ended ∷ Dirty 6 1 ∷ [])
     ≡ (0 ∷ 4 ∷ 0 ∷ 0 ∷ []) ∷ (1 ∷ 2 ∷ 0 ∷ 0 ∷ []) ∷ (2 ∷ 9 ∷ 5 ∷ 2 ∷ []) ∷ (2 ∷ 13 ∷ 6 ∷ 0 ∷ []) ∷ (3 ∷ 6 ∷ 1 ∷ 0 ∷ []) ∷ []
 unfolding inNumbers
 verdicts-are = refl
 
--- equal numbers, equal verdicts
+-- verdicts with equal numbers are equal
 pub same-verdict : (v w : Verdict) → inNumbers v ≡ inNumbers w → v ≡ w
 unfolding inNumbers
 same-verdict (Orderly n) (Orderly m) e = let q : n ≡ m = cc in ap Orderly q

@@ -1,4 +1,4 @@
--- The word that the verdict program's line begins with, as bytes, and exactly of which texts: `dirty`, `orderly`, `knot`, `no` (01, The judge's rules; demand 2; 02, No. 2).
+-- The word that the verdict program's line begins with, as bytes, and for exactly which texts: `dirty`, `orderly`, `knot`, `no` (01, The judge's rules; demand 2; 02, No. 2).
 -- Assumes nothing.
 use Prim.Native.Nat.{ℕ, _≤_, _<_}
 use mathlib.Core.Path.{_≡_, refl, sym, ap, _∙_}
@@ -110,7 +110,7 @@ module _ (text : List ℕ) where
   room : 255 ≤ length (replicate {A = ℕ} 255 0)
   room = omega (arith, length-replicate {A = ℕ} 255 0)
 
-  -- a text that is not too long gets the line of what the judge says
+  -- for a text that is not too long the line is that of what the judge says
   short-line : length text ≤ 65_536 → verdictOf text ≡ sayLine said (judgementOf text (replicate 255 0) .order)
   unfolding verdictOf judgedLine
   short-line h = rw (le-ltb judgedBytes (length text) h)
@@ -124,7 +124,7 @@ module _ (text : List ℕ) where
   begins-said : length text ≤ 65_536 → (v : Verdict) → said ≡ v → BeginsWith (verdictOf text) (wordBytes v)
   begins-said h v e = rw (short-line h, ← e) (line-begins said (judgementOf text (replicate 255 0) .order))
 
-  -- a line that begins with another byte than that of no is of a text that is not too long, and what is said has that first byte
+  -- a line that does not begin with the first byte of no is for a text that is not too long, and what is said has that first byte
   said-first : (w : List ℕ) (a : ℕ) → BeginsWith (verdictOf text) (a ∷ w) → (a ≡ 110 → ⊥) → (length text ≤ 65_536) × (getD (wordBytes said) 0 0 ≡ a)
   said-first w a e other =
       by-test (ltb 65_536 (length text))
@@ -133,7 +133,7 @@ module _ (text : List ℕ) where
       let h = ltb-false 65_536 (length text) f in
       (h, first-byte said (judgementOf text (replicate 255 0) .order) a (ap (λ l. getD l 0 0) (sym (short-line h)) ∙ begins-first (verdictOf text) w a e)))
 
-  -- DIRTY: the line begins with it exactly where the text has at most 65,536 bytes, is faultless, and what it says is dirty
+  -- DIRTY: the line begins with it exactly if the text has at most 65,536 bytes, is faultless, and its history is dirty
   pub begins-dirty : BeginsWith (verdictOf text) dirtyBytes ↔ ((length text ≤ 65_536) × SoundText text × IsDirty says)
   unfolding wordBytes
   begins-dirty = (
@@ -145,7 +145,7 @@ module _ (text : List ℕ) where
     λ p. let f = dirty-first says (p .2) in begins-said (p .0) (Dirty (f .0) (f .1)) (dirty-as-worded text (replicate 255 0) (f .0) (f .1) .1 (room, p .1, f .2)),
   )
 
-  -- ORDERLY: exactly where it is as short, is faultless, the committed part of what it says is conflict-serializable, and what it says is not dirty
+  -- ORDERLY: exactly if the text has at most 65,536 bytes and is faultless, its history's committed part is conflict-serializable, and its history is not dirty
   pub begins-orderly : BeginsWith (verdictOf text) orderlyBytes ↔ ((length text ≤ 65_536) × SoundText text × ConflictSerializable (committedPart says) × (IsDirty says → ⊥))
   unfolding wordBytes
   begins-orderly = (
@@ -156,7 +156,7 @@ module _ (text : List ℕ) where
     λ p. let o = orderly-as-worded text (replicate 255 0) .1 (room, p .1, p .2, p .3) in begins-said (p .0) (Orderly (o .0)) (o .1),
   )
 
-  -- KNOT: exactly where it is as short, is faultless, the committed part is not conflict-serializable, and what it says is not dirty
+  -- KNOT: exactly if the text has at most 65,536 bytes and is faultless, its history's committed part is not conflict-serializable, and its history is not dirty
   pub begins-knot : BeginsWith (verdictOf text) knotBytes ↔ ((length text ≤ 65_536) × SoundText text × (ConflictSerializable (committedPart says) → ⊥) × (IsDirty says → ⊥))
   unfolding wordBytes
   begins-knot = (
@@ -167,13 +167,13 @@ module _ (text : List ℕ) where
     λ p. let k = knot-as-worded text (replicate 255 0) .1 (room, p .1, p .2, p .3) in begins-said (p .0) (Knot (k .0)) (k .1),
   )
 
-  -- what is said of a text that is not too long is a refusal where its line begins with no
+  -- for a text that is not too long, a refusal is said if its line begins with no
   refused-then : BeginsWith (verdictOf text) noBytes → length text ≤ 65_536 → SoundText text → ⊥
   refused-then e h s =
       let v = is-refused said (first-byte said (judgementOf text (replicate 255 0) .order) 110 (ap (λ l. getD l 0 0) (sym (short-line h)) ∙ begins-first (verdictOf text) (111 ∷ []) 110 e)) in
       ⊎-elim (λ (less : length (replicate {A = ℕ} 255 0) < 255). omega (arith, room)) (λ f. f s) (no-as-worded text (replicate 255 0) .0 v)
 
-  -- NO: exactly where it has more than 65,536 bytes or is not faultless
+  -- NO: exactly if the text has more than 65,536 bytes or is not faultless
   pub begins-no : BeginsWith (verdictOf text) noBytes ↔ ((65_536 < length text) ⊎ (SoundText text → ⊥))
   unfolding wordBytes
   begins-no = (

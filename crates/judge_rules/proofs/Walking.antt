@@ -1,4 +1,4 @@
--- The walk along smallest predecessors: its jobs remain, each has an edge to the one it was come from, and one job more than remain are enough to close a cycle.
+-- The walk along smallest predecessors: its jobs remain, each has an edge to the job it was reached from, and one more than the number of jobs that remain is enough to close a cycle.
 -- Assumes nothing.
 use Prim.Native.Nat.{ℕ, zero, suc, _+_, _≤_, _<_}
 use mathlib.Core.Path.{_≡_, refl, ap}
@@ -49,7 +49,7 @@ module _ (e : Edges) (left : List ℕ) where
   walk-once (starts s) = refl
   walk-once (goes {j = j} {seen = seen} w f s) = and-both (not (member j seen)) (distinct seen) (ap not f) (walk-once w)
 
-  -- from a job of the walk a way leads along it to each job seen
+  -- from a job of the walk a path leads along it to each job seen
   pub walk-path : {j : ℕ} {seen : List ℕ} → Walk e left (j ∷ seen) → (k : ℕ) → member k seen ≡ true → path e j (upTo k seen) k ≡ true
   unfolding upTo member
   walk-path (starts s) k m = not-both m refl
@@ -61,7 +61,7 @@ module _ (e : Edges) (left : List ℕ) where
   pub cycle-knot : {round : List ℕ} → Cycle e left round → knot e round ≡ true
   cycle-knot c = rw (c .along) (knot-of e (c .job) (upTo (c .job) (c .seen)) (walk-path (c .walked) (c .job) (c .again)))
 
-  -- of jobs that remain
+  -- its jobs remain
   pub cycle-within : {round : List ℕ} → Cycle e left round → (k : ℕ) → member k round ≡ true → member k left ≡ true
   unfolding member
   cycle-within c k m =
@@ -69,7 +69,7 @@ module _ (e : Edges) (left : List ℕ) where
       (λ t. rw (← eqb-true (c .job) k t) (walk-within (c .walked) (c .job) (member-first (c .job) (c .seen))))
       (λ l. walk-within (c .walked) k (member-more (c .job) (c .seen) k (upTo-part (c .job) (c .seen) k l)))
 
-  -- none twice
+  -- and it names none twice
   pub cycle-once : {round : List ℕ} → Cycle e left round → distinct round ≡ true
   unfolding distinct
   cycle-once c =
@@ -86,7 +86,7 @@ module _ (e : Edges) (left : List ℕ) where
         (λ q. let by = preceded-by e left j (each j m) in not-both (by .2) (first-none (λ k. e k j) left q (by .0) (by .1)))
         (λ i q. (i, q, first-smallest (λ k. e k j) left up i q))
 
-    -- from any place of a walk, as many jobs more as have not been seen, and one, close a cycle
+    -- from any place of a walk, one more than the number of jobs not yet seen is enough to close a cycle
     pub walk-closes : (n : ℕ) (seen : List ℕ) (j : ℕ) → Walk e left (j ∷ seen) → length left < n + length seen → Cycle e left (walk e left n seen j)
     unfolding walk
     walk-closes zero seen j w h = absurd (omega (arith, no-more seen left (walk-once w) (λ k m. walk-within w k (member-more j seen k m))))

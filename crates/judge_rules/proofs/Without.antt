@@ -1,4 +1,4 @@
--- A list of jobs without one of them: who is left, how many, and that they still ascend.
+-- A list of jobs without one of them: which are left, how many, and that they still ascend.
 -- Assumes nothing.
 use Prim.Native.Nat.{ℕ, _≤_, _<_}
 use mathlib.Core.Path.{_≡_, refl, sym, _∙_}
@@ -29,11 +29,11 @@ stays j (k ∷ ks) i f =
     by-test (eqb k j) (λ t. rw t (stays j ks i f ∙ sym (member-later k ks i (rw (eqb-true k j t) f))))
     (λ g. rw g (by-test (eqb k i) (λ t. rw t) (λ h. rw h (stays j ks i f))))
 
--- who is left is not the job that is gone
+-- a job that is left is not the one that is gone
 pub left-other : (j : ℕ) (ks : List ℕ) (i : ℕ) → member i (without j ks) ≡ true → eqb j i ≡ false
 left-other j ks i h = by-test (eqb j i) (λ t. not-both h (rw (← eqb-true j i t) (gone j ks))) (λ f. f)
 
--- who is left was there before
+-- a job that is left was there before
 pub left-before : (j : ℕ) (ks : List ℕ) (i : ℕ) → member i (without j ks) ≡ true → member i ks ≡ true
 left-before j ks i h = sym (stays j ks i (left-other j ks i h)) ∙ h
 
@@ -45,7 +45,7 @@ no-longer j (k ∷ ks) =
     let rest : length (without j ks) ≤ length ks = no-longer j ks in
     by-test (eqb k j) (λ t. rw t (omega arith)) (λ f. rw f (omega arith))
 
--- and shorter where the job was there
+-- and shorter if the job was there
 pub shorter : (j : ℕ) (ks : List ℕ) → member j ks ≡ true → length (without j ks) < length ks
 unfolding without member
 shorter j [] h = not-both h refl
@@ -53,7 +53,7 @@ shorter j (k ∷ ks) h =
     by-test (eqb k j) (λ t. rw t (omega (arith, no-longer j ks)))
     (λ f. rw f (omega (arith, shorter j ks (rw f at h))))
 
--- who is smaller than all is smaller than those left
+-- a job smaller than all is smaller than those left
 pub under-left : (i j : ℕ) (ks : List ℕ) → under i ks ≡ true → under i (without j ks) ≡ true
 unfolding under without
 under-left i j [] h = refl

@@ -1,4 +1,4 @@
--- One line by the table and in the paper's words: it is faultless, and it gets a refusal, in both or in neither (01, Refusals by number).
+-- One line by the table and in the paper's words: both call it faultless or neither does, and both give the same refusal (01, Refusals by number).
 -- Assumes nothing.
 use Prim.Native.Nat.{ℕ, _≤_, _<_}
 use mathlib.Core.Path.{_≡_, refl, sym, ap, _∙_, subst}
@@ -88,11 +88,11 @@ module _ (text : List ℕ) (n : ℕ) where
         open′ = λ o. let z : _≡_ {A = ℕ} 0 1 = absurd (not-both (over-ended text n job o) (c .open′)) in omega arith;
       }
 
-  -- a line that the table says nothing of is faultless
+  -- a line of which the table says nothing is faultless
   pub faultless-sound : Faultless (readingsOf text) n → Sound (linesOf text) n
   faultless-sound f = read-sound (readingAt (readingsOf text) n) refl (clean-line n (linesBefore (readingsOf text) n) (readingAt (readingsOf text) n) f)
 
-  -- and of a faultless one up to line 4,096 the table says nothing
+  -- and of a faultless line up to 4,096 the table says nothing
   pub sound-faultless : n ≤ 4_096 → Sound (linesOf text) n → Faultless (readingsOf text) n
   sound-faultless h s =
       let r : readingAt (readingsOf text) n ≡ Good (s .letter) (s .job) (s .cell) = at-good text n (s .letter) (s .job) (s .cell) (s .good) in

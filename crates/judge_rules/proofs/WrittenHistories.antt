@@ -1,4 +1,4 @@
--- No history text is refused that the desk could write: the text of a history within the judge's limits, in which jobs end for good, is faultless, and its lines say that history (01, Lines; 01, Refusals by number).
+-- No history text that the desk could write is refused: the text of a history within the judge's limits, in which jobs end for good, is faultless, and its lines say that history (01, Lines; 01, Refusals by number).
 -- Assumes nothing.
 use Prim.Native.Nat.{ℕ, suc, _≤_}
 use mathlib.Core.Path.{_≡_, ap, _∙_, subst}
@@ -29,7 +29,7 @@ use Rattle.text_rules.proofs.EventsRead.{action-within, mark-within, within-mor
 use Rattle.judge_rules.proofs.RecordsSay.{records-say}
 use Rattle.judge_rules.proofs.ReadBack.{text-readings, line-of, event-within, row-of, written-read-back}
 
--- a record whose job is 1 to 255 is for no job outside
+-- a record whose job is 1 to 255 is not for a job outside
 record-inside : (e : Event) → within judgedJobs e ≡ true → within lastNumber e ≡ true → outside (readLine ofHistories (eventLine e)) ≡ false
 record-inside (Does a) w v = let b = action-within judgedJobs a w in rw (reads-action a v, le-leb 1 (a .job) (b .0), le-leb (a .job) judgedJobs (b .1))
 record-inside (Ends m j) w v = let b = mark-within judgedJobs m j w in rw (reads-mark m j v, le-leb 1 j (b .0), le-leb j judgedJobs (b .1))
@@ -62,7 +62,7 @@ written-faultless h w g few n from to =
 pub written-fits : (h : History) → allWithin judgedJobs h ≡ true → length h ≤ judgedLines → length (textOf h) ≤ judgedBytes
 written-fits h w few = omega (arith, text-short h (within-more judgedJobs lastNumber (omega arith) h w))
 
--- so of such a history the judge says orderly exactly where its committed part is conflict-serializable and it is not dirty
+-- so for such a history the judge says orderly exactly if its committed part is conflict-serializable and it is not dirty
 pub written-judged : (h : History) (buffer : List ℕ) → allWithin judgedJobs h ≡ true → endsForGood h ≡ true → length h ≤ judgedLines → judgedJobs ≤ length buffer →
     ((n : ℕ) × (judgementOf (textOf h) buffer .said ≡ Orderly n)) ↔ (ConflictSerializable (committedPart h) × (IsDirty h → ⊥))
 written-judged h buffer w g few room =

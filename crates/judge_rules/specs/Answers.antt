@@ -32,12 +32,12 @@ pub record Stands (text : List ℕ) (n : ℕ) (bytes : List ℕ) : Type 0 where
   pub whole : NewlineOff (lineAt (linesOf text) n) bytes
   pub one : noNewline bytes ≡ true
 
--- dirty, of a history: reader and writer are those of its first dirty read, and fill the buffer's first two places (02, No. 2)
+-- dirty, for a history: reader and writer are those of its first dirty read, and fill the buffer's first two places (02, No. 2)
 pub record InDirt (h : History) (before after : List ℕ) (reader writer : ℕ) : Type 0 where
   pub fills : Fills (reader ∷ writer ∷ []) before after
   pub first : FirstDirty h reader writer
 
--- orderly, of a history: it is not dirty, the order in the buffer's first places is a serial order of the committed part, names each job with a c once and no other,
+-- orderly, for a history: it is not dirty; the order in the buffer's first places is a serial order of the committed part, names each job with a c once and no other,
 -- and takes at each place the smallest number whose predecessors all stand already; n jobs are said (01, The judge's rules: Orderly)
 pub record InOrder (h : History) (before after : List ℕ) (n : ℕ) : Type 0 where
   pub clean : IsDirty h → ⊥
@@ -50,7 +50,7 @@ pub record InOrder (h : History) (before after : List ℕ) (n : ℕ) : Type 0 wh
   pub names : (j : ℕ) → member j order ≡ marked isCommit j h
   pub smallest : SmallestFirst (edge (committedPart h)) (jobsOf h) order
 
--- a knot, of a history: it is not dirty, the list in the buffer's first places is a knot of conflicts between jobs with a c, no job twice, from its smallest,
+-- a knot, for a history: it is not dirty; the list in the buffer's first places is a knot of conflicts between jobs with a c, no job twice, from its smallest,
 -- and the one that the paper's walk finds among the jobs that remain; n jobs are said (01, The judge's rules: Knot)
 pub record InKnot (h : History) (before after : List ℕ) (n : ℕ) : Type 0 where
   pub clean : IsDirty h → ⊥
@@ -64,8 +64,8 @@ pub record InKnot (h : History) (before after : List ℕ) (n : ℕ) : Type 0 whe
   pub takes : Takes (edge (committedPart h)) (jobsOf h) taken remain
   pub walked : Shown (edge (committedPart h)) remain knot
 
--- the judge's answer: 14 where the buffer has fewer than 255 places, before anything else and with line number 0; the refusal of the first faulty line, which is handed back,
--- and the buffer stays; or of a faultless text dirty, orderly or a knot, and no line is handed back
+-- the judge's answer: 14 if the buffer has fewer than 255 places, before anything else and with line number 0; the refusal of the first faulty line, which is handed back,
+-- and the buffer stays; or, for a faultless text, dirty, orderly or a knot, and no line is handed back
 pub data Answers (text buffer : List ℕ) : Judgement → Type 0 where
   short : length buffer < judgedJobs → Answers text buffer (record { said = No 0 ShortOrder; order = buffer; line = [] })
   faulty : {n : ℕ} {why : Refusal} {line : List ℕ} → judgedJobs ≤ length buffer → FirstFault (readingsOf text) n why → Stands text n line →

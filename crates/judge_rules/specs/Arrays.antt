@@ -10,7 +10,7 @@ use Rattle.conflict.specs.declared.action.Event.{Event}
 use Rattle.conflict.specs.declared.action.Event.the-variants.{Does, Ends}
 use Rattle.conflict.specs.History.{History}
 
--- what a number stands for: 0 read, 1 write, 2 increment, 3 commit, 4 give-up, any other sent back
+-- the event that a number stands for: 0 read, 1 write, 2 increment, 3 commit, 4 give-up, any other sent back
 unfoldable pub eventBy : ℕ → ℕ → ℕ → Event
 eventBy code job cell =
     pick (eqb code 0) (Does (record { kind = Read; job = job; cell = cell }))

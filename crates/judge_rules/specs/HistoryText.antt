@@ -24,11 +24,11 @@ use Rattle.text_rules.specs.Lines.{refusalOf, readLine}
 use Rattle.text_rules.specs.Split.{linesOf}
 use Rattle.judge_rules.specs.LineTable.{FirstFault, AllFaultless}
 
--- what the reader makes of each line of a history text; all that is said of the lines is said of this (01, Lines)
+-- how the reader reads each line of a history text; everything about the lines is said of these readings (01, Lines)
 unfoldable pub readingsOf : List ℕ → List Reading
 readingsOf text = map (readLine ofHistories) (linesOf text)
 
--- line n of the lines as it stands, numbered from 1
+-- line n as it stands, numbered from 1
 abbrev pub lineAt : List (List ℕ) → ℕ → List ℕ
 lineAt ls n = getD ls (n - 1) []
 
@@ -38,12 +38,12 @@ faultOfGood ended l job cell =
     pick (eqb job 0 || ltb judgedJobs job) (some JobOutside)
     (pick (hasCell l && leb cells cell) (some CellAbove) (pick (member job ended) (some Ended) none))
 
--- the fault of a line as it reads: 9 where it is bad, at the field that the reader has (02, No. 5)
+-- the fault of a line, given how it reads: 9 if it is bad, at the field that the reader tells (02, No. 5)
 unfoldable pub faultOf : List ℕ → Reading → Option Refusal
 faultOf ended (Bad at) = refusalOf (Bad at)
 faultOf ended (Good l job cell) = faultOfGood ended l job cell
 
--- the fault of line n: 11 where it is line 4,097, before anything else on it
+-- the fault of line n: 11 if it is line 4,097, before anything else on it
 unfoldable pub lineFault : ℕ → List ℕ → Reading → Option Refusal
 lineFault n ended r = pick (ltb judgedLines n) (some TooManyLines) (faultOf ended r)
 
@@ -62,7 +62,7 @@ pub record Faulty : Type 0 where
   pub number : ℕ
   pub why : Refusal
 
--- the fault of this line where it has one, else what the lines after it say
+-- the fault of this line if it has one, else what the lines after it say
 unfoldable pub orLater : Option Refusal → ℕ → Option Faulty → Option Faulty
 orLater none n later = later
 orLater (some why) n later = some (record { number = n; why = why })
@@ -94,7 +94,7 @@ unfoldable pub bare : List ℕ → List ℕ
 bare [] = []
 bare (b ∷ l) = pick (eqb b newline) [] (b ∷ bare l)
 
--- what is said of the lines is so by the table: the first faulty one, or that there is none
+-- what is found agrees with the table: the first faulty line, or that there is none
 abbrev pub Tells : List Reading → Option Faulty → Type 0
 Tells rs none = AllFaultless rs
 Tells rs (some f) = FirstFault rs (f .number) (f .why)

@@ -1,4 +1,4 @@
--- What the judge finds of jobs and their edges, and of a history; the verdict that it says of this is in Judgement.antt (01, The judge's rules).
+-- What the judge finds for jobs and their edges, and for a history; the verdict that it gives from this is in Judgement.antt (01, The judge's rules).
 use Prim.Native.Nat.{ℕ}
 use mathlib.Core.Bool.{Bool, true, false}
 use mathlib.Core.List.{List, [], _∷_}
@@ -8,22 +8,22 @@ use Rattle.conflict.specs.History.{History, committedPart, commitOrder}
 use Rattle.judge_rules.specs.Order.{Edges, orderOf, stuck}
 use Rattle.judge_rules.specs.Knot.{knotIn}
 
--- what is found of a history: orderly, with an order, or a knot (01, The judge's rules)
+-- what is found for a history: orderly, with an order, or a knot (01, The judge's rules)
 pub data Finding : Type 0 where
   orderly : List ℕ → Finding
   knotted : List ℕ → Finding
 
--- whether that is orderly
+-- whether the finding is orderly
 unfoldable pub isOrderly : Finding → Bool
 isOrderly (orderly order) = true
 isOrderly (knotted js) = false
 
--- orderly where no job remains, else the knot among those that do
+-- orderly if no job remains, else the knot among the jobs that do
 unfoldable pub findingBy : Edges → List ℕ → List ℕ → Finding
 findingBy e order [] = orderly order
 findingBy e order (j ∷ left) = knotted (knotIn e (j ∷ left))
 
--- what is found of jobs in ascending order
+-- what is found for jobs in ascending order
 unfoldable pub judged : Edges → List ℕ → Finding
 judged e jobs = findingBy e (orderOf e jobs) (stuck e jobs)
 
@@ -31,6 +31,6 @@ judged e jobs = findingBy e (orderOf e jobs) (stuck e jobs)
 unfoldable pub jobsOf : History → List ℕ
 jobsOf h = sorted (commitOrder h)
 
--- what is found of a history: of its committed jobs by the edges of its committed part (01, The judge's rules)
+-- what is found for a history: for its committed jobs, by the edges of its committed part (01, The judge's rules)
 unfoldable pub findingOf : History → Finding
 findingOf h = judged (edge (committedPart h)) (jobsOf h)

@@ -1,4 +1,4 @@
--- The judge whole: what it says of a text and an order buffer, and what it leaves in the buffer (01, The judge's rules; 01, Refusals by number).
+-- The whole judge: what it says of a text and an order buffer, and what it leaves in the buffer (01, The judge's rules; 01, Refusals by number).
 use Prim.Native.Nat.{ℕ}
 use mathlib.Core.List.{List, [], _∷_}
 use mathlib.Core.Option.{Option, none, some}
@@ -24,17 +24,17 @@ pub record Judgement : Type 0 where
   pub order : List ℕ
   pub line : List ℕ
 
--- the verdict by the order or the knot that is found: the length is said, the jobs fill the first places of the buffer and the rest stay, and no line is handed back (01, The judge's rules)
+-- the verdict for the order or the knot that is found: its length is told, its jobs fill the first places of the buffer and the rest stay, and no line is handed back (01, The judge's rules)
 unfoldable pub sayFinding : List ℕ → Finding → Judgement
 sayFinding buffer (orderly order) = record { said = Orderly (length order); order = filled order buffer; line = [] }
 sayFinding buffer (knotted js) = record { said = Knot (length js); order = filled js buffer; line = [] }
 
--- the verdict on a faultless history: where it has a dirty read, that is told before orderly or knot, and reader and writer fill the first two places (02, No. 2)
+-- the verdict on a faultless history: a dirty read, if there is one, is told before orderly or knot, and reader and writer fill the first two places (02, No. 2)
 unfoldable pub sayHistory : List ℕ → History → Option ReadOf → Judgement
 sayHistory buffer h none = sayFinding buffer (findingOf h)
 sayHistory buffer h (some d) = record { said = Dirty (d .reader) (d .writer); order = filled (d .reader ∷ d .writer ∷ []) buffer; line = [] }
 
--- a faulty line is handed back without its newline, with its number and refusal, and the buffer stays; else the verdict on what the lines say
+-- a faulty line is handed back without its newline, with its number and refusal, and the buffer stays; otherwise the verdict on the history that the lines say
 unfoldable pub sayLines : List ℕ → List ℕ → Option Faulty → Judgement
 sayLines buffer text none = sayHistory buffer (eventsIn (readingsOf text)) (dirtyOf (eventsIn (readingsOf text)))
 sayLines buffer text (some f) = record { said = No (f .number) (f .why); order = buffer; line = bare (lineAt (linesOf text) (f .number)) }
@@ -45,7 +45,7 @@ judgementOf text buffer =
     pick (ltb (length buffer) judgedJobs) (record { said = No 0 ShortOrder; order = buffer; line = [] })
     (sayLines buffer text (firstFaulty 1 [] (readingsOf text)))
 
--- where in the text the part handed back starts: with a refusal of a line behind all lines before it; in all other answers, and for 14, whose line number is 0,
+-- where the part handed back starts in the text: with a refusal of a line, after all lines before it; in all other answers, and for 14, whose line number is 0,
 -- at the text's start (01, Lines: as it stands in the caller's text)
 unfoldable pub lineFrom : List ℕ → Verdict → ℕ
 lineFrom text (Orderly n) = 0
@@ -54,7 +54,7 @@ lineFrom text (Dirty reader writer) = 0
 lineFrom text (No line why) = length (joined (linesBefore (linesOf text) line))
 
 -- the answer in four numbers: 0 orderly and 1 knot with the length, 2 a refusal with its number, its line number and the field at fault, 3 dirty with reader and writer;
--- the fourth is 0 but of refusal 9 (02, No. 5)
+-- the fourth is 0 except for refusal 9 (02, No. 5)
 unfoldable pub inNumbers : Verdict → List ℕ
 inNumbers (Orderly n) = 0 ∷ n ∷ 0 ∷ 0 ∷ []
 inNumbers (Knot n) = 1 ∷ n ∷ 0 ∷ 0 ∷ []

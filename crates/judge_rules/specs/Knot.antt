@@ -1,4 +1,4 @@
--- The judge's knot: the way back from the smallest job that remains, along smallest predecessors, until one comes again (01, The judge's rules: Knot).
+-- The judge's knot: the walk from the smallest job that remains, along smallest predecessors, until one comes again (01, The judge's rules: Knot).
 use Prim.Native.Nat.{ℕ, zero, suc}
 use mathlib.Core.List.{List, [], _∷_, _++_}
 use mathlib.Core.Option.{Option}
@@ -22,9 +22,9 @@ unfoldable pub from : ℕ → List ℕ → List ℕ
 from j [] = []
 from j (k ∷ ks) = pick (eqb k j) (k ∷ ks) (from j ks)
 
--- from j, which the jobs seen led to, the last of them first, go from each job to its smallest remaining predecessor until one comes again.
--- Since each has an edge to the one it was come from, the jobs from its second coming back to its first are the cycle, listed along its edges.
--- At most n jobs are looked at; one more than remain are enough (proofs/Walking.antt)
+-- the walk at j, with the jobs seen on the way to it, the last one first: go from each job to its smallest remaining predecessor until one comes again.
+-- Each job has an edge to the job it was reached from, so the jobs from its second coming back to its first are the cycle, listed along its edges.
+-- At most n jobs are looked at; one more than remain is enough (proofs/Walking.antt)
 unfoldable pub walk : Edges → List ℕ → ℕ → List ℕ → ℕ → List ℕ
 walk e left zero seen j = []
 walk e left (suc n) seen j =
@@ -36,16 +36,16 @@ unfoldable pub least : ℕ → List ℕ → ℕ
 least k [] = k
 least k (j ∷ js) = pick (ltb j k) (least j js) (least k js)
 
--- a cycle from one of its jobs on
+-- a cycle, listed from one of its jobs
 unfoldable pub turnTo : ℕ → List ℕ → List ℕ
 turnTo j js = from j js ++ upTo j js
 
--- a cycle from its smallest number on
+-- a cycle, listed from its smallest number
 unfoldable pub turn : List ℕ → List ℕ
 turn [] = []
 turn (k ∷ ks) = turnTo (least k ks) (k ∷ ks)
 
--- the knot among the jobs that remain, which ascend: the walk starts at the smallest, and its cycle is listed from its smallest (01, The judge's rules: Knot)
+-- the knot among the jobs that remain, given in ascending order: the walk starts at the smallest, and its cycle is listed from its smallest (01, The judge's rules: Knot)
 unfoldable pub knotIn : Edges → List ℕ → List ℕ
 knotIn e [] = []
 knotIn e (j ∷ left) = turn (walk e (j ∷ left) (suc (length (j ∷ left))) [] j)

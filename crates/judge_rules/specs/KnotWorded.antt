@@ -1,4 +1,4 @@
--- The knot once more in the paper's words: by the places of one list, the jobs that are come to, with no search and none of the words of Knot.antt and Meant.antt (01, The judge's rules: Knot).
+-- The knot a second time, in the paper's words: by the places of one list, the jobs visited, without a search and without the words of Knot.antt and Meant.antt (01, The judge's rules: Knot).
 use Prim.Native.Nat.{ℕ, suc, _+_, _-_, _≤_, _<_}
 use mathlib.Core.Path.{_≡_}
 use mathlib.Core.Logic.{_≢_}
@@ -8,19 +8,19 @@ use lib.ListN.{length, getD}
 use Rattle.laws.specs.Lists.{member}
 use Rattle.judge_rules.specs.Order.{Edges}
 
--- job j remains: it is one of a part of the jobs in which each has a predecessor. None of such a part is ever without a remaining predecessor, so that none of it is taken away, and all others are (01, The judge's rules: Knot)
+-- job j remains: it is in a set of the jobs in which each has a predecessor. A job of such a set is never without a remaining predecessor, so none of it is taken away; all other jobs are (01, The judge's rules: Knot)
 pub record Remains (e : Edges) (jobs : List ℕ) (j : ℕ) : Type 0 where
   pub part : List ℕ
   pub named : member j part ≡ true
   pub only : (i : ℕ) → member i part ≡ true → member i jobs ≡ true
   pub each : (i : ℕ) → member i part ≡ true → (k : ℕ) × (member k part ≡ true) × (e k i ≡ true)
 
--- a number is one of these, and none of these is below it: the smallest (01, The judge's rules: Knot)
+-- the smallest: a number is one of these, and none of these is below it (01, The judge's rules: Knot)
 pub record SmallestOf (these : ℕ → Type 0) (j : ℕ) : Type 0 where
   pub among : these j
   pub below : (k : ℕ) → these k → j ≤ k
 
--- the jobs come to, from place 0 to the last: the smallest that remains, then of each the smallest predecessor that remains, until one comes again: at the last place, and first at an earlier one (01, The judge's rules: Knot)
+-- the jobs visited, from place 0 to the last: first the smallest that remains, then for each its smallest remaining predecessor, until one comes again: it is at the last place and at one earlier place (01, The judge's rules: Knot)
 pub record ComesAgain (e : Edges) (jobs way : List ℕ) (first last : ℕ) : Type 0 where
   pub size : length way ≡ suc last
   pub start : SmallestOf (Remains e jobs) (getD way 0 0)
@@ -29,8 +29,8 @@ pub record ComesAgain (e : Edges) (jobs way : List ℕ) (first last : ℕ) : Typ
   pub again : getD way first 0 ≡ getD way last 0
   pub once : (i k : ℕ) → i < k → k < last → getD way i 0 ≢ getD way k 0
 
--- the knot: the jobs behind the first coming up to the second, each of which has an edge to the one before it. They are told along these edges, so backwards, from the smallest of them,
--- which stands at the place from; and behind the first coming it goes on at the second, which is the same job (01, The judge's rules: Knot)
+-- the knot: the jobs after the first coming up to the second. Each has an edge to the one before it, so they are told backwards, along these edges, from the smallest of them,
+-- which is at the place from; after the first coming the list goes on at the second, which is the same job (01, The judge's rules: Knot)
 pub record KnotTold (e : Edges) (jobs js : List ℕ) : Type 0 where
   pub way : List ℕ
   pub first : ℕ

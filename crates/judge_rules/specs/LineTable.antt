@@ -1,4 +1,4 @@
--- The judge's refusals of a line as the paper's table prints them: each row by itself, then the order in which the rows are tested. Lines are what the reader made of them; nothing here speaks of bytes or of the judge (01, Refusals by number).
+-- The judge's refusals of a line as the paper's table prints them: each row by itself, then the order in which the rows are tested. A line is what the reader made of it; bytes and the judge are not mentioned here (01, Refusals by number).
 use Prim.Native.Nat.{ℕ, suc, _-_, _≤_, _<_}
 use mathlib.Core.Path.{_≡_}
 use mathlib.Core.Bool.{Bool, false, not, _&&_, _||_}
@@ -65,7 +65,7 @@ abbrev pub overAlready : List Reading → Reading → Bool
 overAlready before (Bad at) = false
 overAlready before (Good l job cell) = endedIn job before
 
--- the table: when the row of each refusal holds for line n, by the lines before it and by what it reads. The other rows are not a line's, or not the judge's
+-- the table: when the row of each refusal holds for line n, by the lines before it and how it reads. The other rows do not belong to a line, or not to the judge
 unfoldable pub holds : ℕ → List Reading → Reading → Refusal → Bool
 holds n before r UnknownKind = false
 holds n before r CellAbove = above r
@@ -90,11 +90,11 @@ holds n before r NoRetry = false
 abbrev pub holdsAt : List Reading → ℕ → Refusal → Bool
 holdsAt rs n why = holds n (linesBefore rs n) (readingAt rs n) why
 
--- every line is read back: none is a bad line, at whichever field, none has a cell above 63, and none is for a job that has committed or given up before it (01, refusals 9, 2 and 13)
+-- every line is read back: none is a bad line at any field, none has a cell above 63, and none is for a job that has committed or given up before it (01, refusals 9, 2 and 13)
 abbrev pub AllReadBack : List Reading → Type 0
 AllReadBack rs = (n : ℕ) → 1 ≤ n → n ≤ length rs → ((at : Field) → holdsAt rs n (BadLine at) ≡ false) × (holdsAt rs n CellAbove ≡ false) × (holdsAt rs n Ended ≡ false)
 
--- the order of the tests: on one line 11, 9, 12, 2, 13; a bad line is bad at one field, so that of the four rows of 9 at most one holds (`bad-at-one`)
+-- the order of the tests: on one line 11, 9, 12, 2, 13; a bad line is bad at one field, so at most one of the four rows of 9 holds (`bad-at-one`)
 unfoldable pub order : List Refusal
 order = TooManyLines ∷ BadLine First ∷ BadLine Second ∷ BadLine Third ∷ BadLine Fourth ∷ JobOutside ∷ CellAbove ∷ Ended ∷ []
 
@@ -110,7 +110,7 @@ Due rs n why = tableSays n (linesBefore rs n) (readingAt rs n) ≡ some why
 abbrev pub Faultless : List Reading → ℕ → Type 0
 Faultless rs n = tableSays n (linesBefore rs n) (readingAt rs n) ≡ none
 
--- lines in order, and the first faulty line decides: there is a line n, those before it are faultless, and for it the refusal is due
+-- lines in order, and the first faulty line decides: there is a line n for which the refusal is due, and the lines before it are faultless
 pub record FirstFault (rs : List Reading) (n : ℕ) (why : Refusal) : Type 0 where
   pub from : 1 ≤ n
   pub to : n ≤ length rs

@@ -9,7 +9,7 @@ use Rattle.judge_rules.specs.Order.{Edges, preceded, without}
 use Rattle.judge_rules.specs.Knot.{upTo}
 use Rattle.judge_rules.specs.Judged.{Finding, orderly, knotted}
 
--- the order names each of the jobs once and only these, and every edge between them goes forward in it
+-- the order names each of the jobs once and no others, and every edge between them goes forward in it
 pub record Orderly (e : Edges) (jobs order : List ℕ) : Type 0 where
   pub once : distinct order ≡ true
   pub only : (j : ℕ) → member j order ≡ true → member j jobs ≡ true
@@ -74,7 +74,7 @@ pub record Shown (e : Edges) (left js : List ℕ) : Type 0 where
   pub turned : js ≡ (leader ∷ rest) ++ ahead
   pub smallest : (k : ℕ) → member k js ≡ true → leader ≤ k
 
--- what the paper says is found of jobs and their edges
+-- what the paper says is found for jobs and their edges
 pub data Says (e : Edges) (jobs : List ℕ) : Finding → Type 0 where
   says-order : {order : List ℕ} → SmallestFirst e jobs order → Says e jobs (orderly order)
   says-cycle : {taken rest js : List ℕ} → Takes e jobs taken rest → Shown e rest js → Says e jobs (knotted js)

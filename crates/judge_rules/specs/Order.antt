@@ -1,4 +1,4 @@
--- The judge's order: of the jobs that are left, the smallest without a predecessor among them is taken away, again and again (01, The judge's rules: Orderly, Knot).
+-- The judge's order: among the jobs left, the smallest without a predecessor left is taken away, again and again (01, The judge's rules: Orderly, Knot).
 use Prim.Native.Nat.{ℕ, zero, suc}
 use mathlib.Core.Bool.{Bool, false, not, _||_}
 use mathlib.Core.List.{List, [], _∷_}
@@ -11,31 +11,31 @@ use Rattle.laws.specs.Choice.{pick}
 abbrev pub Edges : Type 0
 Edges = ℕ → ℕ → Bool
 
--- whether some job of those that are left has an edge to j: j has a remaining predecessor
+-- whether some job among those left has an edge to j: j has a remaining predecessor
 unfoldable pub preceded : Edges → List ℕ → ℕ → Bool
 preceded e [] j = false
 preceded e (i ∷ left) j = e i j || preceded e left j
 
--- the first job that passes the test, if one does: the smallest such where the jobs ascend
+-- the first job that passes the test, if there is one; if the jobs ascend, it is the smallest such job
 unfoldable pub first : (ℕ → Bool) → List ℕ → Option ℕ
 first f [] = none
 first f (j ∷ js) = pick (f j) (some j) (first f js)
 
--- the smallest number of those left whose predecessors all stand already, so that none of them is left (01, The judge's rules: Orderly)
+-- the smallest number among those left whose predecessors all stand already, so that none of them is left (01, The judge's rules: Orderly)
 unfoldable pub ready : Edges → List ℕ → Option ℕ
 ready e left = first (λ j. not (preceded e left j)) left
 
--- the jobs but for this one
+-- the jobs without this one
 unfoldable pub without : ℕ → List ℕ → List ℕ
 without j [] = []
 without j (k ∷ ks) = pick (eqb k j) (without j ks) (k ∷ without j ks)
 
--- what is done with a job where there is one
+-- what is done with a job, if there is one
 abbrev pub found : {A : Type 0} → Option ℕ → A → (ℕ → A) → A
 found none x f = x
 found (some j) x f = f j
 
--- the jobs taken away, each behind those taken before it, and the jobs that remain
+-- the jobs taken away, each after those taken before it, and the jobs that remain
 pub record Taken : Type 0 where
   pub order : List ℕ
   pub remaining : List ℕ
@@ -48,7 +48,7 @@ ends left = record { order = []; remaining = left }
 unfoldable pub leads : ℕ → Taken → Taken
 leads j t = record { order = j ∷ t .order; remaining = t .remaining }
 
--- take away the ready job, at most n times; the number of jobs is times enough (proofs/Taking.antt)
+-- take away the ready job, at most n times; as many times as there are jobs is enough (proofs/Taking.antt)
 unfoldable pub taken : Edges → ℕ → List ℕ → Taken
 taken e zero left = ends left
 taken e (suc n) left = found (ready e left) (ends left) (λ j. leads j (taken e n (without j left)))

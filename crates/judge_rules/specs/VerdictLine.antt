@@ -1,4 +1,4 @@
--- The verdict as a line of text, the program `verdict` from text to text, and that its line is one line, of a length that is known (01, The judge's rules).
+-- The verdict as a line of text; the program `verdict` from text to text; and that its line is one line, of known length (01, The judge's rules).
 use Prim.Native.Nat.{ℕ, _+_, _*_}
 use mathlib.Core.Path.{_≡_}
 use mathlib.Core.Bool.{true}
@@ -17,7 +17,7 @@ use Rattle.judge_rules.specs.declared.verdict.Verdict.{Verdict}
 use Rattle.judge_rules.specs.declared.verdict.Verdict.the-variants.{Orderly as is-orderly, Knot as is-knot, Dirty as is-dirty, No as is-refused}
 use Rattle.judge_rules.specs.Judgement.{judgementOf}
 
--- the verdict as a line: the word and the jobs; dirty, reader, writer (02, No. 2); or no, line number, refusal, and of refusal 9 the field at fault (01, The judge's rules; 02, No. 5)
+-- the verdict as a line: the word and the jobs; dirty, reader, writer (02, No. 2); or no, line number, refusal, and for refusal 9 the field at fault (01, The judge's rules; 02, No. 5)
 unfoldable pub sayLine : Verdict → List ℕ → List ℕ
 sayLine (is-orderly n) order = wordLine Orderly (take n order)
 sayLine (is-knot n) order = wordLine Knot (take n order)

@@ -1,4 +1,4 @@
--- The timestamp desk refuses a request with a number exactly where the words say so; and what refuses one ask of a cell refuses every other (02, No. 6; 01, Refusals by number).
+-- The timestamp desk refuses a request with a number exactly if the words say so; and a refusal of one ask of a cell is given to every other (02, No. 6; 01, Refusals by number).
 -- Assumes nothing.
 use Prim.Native.Nat.{ℕ}
 use mathlib.Core.Path.{_≡_, refl, sym, ap, _∙_, subst}
@@ -46,7 +46,7 @@ other-due d (Known GiveUp) o c t = not-both t refl
 other-due d (Known Retry) o c t = not-both t refl
 other-due d (Known (Asks a)) o c t = not-both t refl
 
--- one ask of a cell is due what another is
+-- for one ask of a cell the same is due as for another
 ask-due : (d : Desk) (o : Bool) (c : ℕ) → map (λ b. dueBy d (letterOf b) o c) asks ≡ map (λ b. dueBy d (Known (Asks Read)) o c) asks
 unfolding dueBy holds order firstOf
 ask-due d o c = refl
@@ -88,7 +88,7 @@ module _ (d : Desk) (r : Request) (why : Refusal) where
   due-worded l (Known (Asks a)) e t = ask-worded a e (isOpen d (r .job)) refl t
 
 module _ (d : Desk) (r : Request) (l : DeskLimits (d .next) (d .jobs) (isOpen d)) where
-  -- what is due of a begin
+  -- what is due for a begin
   begin-due : r .kind ≡ 98 → dueOf d r ≡ dueBy d (Known Begin) (isOpen d (r .job)) (r .cell)
   unfolding dueOf
   begin-due b = ap (λ k. dueBy d (letterOf k) (isOpen d (r .job)) (r .cell)) b
@@ -109,7 +109,7 @@ module _ (d : Desk) (r : Request) (l : DeskLimits (d .next) (d .jobs) (isOpen d)
   worded-due (alike w) = alike-due w
   worded-due (no-retry b q) = (NoRetry, ap (λ k. dueBy d (letterOf k) (isOpen d (r .job)) (r .cell)) b ∙ ap (λ o. dueBy d (Known Retry) o (r .cell)) q, refl)
 
--- THE WORDS AND THE STEP REFUSE ALIKE, both ways, of every started timestamp desk
+-- THE WORDS AND THE STEP REFUSE ALIKE, in both directions, for every started timestamp desk
 pub worded : {d : Desk} {h : History} → Started d h → RefusesAs RefusedAs (from d)
 worded {d} s =
     let by = refuses d .by-table in

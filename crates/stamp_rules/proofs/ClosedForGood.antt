@@ -1,4 +1,4 @@
--- A job that is closed stays closed, by commit, by give-up or by being sent back: its number is never given again (02, No. 6; 01, Jobs and their numbers).
+-- A job that is closed, by commit, by give-up or by being sent back, stays closed: its number is never given again (02, No. 6; 01, Jobs and their numbers).
 -- Assumes nothing.
 use Prim.Native.Nat.{ℕ, _<_}
 use mathlib.Core.Path.{_≡_, ap, _∙_}

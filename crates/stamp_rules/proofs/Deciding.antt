@@ -1,4 +1,4 @@
--- Reads, writes, increments and u in the request's words: when each goes and when its job is sent back, and what it leaves where it goes; of every desk, started or not (02, No. 6).
+-- Reads, writes, increments and u in the request's words: when each goes, when its job is sent back, and what it leaves if it goes; for every desk, started or not (02, No. 6).
 -- Assumes nothing.
 use mathlib.Core.Path.{_≡_, refl, sym, ap, _∙_, subst}
 use mathlib.Core.Logic.{_⊎_, inl, inr}
@@ -24,11 +24,11 @@ module _ (d : Desk) (r : Request) (a : Ask) (k : Asking d r a) where
   unfolding ask close
   said-by = ap (λ o. o .said) (asking-step a k) ∙ by-test (late d (r .job) (r .cell) a) (λ t. rw t) (λ f. rw f)
 
-  -- who goes was not late
+  -- a job that goes was not late
   went : step d r .said ≡ Go (r .job) → late d (r .job) (r .cell) a ≡ false
   went g = by-test (late d (r .job) (r .cell) a) (λ t. let e : Back (r .job) ≡ Go (r .job) = rw t at (sym said-by ∙ g) in other-answer e refl) (λ f. f)
 
-  -- who is sent back was
+  -- a job that is sent back was late
   went-back : step d r .said ≡ Back (r .job) → late d (r .job) (r .cell) a ≡ true
   went-back g = by-test (late d (r .job) (r .cell) a) (λ t. t) (λ f. let e : Go (r .job) ≡ Back (r .job) = rw f at (sym said-by ∙ g) in other-answer e refl)
 
@@ -43,7 +43,7 @@ module _ (d : Desk) (r : Request) (a : Ask) (k : Asking d r a) where
   one-of-two : (step d r .said ≡ Go (r .job)) ⊎ (step d r .said ≡ Back (r .job))
   one-of-two = by-test (late d (r .job) (r .cell) a) (λ t. inr (said-by ∙ rw t)) (λ f. inl (said-by ∙ rw f))
 
-  -- what is left where it goes
+  -- what a go leaves
   desk-done : step d r .said ≡ Go (r .job) → step d r .desk ≡ done d (r .job) (r .cell) a
   unfolding ask
   desk-done g = ap (λ o. o .desk) (asking-step a k) ∙ rw (went g)

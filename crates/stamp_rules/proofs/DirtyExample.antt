@@ -1,4 +1,4 @@
--- Histories of the timestamp desk may be dirty under No. 2, as the request says: there is one (02, No. 6).
+-- Histories of the timestamp desk may be dirty under No. 2, as the request says: here is one (02, No. 6).
 -- A computed example: it opens definitions of conflict too, which no other proof of this crate does. Assumes nothing.
 use mathlib.Core.Path.{_≡_, refl}
 use mathlib.Core.List.{List, [], _∷_}
@@ -27,17 +27,17 @@ use Rattle.stamp_rules.specs.Step.{stepBegin, stepClose, stepAsk, stepBy
 abbrev pub dirtyRequests : List Request
 dirtyRequests = request 98 0 0 ∷ request 98 0 0 ∷ request 119 1 0 ∷ request 114 2 0 ∷ request 99 2 0 ∷ request 97 1 0 ∷ []
 
--- what a desk started at 1 writes of them
+-- what a desk started at 1 writes for them
 abbrev pub dirtyHistory : History
 dirtyHistory =
     Does (record { kind = Write; job = 1; cell = 0 }) ∷ Does (record { kind = Read; job = 2; cell = 0 }) ∷ Ends Commit 2 ∷ Ends GiveUp 1 ∷ []
 
--- it does write that
+-- it does write that history
 pub dirty-written : writes step (freshDesk 1) dirtyRequests ≡ dirtyHistory
 unfolding writes recordsBy recordsOf ownRecords wakeRecords wentBy step stepBy stepBegin stepClose stepAsk beginning begin close ask late lateToRead lateToWrite done hasRead hasWritten at larger member seated vacated isOpen freshDesk recorded
 dirty-written = refl
 
--- THERE IS A DIRTY HISTORY: 2, which commits, has read what 1 had written, which does not
+-- THERE IS A DIRTY HISTORY: 2, which commits, has read what 1, which does not commit, had written
 pub may-be-dirty : IsDirty (writes step (freshDesk 1) dirtyRequests)
 unfolding changes commits isCommit ended marked isEnd
 may-be-dirty =

@@ -1,4 +1,4 @@
--- What the desk is once a request for a cell has gone: jobs and their numbers as before, and the cell's two numbers as the request says (02, No. 6).
+-- The desk after a request for a cell has gone: jobs and their numbers as before, and the cell's two numbers as the request says (02, No. 6).
 -- Assumes nothing.
 use Prim.Native.Nat.{ℕ}
 use mathlib.Core.Path.{_≡_, refl, ap, _∙_}
@@ -39,7 +39,7 @@ module _ (d : Desk) (j c : ℕ) where
   unfolding done hasRead
   read-done = (read-by _ refl, refl)
 
-  -- and so a u
+  -- and so has a u
   pub update-done : ReadBy d (done d j c Update) j c × (done d j c Update .writer ≡ d .writer)
   unfolding done hasRead
   update-done = (read-by _ refl, refl)

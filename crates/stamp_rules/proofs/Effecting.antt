@@ -1,4 +1,4 @@
--- What begins and ends leave, by the answer: a begin opens one job, commit, give-up and being sent back close one, and a closed job stays closed (02, No. 6; 01, Jobs and their numbers).
+-- What begins and ends leave, by the answer: a begin opens one job; a commit, a give-up and a sending back close one; and a closed job stays closed (02, No. 6; 01, Jobs and their numbers).
 -- Assumes nothing.
 use Prim.Native.Nat.{ℕ, _<_}
 use mathlib.Core.Path.{_≡_, refl, ap, _∙_, subst}

@@ -1,4 +1,4 @@
--- Each of the examples is what the timestamp desk's step computes (02, No. 6).
+-- The timestamp desk's step computes each of the examples (02, No. 6).
 -- Assumes nothing.
 use mathlib.Core.Path.{_≡_, refl}
 use mathlib.Core.List.{map}

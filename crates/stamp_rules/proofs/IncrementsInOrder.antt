@@ -1,4 +1,4 @@
--- After a write or an increment of a cell nobody with a smaller number acts on it; so two jobs' increments of one cell, which do not conflict, stand in number order too (02, No. 6).
+-- After a write or an increment of a cell no job with a smaller number acts on it. So two jobs' increments of one cell, which do not conflict, stand in number order too (02, No. 6).
 -- Assumes nothing.
 use Prim.Native.Nat.{ℕ, _<_, _≤_}
 use mathlib.Core.Path.{_≡_, sym, ap, _∙_, subst}
@@ -24,11 +24,11 @@ use Rattle.stamp_rules.proofs.Late.{over-writer}
 use Rattle.stamp_rules.proofs.Written.{asking, Wrote, nothing, action, mark, step-wrote}
 use Rattle.stamp_rules.proofs.Stamping.{Matches, started-matches}
 
--- whoever acts on a cell after a write or an increment of it has no smaller number
+-- a job that acts on a cell after a write or an increment of it does not have a smaller number
 abbrev NoneSmaller : History → Type 0
 NoneSmaller h = (before : History) (a : Action) (between : History) (b : Action) (rest : History) → h ≡ before ++ Does a ∷ between ++ Does b ∷ rest → a .cell ≡ b .cell → changes (a .kind) ≡ true → a .job ≤ b .job
 
--- a step keeps that, where the cells' numbers are what the history says
+-- a step keeps this, if the cells' numbers are what the history says
 wrote-none-smaller : {d e : Desk} {r : Request} {h g : History} → Matches d h → NoneSmaller h → Wrote d r e g → NoneSmaller (h ++ g)
 wrote-none-smaller {h = h} k o (nothing s) = rw (append-nil h) o
 wrote-none-smaller {d = d} {r = r} {h = h} k o (action x p f) = λ before a between b rest q c w.

@@ -1,4 +1,4 @@
--- Every step keeps what holds of the places of every started desk: they name the open jobs, each once, and every open job's number was given (02, No. 6).
+-- Every step keeps what holds for the places of every started desk: they name the open jobs, each once, and every open job's number was given (02, No. 6).
 -- Assumes nothing.
 use Prim.Native.Nat.{ℕ, _<_}
 use mathlib.Core.Path.{_≡_, sym, _∙_}
@@ -72,7 +72,7 @@ fresh-seats n =
     seating-of (freshDesk n) (free-once places) (length-replicate {A = ℕ} places 0)
     (λ j o. not-both (sym (open-by-place (freshDesk n) j (open-not-zero (freshDesk n) j o)) ∙ o) (free-nobody places j (open-not-zero (freshDesk n) j o)))
 
--- so it holds of every started desk
+-- so it holds for every started desk
 pub started-seats : {d : Desk} {h : History} → Started d h → Seats d
 started-seats (fresh n l u) = fresh-seats n
 started-seats (after {d = d} s r) = moved-seats d (started-seats s) (next-bounds s .0) (step-moved d r)

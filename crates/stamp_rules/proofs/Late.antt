@@ -1,4 +1,4 @@
--- Who is late: the tests of the rules as the request words them, by the cell's two numbers; equal numbers go (02, No. 6).
+-- When a request is late: the tests of the rules as the request words them, by the cell's two numbers; equal numbers go (02, No. 6).
 -- Assumes nothing.
 use Prim.Native.Nat.{ℕ, _<_, _≤_}
 use mathlib.Core.Path.{_≡_, refl, ap, _∙_}
@@ -16,7 +16,7 @@ use Rattle.conflict.proofs.Clauses.{records-read, records-update, read-changes-
 use Rattle.stamp_rules.specs.Desk.{Desk}
 use Rattle.stamp_rules.specs.Rules.{lateToRead, lateToWrite, late}
 
--- a test fails exactly where this holds, and holds exactly where that does
+-- a test fails exactly if the first holds, and passes exactly if the second does
 pub record Decided (test : Bool) (this that : Type 0) : Type 0 where
   pub in-time : test ≡ false → this
   pub so-in-time : this → test ≡ false
@@ -43,17 +43,17 @@ said-twice true false = refl
 said-twice false b = refl
 
 module _ (d : Desk) (j c : ℕ) where
-  -- a read is late where its job is smaller than the writer number
+  -- a read is late if its job is smaller than the writer number
   pub read-late : Decided (late d j c Read) (d .writer c ≤ j) (j < d .writer c)
   unfolding late lateToRead
   read-late = smaller j (d .writer c)
 
-  -- and so a u
+  -- and so is a u
   pub update-late : Decided (late d j c Update) (d .writer c ≤ j) (j < d .writer c)
   unfolding late lateToRead
   update-late = smaller j (d .writer c)
 
-  -- a write is late where its job is smaller than either number
+  -- a write is late if its job is smaller than either number
   pub write-late : Decided (late d j c Write) ((d .reader c ≤ j) × (d .writer c ≤ j)) ((j < d .reader c) ⊎ (j < d .writer c))
   unfolding late lateToWrite
   write-late = neither (smaller j (d .reader c)) (smaller j (d .writer c))
@@ -63,18 +63,18 @@ module _ (d : Desk) (j c : ℕ) where
   unfolding late lateToRead lateToWrite
   as-write = said-twice (ltb j (d .writer c)) (ltb j (d .reader c))
 
-  -- so where its job is smaller than either number
+  -- so an increment is late if its job is smaller than either number
   pub increment-late : Decided (late d j c Increment) ((d .reader c ≤ j) × (d .writer c ≤ j)) ((j < d .reader c) ⊎ (j < d .writer c))
   increment-late = rw as-write write-late
 
-  -- who is not late is not below the writer number
+  -- a request that is not late has a job that is not below the writer number
   pub over-writer : (a : Ask) → late d j c a ≡ false → d .writer c ≤ j
   over-writer Read f = read-late .in-time f
   over-writer Write f = write-late .in-time f .1
   over-writer Increment f = increment-late .in-time f .1
   over-writer Update f = update-late .in-time f
 
-  -- nor, where it changes the cell, below the reader number
+  -- nor, if it changes the cell, below the reader number
   pub over-reader : (a : Ask) → late d j c a ≡ false → changes (recorded a) ≡ true → d .reader c ≤ j
   over-reader Read f w = not-both w (ap changes records-read ∙ read-changes-not)
   over-reader Write f w = write-late .in-time f .0

@@ -1,4 +1,4 @@
--- Every step of the timestamp desk is a move by one of the request's rules: the one place that follows the tests (02, No. 6).
+-- Every step of the timestamp desk is a move by one of the request's rules. Only this file follows the tests (02, No. 6).
 -- Assumes nothing.
 use mathlib.Core.Path.{_≡_, refl}
 use mathlib.Core.Logic.{inl, inr}
@@ -79,7 +79,7 @@ step-by d r (Known GiveUp) e = close-moved d r (inr e)
 step-by d r (Known Retry) e = retry-moved d r e
 step-by d r (Known (Asks a)) e = asked-moved d r a e
 
--- every step is a move by one of the rules, and refuses only what the table says is due
+-- every step is a move by one of the rules, and refuses only what the table has due
 pub step-moved : (d : Desk) (r : Request) → Moved d r (step d r)
 unfolding step
 step-moved d r = step-by d r (letterOf (r .kind)) refl

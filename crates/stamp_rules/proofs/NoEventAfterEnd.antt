@@ -27,7 +27,7 @@ use Rattle.stamp_rules.proofs.ClosedForGood.{closed-stays}
 use Rattle.stamp_rules.proofs.Written.{asking, Wrote, nothing, action, mark, step-wrote}
 
 module _ {d : Desk} {r : Request} where
-  -- who has an event in a step was open before it
+  -- a job that has an event in a step was open before it
   pub line-open : {e : Desk} {g : History} → Wrote d r e g → (j : ℕ) → lineOf j g ≡ true → isOpen d j ≡ true
   line-open (nothing s) j h = not-both h (line-none j)
   line-open (action a k f) j h =
@@ -35,7 +35,7 @@ module _ {d : Desk} {r : Request} where
   line-open (mark m o) j h =
       or-either (eqb (r .job) j) (lineOf j []) (sym (line-ends j m (r .job) []) ∙ h) (λ t. rw (← eqb-true (r .job) j t) o) (λ t. not-both t (line-none j))
 
-  -- who has a mark in a step is not open after it
+  -- a job that has a mark in a step is not open after it
   mark-shut : {e : Desk} {g : History} → Wrote d r e g → (j : ℕ) → ended j g ≡ true → isOpen e j ≡ false
   mark-shut (nothing s) j h = not-both h (none-ended j)
   mark-shut (action a k f) j h = not-both h (does-ends-not j (asking r a) [] ∙ none-ended j)
@@ -43,20 +43,20 @@ module _ {d : Desk} {r : Request} where
       or-either (eqb (r .job) j) (ended j []) (sym (mark-ends j m (r .job) []) ∙ h)
       (λ t. rw (← eqb-true (r .job) j t) (gone-not-open d (r .job) (open-not-zero d (r .job) o))) (λ t. not-both t (none-ended j))
 
--- what holds of a desk and the history that it has written
+-- what holds for a desk and the history that it has written
 pub record Over (d : Desk) (h : History) : Type 0 where
-  -- nothing of a job follows a mark of it
+  -- no event of a job follows a mark of it
   pub last : NothingAfter h
-  -- who has an event has a number that was given
+  -- a job that has an event has a number that was given
   pub given : (j : ℕ) → lineOf j h ≡ true → j < d .next
-  -- who has a mark is not open
+  -- a job that has a mark is not open
   pub shut : (j : ℕ) → ended j h ≡ true → isOpen d j ≡ false
 
--- who has a mark has no event in a step
+-- a job that has a mark has no event in a step
 line-apart : {d e : Desk} {r : Request} {h g : History} → Over d h → Wrote d r e g → (j : ℕ) → ended j h ≡ true → lineOf j g ≡ false
 line-apart {g = g} k w j m = by-test (lineOf j g) (λ t. not-both (line-open w j t) (k .shut j m)) (λ n. n)
 
--- so nothing follows a mark with what a step writes
+-- so nothing that a step writes follows a mark of its job
 wrote-last : {d e : Desk} {r : Request} {h g : History} → Over d h → Wrote d r e g → NothingAfter (h ++ g)
 wrote-last {h = h} k (nothing s) = rw (append-nil h) (k .last)
 wrote-last {r = r} {h = h} k (action a p f) = nothing-after-more h (Does (asking r a)) (k .last) (line-apart {r = r} k (action a p f))
@@ -80,7 +80,7 @@ step-over {d} {h} v r k = record {
     later : {j : ℕ} → j < d .next → j < step d r .desk .next
     later l = omega (arith, next-rises d r)
 
--- so of every started desk and the history that it has written
+-- so it holds for every started desk and the history that it has written
 pub started-over : {d : Desk} {h : History} → Started d h → Over d h
 started-over (fresh n _ _) = record { last = nothing-after-none; given = λ j l. not-both l (line-none j); shut = λ j m. not-both m (none-ended j) }
 started-over (after s r) = step-over (started-seats s) r (started-over s)

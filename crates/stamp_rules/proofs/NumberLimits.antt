@@ -1,4 +1,4 @@
--- The limits of the timestamp desk as the paper prints them: at most 32 open jobs, their numbers, the numbers given from a start on, and rows 2, 3, 6 and 7 of the table (02, No. 6; 01, What is delivered; 01, Refusals by number).
+-- The limits of the timestamp desk as the paper prints them: at most 32 open jobs, their numbers, the numbers given from a start, and rows 2, 3, 6 and 7 of the table (02, No. 6; 01, What is delivered; 01, Refusals by number).
 -- Assumes nothing.
 use Prim.Native.Nat.{ℕ, _≤_}
 use Rattle.terms.specs.Limits.{lastNumber}

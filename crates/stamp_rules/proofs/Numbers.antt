@@ -1,4 +1,4 @@
--- The numbers of jobs on the timestamp desk: each of its steps gives the next number or none, so all that is known of such desks holds of it (01, Jobs and their numbers).
+-- The numbers of jobs on the timestamp desk: each step gives the next number or none, so the laws of such desks hold for it (01, Jobs and their numbers).
 -- Assumes nothing.
 use Prim.Native.Nat.{ℕ, suc, _<_, _≤_}
 use mathlib.Core.Path.{_≡_, refl}

@@ -1,4 +1,4 @@
--- THE TIE: a desk that is kept in another way and does as the request's desk does keeps every promise (02, No. 6), since it shows what the request's desk shows (`Following.antt` of `desks`).
+-- THE TIE: a desk that is kept in another way and does what the request's desk does keeps every promise (02, No. 6), since it shows what the request's desk shows (`Following.antt` of `desks`).
 -- Assumes nothing.
 use Prim.Native.Nat.{ℕ, _<_, _≤_}
 use mathlib.Core.Path.{sym, subst}
@@ -16,7 +16,7 @@ use Rattle.stamp_rules.proofs.NumberLimits.{numbers-from}
 use Rattle.stamp_rules.proofs.Promised.{promised}
 
 module _ {S : Type 0} {view : S → Desk} {does : Stepping S} {new : ℕ → S} (f : Faithful view does new) where
-  -- from a start on it keeps what is promised of the numbers
+  -- from a start it keeps what is promised of the numbers
   pub start-promises : (n : ℕ) → 0 < n → n ≤ lastNumber → NumbersFrom (λ d. d .next) n (course view does (new n))
   start-promises n l u = subst (NumbersFrom (λ d. d .next) n) (sym (started-course f n l u)) (numbers-from n u)
 

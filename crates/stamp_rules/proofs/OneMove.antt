@@ -1,4 +1,4 @@
--- The rules leave no choice: the step is the one move that there is, whatever the desk and the request (02, No. 6; 01, How much a contract says).
+-- The rules leave no choice: the step is the only move, whatever the desk and the request (02, No. 6; 01, How much a contract says).
 -- Assumes nothing.
 use Prim.Native.Nat.{ℕ}
 use mathlib.Core.Path.{_≡_, ap, _∙_}
@@ -29,7 +29,7 @@ not-due : {P : Type 0} {o : Option Refusal} {x : Refusal} → o ≡ none → o �
 not-due p q = let z : _≡_ {A = ℕ} 0 1 = cc in absurd (omega arith)
 
 module _ {d : Desk} {r : Request} where
-  -- an open job that asks for a cell: the step is what the rules of cells say
+  -- for an open job that asks for a cell, the step is what the rules of cells say
   pub asking-step : (a : Ask) → Asking d r a → step d r ≡ ask d (r .job) (r .cell) a
   unfolding step stepBy stepAsk
   asking-step a k = rw (k .letter, k .open-job, lt-ltb (r .cell) cells (k .within))

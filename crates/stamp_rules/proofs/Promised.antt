@@ -39,6 +39,6 @@ promised {d} s = record {
   numbers = numbers d;
 }
 
--- so does a fresh one after any requests
+-- and so does a fresh one after any requests
 pub promised-from-fresh : (n : ℕ) → 0 < n → n ≤ lastNumber → (rs : List Request) → Promises (writes step (freshDesk n) rs) (from (through step (freshDesk n) rs))
 promised-from-fresh n some last rs = promised (run-started (fresh n some last) rs)

@@ -1,4 +1,4 @@
--- What never happens on a timestamp desk, started or not: nobody waits, nobody is woken, and 4, 5 and 8 are never given (02, No. 6).
+-- What never happens on a timestamp desk, started or not: no job waits, no job is woken, and 4, 5 and 8 are never given (02, No. 6).
 -- Assumes nothing.
 use Prim.Native.Nat.{ℕ}
 use mathlib.Core.Path.{_≡_, refl}
@@ -36,10 +36,10 @@ module _ (d : Desk) (r : Request) where
   moved-no-wakes (goes a k f) = refl
   moved-no-wakes (goes-back a k t) = refl
 
--- no step wakes anybody
+-- no step wakes a job
 pub nobody-woken : (d : Desk) (r : Request) → step d r .wakes ≡ []
 nobody-woken d r = moved-no-wakes d r (step-moved d r)
 
--- what is promised of what never happens
+-- the promise of what never happens
 pub quiet : (d : Desk) (r : Request) → Quiet (from d) r
 quiet d r = record { never-waits = λ j. moved-no-wait d r j (step-moved d r); never-wakes = nobody-woken d r; only-these = only-these d r }

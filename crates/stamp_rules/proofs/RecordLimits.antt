@@ -1,4 +1,4 @@
--- In every history that a timestamp desk writes, jobs are 1 to 4,294,967,295, cells 0 to 63, and a step writes one record at most (01, Jobs and their numbers; 02, No. 6).
+-- In every history that a timestamp desk writes, jobs are 1 to 4,294,967,295 and cells 0 to 63; and a step writes at most one record (01, Jobs and their numbers; 02, No. 6).
 -- Assumes nothing.
 use Prim.Native.Nat.{ℕ, _≤_, _<_}
 use mathlib.Core.Path.{_≡_, sym, subst, _∙_}
@@ -41,12 +41,12 @@ pub recorded-cells : {d : Desk} {h : History} → Started d h → (x : Action) �
 recorded-cells (fresh n _ _) x k = in-none k
 recorded-cells (after {d = d} {h = h} s r) x k = in-either h (recordsBy step d r) k (λ t. recorded-cells s x t) (wrote-cell (step-wrote d r) x)
 
--- what is written of a step is one record at most
+-- what is written of a step is at most one record
 wrote-few : {d e : Desk} {r : Request} {g : History} → Wrote d r e g → length g ≤ 1
 wrote-few (nothing s) = omega arith
 wrote-few (action a k f) = omega arith
 wrote-few (mark m o) = omega arith
 
--- so a step writes one record at most
+-- so a step writes at most one record
 pub one-record : (d : Desk) (r : Request) → length (recordsBy step d r) ≤ 1
 one-record d r = wrote-few (step-wrote d r)

@@ -1,4 +1,4 @@
--- What the history records of a step of the timestamp desk, by its request and its answer: no step wakes anybody (01, Lines; 02, No. 6).
+-- What the history records of a step of the timestamp desk, by its request and its answer: no step wakes a job (01, Lines; 02, No. 6).
 -- Assumes nothing.
 use Rattle.desks.specs.Request.{Request}
 use Rattle.desks.specs.Recorded.{Recorded}

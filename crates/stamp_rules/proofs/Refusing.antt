@@ -1,4 +1,4 @@
--- Refusals and answers of the timestamp desk: a refusal of its table exactly where it is the first that is due, and then nothing changes; else go or back, with the job; and only 1, 2, 3, 6, 7 and 19 are ever given (02, No. 6; 01, Refusals by number).
+-- Refusals and answers of the timestamp desk: a refusal of its table exactly if it is the first that is due, and then nothing changes; otherwise go or back, with the job; and only 1, 2, 3, 6, 7 and 19 are ever given (02, No. 6; 01, Refusals by number).
 -- Assumes nothing.
 use Prim.Native.Nat.{ℕ}
 use mathlib.Core.Path.{_≡_, refl, sym, ap, ap₂, _∙_}

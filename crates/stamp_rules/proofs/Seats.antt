@@ -1,4 +1,4 @@
--- Who is open by the places: a job is where it has one and is not 0, so a begin opens one job, an end closes one, and nobody else's is changed (02, No. 6; 01, refusal 3).
+-- Which jobs are open, by the places: a job is open if it has a place and is not 0. So a begin opens one job, an end closes one, and no other job changes (02, No. 6; 01, refusal 3).
 -- Assumes nothing.
 use Prim.Native.Nat.{ℕ, _<_}
 use mathlib.Core.Path.{_≡_, refl, sym, ap, _∙_}
@@ -30,7 +30,7 @@ pub open-seated : (d : Desk) (j : ℕ) → isOpen d j ≡ true → member j (d .
 unfolding isOpen
 open-seated d j o = and-second (not (eqb j 0)) (member j (d .jobs)) o
 
--- a job that is not 0 is open exactly where it has a place
+-- a job that is not 0 is open exactly if it has a place
 pub open-by-place : (d : Desk) (j : ℕ) → j ≢ 0 → isOpen d j ≡ member j (d .jobs)
 unfolding isOpen
 open-by-place d j z = rw (ne-eqb j 0 z)
@@ -45,7 +45,7 @@ same-open : (d e : Desk) (i : ℕ) → (i ≢ 0 → member i (e .jobs) ≡ membe
 unfolding isOpen
 same-open d e i h = by-test (eqb i 0) (λ t. rw t) (λ f. ap (λ b. not (eqb i 0) && b) (h (eqb-false i 0 f)))
 
--- nobody is opened or closed where a request for a cell goes
+-- a request for a cell that goes opens and closes no job
 pub done-open : (d : Desk) (j c : ℕ) (a : Ask) (i : ℕ) → isOpen (done d j c a) i ≡ isOpen d i
 done-open d j c a i = same-open d (done d j c a) i (λ _. ap (member i) (done-jobs d j c a .places))
 
@@ -54,7 +54,7 @@ module _ (d : Desk) where
   pub new-open : (n j : ℕ) → j ≢ 0 → member 0 (d .jobs) ≡ true → isOpen (placed d n (seated j (d .jobs))) j ≡ true
   new-open n j z m = open-by-place _ j z ∙ seated-there j (d .jobs) m
 
-  -- and every other is as it was
+  -- and every other job is as it was
   pub new-others : (n j i : ℕ) → i ≢ j → isOpen (placed d n (seated j (d .jobs))) i ≡ isOpen d i
   new-others n j i h = same-open d _ i (λ z. seated-others j (d .jobs) i h z)
 
@@ -62,16 +62,16 @@ module _ (d : Desk) where
   pub gone-not-open : (j : ℕ) → j ≢ 0 → isOpen (without d j) j ≡ false
   gone-not-open j z = open-by-place _ j z ∙ vacated-gone j (d .jobs) z
 
-  -- and every other is as it was
+  -- and every other job is as it was
   pub gone-others : (j i : ℕ) → i ≢ j → isOpen (without d j) i ≡ isOpen d i
   gone-others j i h = same-open d _ i (λ z. vacated-others j (d .jobs) i h z)
 
-  -- so who is open once a job is closed was open before
+  -- so a job that is open once another is closed was open before
   pub left-open : (j i : ℕ) → j ≢ 0 → isOpen (without d j) i ≡ true → isOpen d i ≡ true
   left-open j i z o =
       by-test (eqb i j) (λ t. not-both (rw (eqb-true i j t) at o) (gone-not-open j z)) (λ f. sym (gone-others j i (eqb-false i j f)) ∙ o)
 
-  -- places that name nobody twice, 32 of them, and open jobs below the next number: so the places name the open jobs
+  -- if 32 places name no job twice, and open jobs are below the next number, the places name the open jobs
   pub seating-of : Once (d .jobs) → length (d .jobs) ≡ places → ((j : ℕ) → isOpen d j ≡ true → j < d .next) → Seating (d .next) (d .jobs) (isOpen d)
   seating-of once size below = record {
     seats = open-seated d;

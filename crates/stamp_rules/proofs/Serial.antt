@@ -1,4 +1,4 @@
--- In every history that the timestamp desk writes conflicting actions stand in number order, so ascending numbers are a serial order of the committed jobs (02, No. 6).
+-- In every history that the timestamp desk writes, conflicting actions stand in number order. So ascending numbers are a serial order of the committed jobs (02, No. 6).
 -- Assumes nothing.
 use mathlib.Core.List.{_++_, append-nil}
 use native.Mathlib.Omega.{arith}
@@ -19,7 +19,7 @@ use Rattle.stamp_rules.proofs.Stamping.{Matches, started-matches}
 use Rattle.stamp_rules.proofs.IncrementsInOrder.{increments-in-order}
 use Rattle.stamp_rules.proofs.NoEventAfterEnd.{started-over}
 
--- a step keeps number order, where the cells' numbers are what the history says: an action that goes is not below those that it is held against
+-- a step keeps number order, if the cells' numbers are what the history says: an action that goes is not below those it is compared with
 wrote-in-order : {d e : Desk} {r : Request} {h g : History} → Matches d h → ActsInNumberOrder h → Wrote d r e g → ActsInNumberOrder (h ++ g)
 wrote-in-order {h = h} k o (nothing s) = rw (append-nil h) o
 wrote-in-order {d = d} {r = r} {h = h} k o (action a p f) =
@@ -27,7 +27,7 @@ wrote-in-order {d = d} {r = r} {h = h} k o (action a p f) =
     (λ w. omega (arith, k .readers (r .cell), over-reader d (r .job) (r .cell) a f w))
 wrote-in-order {r = r} {h = h} k o (mark m q) = number-order-ends h m (r .job) o
 
--- conflicting actions of every history that the desk writes stand in number order, whatever becomes of their jobs
+-- in every history that the desk writes, conflicting actions stand in number order, whatever becomes of their jobs
 pub started-in-order : {d : Desk} {h : History} → Started d h → ActsInNumberOrder h
 started-in-order (fresh n _ _) = number-order-none
 started-in-order (after {d = d} s r) = wrote-in-order (started-matches s) (started-in-order s) (step-wrote d r)

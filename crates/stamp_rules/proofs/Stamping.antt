@@ -1,4 +1,4 @@
--- Each cell's two numbers are what the history says: the largest job number that has read it and the largest that has written it, whatever became of the jobs, and nothing lowers them (02, No. 6).
+-- Each cell's two numbers are what the history says: the largest job number that has read it and the largest that has written it, whatever became of the jobs. Nothing lowers them (02, No. 6).
 -- Assumes nothing.
 use Prim.Native.Nat.{ℕ, _≤_}
 use mathlib.Core.Path.{_≡_, sym, ap, _∙_, subst}
@@ -42,7 +42,7 @@ use Rattle.stamp_rules.proofs.Written.{asking, Wrote, nothing, action, 
 abbrev Largest : (Kind → Bool) → (ℕ → ℕ) → History → Type 0
 Largest f stamp h = (c : ℕ) → stamp c ≡ largest f c h
 
--- what holds of a desk and the history that it has written
+-- what holds for a desk and the history that it has written
 pub record Matches (d : Desk) (h : History) : Type 0 where
   pub readers : Largest reads (d .reader) h
   pub writers : Largest changes (d .writer) h
@@ -52,7 +52,7 @@ module _ (f : Kind → Bool) (stamp : ℕ → ℕ) (h : History) (x : Action) (k
   unacted : f (x .kind) ≡ false → Largest f stamp (h ++ Does x ∷ [])
   unacted n c = k c ∙ sym (largest-then-other f c h x (rw n (and-false (eqb (x .cell) c))))
 
-  -- and one of such a kind where its cell's number is then the larger of what it was and the job, and no other's is changed
+  -- an action of such a kind: its cell's number is then the larger of what it was and the job, and no other cell's changes
   acted : (new : ℕ → ℕ) → f (x .kind) ≡ true → new (x .cell) ≡ larger (stamp (x .cell)) (x .job) → ((b : ℕ) → b ≢ x .cell → new b ≡ stamp b) → Largest f new (h ++ Does x ∷ [])
   acted new t there elsewhere c =
       by-test (eqb c (x .cell))
@@ -65,11 +65,11 @@ module _ {d : Desk} (r : Request) {h : History} (k : Matches d h) where
   has-read : (a : Ask) (e : Desk) → reads (recorded a) ≡ true → ReadBy d e (r .job) (r .cell) → Largest reads (e .reader) (h ++ Does (asking r a) ∷ [])
   has-read a e t w = acted reads (d .reader) h (asking r a) (k .readers) (e .reader) t (w .there) (w .elsewhere)
 
-  -- the writer numbers after one that changes, whose job is not below the writer number
+  -- the writer numbers after an action that changes the cell, by a job not below the writer number
   has-written : (a : Ask) (e : Desk) → changes (recorded a) ≡ true → d .writer (r .cell) ≤ r .job → WrittenBy d e (r .job) (r .cell) → Largest changes (e .writer) (h ++ Does (asking r a) ∷ [])
   has-written a e t l w = acted changes (d .writer) h (asking r a) (k .writers) (e .writer) t (w .there ∙ sym (larger-is-second (d .writer (r .cell)) (r .job) l)) (w .elsewhere)
 
-  -- who is not late leaves them so
+  -- a request that is not late keeps them so
   done-matches : (a : Ask) → late d (r .job) (r .cell) a ≡ false → Matches (done d (r .job) (r .cell) a) (h ++ Does (asking r a) ∷ [])
   done-matches Read f =
       let w = read-done d (r .job) (r .cell) in
@@ -99,7 +99,7 @@ module _ {d : Desk} (r : Request) {h : History} (k : Matches d h) where
     writers = λ c. k .writers c ∙ sym (largest-then-ends changes c h m (r .job));
   }
 
--- so they are on every started desk what its history says
+-- so on every started desk they are what its history says
 pub started-matches : {d : Desk} {h : History} → Started d h → Matches d h
 started-matches (fresh n _ _) = unfold freshDesk in record { readers = λ c. sym (largest-none reads c); writers = λ c. sym (largest-none changes c) }
 started-matches (after {d = d} s r) = wrote-matches r (started-matches s) (step-wrote d r)

@@ -1,4 +1,4 @@
--- The step of the timestamp desk follows its refusal table: a walk through the letters, made once (02, No. 6; 01, Refusals by number).
+-- The step of the timestamp desk follows its refusal table: one walk through the letters (02, No. 6; 01, Refusals by number).
 -- Assumes nothing.
 use Prim.Native.Nat.{ℕ}
 use mathlib.Core.Path.{refl}
@@ -22,7 +22,7 @@ use Rattle.stamp_rules.specs.Rules.{late, close, ask, begin}
 use Rattle.stamp_rules.specs.Step.{stepBegin, stepClose, stepRetry, stepAsk, stepBy, step}
 use Rattle.stamp_rules.specs.Table.{holds, order, dueBy, dueOf, named}
 
--- who is late is sent back, and everybody else goes: no request for a cell is refused for its number
+-- a late request is sent back, and every other goes: no request for a cell is refused because of its number
 ask-answered : (d : Desk) (j c : ℕ) (a : Ask) → Answers (ask d j c a .said) j
 unfolding ask close
 ask-answered d j c a = answered (late d j c a) _ _ j (goes-back j) (goes j)

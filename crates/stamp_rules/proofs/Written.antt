@@ -1,4 +1,4 @@
--- What a step leaves and writes: nothing, with the cells' numbers as before, the action of a request for a cell that went, or the mark of a job that was closed. The one place that follows the moves for it (01, Lines).
+-- What a step leaves and writes: nothing, with the cells' numbers as before; the action of a request for a cell that went; or the mark of a job that was closed. Only this file follows the moves for it (01, Lines).
 -- Assumes nothing.
 use mathlib.Core.Path.{_≡_, refl}
 use mathlib.Core.Logic.{inl, inr}
@@ -42,7 +42,7 @@ module _ {d : Desk} {r : Request} where
   moved-wrote (goes a k f) = rw (k .letter) (action a k f)
   moved-wrote (goes-back a k t) = mark Back (k .open-job)
 
--- and so every step
+-- and so does every step
 pub step-wrote : (d : Desk) (r : Request) → Wrote d r (step d r .desk) (recordsBy step d r)
 unfolding recordsBy
 step-wrote d r = moved-wrote (step-moved d r)

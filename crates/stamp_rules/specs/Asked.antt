@@ -1,4 +1,4 @@
--- An open job asks for a cell, and what a step leaves by its answer: from desk d, before it, to desk e, after it (02, No. 6).
+-- An open job asks for a cell; and what a step leaves, by its answer, from desk d before it to desk e after it (02, No. 6).
 use Prim.Native.Nat.{ℕ, suc, _<_}
 use mathlib.Core.Path.{_≡_}
 use mathlib.Core.Logic.{_≢_}
@@ -13,7 +13,7 @@ use Rattle.terms.specs.Limits.{cells}
 use Rattle.desks.specs.Request.{Request}
 use Rattle.stamp_rules.specs.Desk.{Desk, isOpen}
 
--- an open job asks for a cell that there is
+-- an open job asks for a cell from 0 to 63
 pub record Asking (d : Desk) (r : Request) (a : Ask) : Type 0 where
   pub letter : letterOf (r .kind) ≡ Known (Asks a)
   pub open-job : isOpen d (r .job) ≡ true
@@ -39,7 +39,7 @@ pub record SameStamps (d e : Desk) : Type 0 where
   pub readers : (c : ℕ) → e .reader c ≡ d .reader c
   pub writers : (c : ℕ) → e .writer c ≡ d .writer c
 
--- job j was begun: it has the number that was next, was not open before, is open, and every other job and every cell's numbers are as before
+-- job j was begun: it has the number that was next, was not open before and is now; every other job and every cell's numbers are as before
 pub record Begins (d e : Desk) (j : ℕ) : Type 0 where
   pub number : j ≡ d .next
   pub next : e .next ≡ suc (d .next)
@@ -48,7 +48,7 @@ pub record Begins (d e : Desk) (j : ℕ) : Type 0 where
   pub others : (i : ℕ) → i ≢ j → isOpen e i ≡ isOpen d i
   pub stamps : SameStamps d e
 
--- job j was closed: it was open and is not, a place is free, every other job is as before, and the cells' numbers stay
+-- job j was closed: it was open and is not now, a place is free, every other job is as before, and the cells' numbers stay
 pub record Closes (d e : Desk) (j : ℕ) : Type 0 where
   pub was : isOpen d j ≡ true
   pub shut : isOpen e j ≡ false

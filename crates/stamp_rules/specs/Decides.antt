@@ -1,4 +1,4 @@
--- What is promised of reads, writes, increments and u: each goes exactly when the request says, and else its job is sent back (02, No. 6).
+-- What is promised of reads, writes, increments and u: each goes exactly when the request says, and otherwise its job is sent back (02, No. 6).
 use Prim.Native.Nat.{ℕ, _<_, _≤_}
 use mathlib.Core.Path.{_≡_}
 use mathlib.Core.Logic.{_⊎_, _↔_}
@@ -18,7 +18,7 @@ readerThere k r = now k .reader (r .cell)
 abbrev pub writerThere : Course Desk → Request → ℕ
 writerThere k r = now k .writer (r .cell)
 
--- a request goes exactly where this holds, and its job is sent back exactly where that does
+-- a request goes exactly if the first holds, and its job is sent back exactly if the second does
 pub record GoesWhere (k : Course Desk) (r : Request) (this that : Type 0) : Type 0 where
   pub goes : (to k r .said ≡ Go (r .job)) ↔ this
   pub goes-back : (to k r .said ≡ Back (r .job)) ↔ that
@@ -32,7 +32,7 @@ pub record Decides (k : Course Desk) (r : Request) : Type 0 where
   pub increments : Asking (now k) r Increment → GoesWhere k r ((readerThere k r ≤ r .job) × (writerThere k r ≤ r .job)) ((r .job < readerThere k r) ⊎ (r .job < writerThere k r))
   -- go or back, and nothing else
   pub one-of-two : (a : Ask) → Asking (now k) r a → (to k r .said ≡ Go (r .job)) ⊎ (to k r .said ≡ Back (r .job))
-  -- what a go leaves: the larger number read, the job wrote, an increment did both; jobs and their numbers stay
+  -- what a go leaves: a read leaves the larger number as reader, a write leaves the job as writer, an increment does both; jobs and their numbers stay
   pub read-leaves : Asking (now k) r Read → to k r .said ≡ Go (r .job) → ReadBy (now k) (to k r .desk) (r .job) (r .cell) × (to k r .desk .writer ≡ now k .writer)
   pub update-leaves : Asking (now k) r Update → to k r .said ≡ Go (r .job) → ReadBy (now k) (to k r .desk) (r .job) (r .cell) × (to k r .desk .writer ≡ now k .writer)
   pub write-leaves : Asking (now k) r Write → to k r .said ≡ Go (r .job) → WrittenBy (now k) (to k r .desk) (r .job) (r .cell) × (to k r .desk .reader ≡ now k .reader)

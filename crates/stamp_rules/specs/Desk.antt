@@ -7,7 +7,7 @@ use lib.ListN.{replicate}
 use Rattle.laws.specs.Lists.{member}
 use Rattle.terms.specs.Limits.{places}
 
--- the desk: the next number, the 32 places with the job in each (0 where free), and of each cell its reader number and its writer number
+-- the desk: the next number, the 32 places with the job in each (0 if free), and each cell's reader number and writer number
 pub record Desk : Type 0 where
   pub next : ℕ
   pub jobs : List ℕ
@@ -18,6 +18,6 @@ pub record Desk : Type 0 where
 unfoldable pub freshDesk : ℕ → Desk
 freshDesk n = record { next = n; jobs = replicate places 0; reader = λ c. 0; writer = λ c. 0 }
 
--- a job is open where it has a place; 0 never is (01, refusal 3). There is nothing else that it could be: nobody waits, and sent back is closed (02, No. 6)
+-- a job is open if it has a place; 0 never is (01, refusal 3). A job has no other state: no job waits, and a sent back job is closed (02, No. 6)
 unfoldable pub isOpen : Desk → ℕ → Bool
 isOpen d j = not (eqb j 0) && member j (d .jobs)

@@ -1,4 +1,4 @@
--- What it is for a desk that runs to be the request's desk, kept in another way.
+-- What it means that a desk that runs is the request's desk, kept in another way.
 use Prim.Native.Nat.{ℕ}
 use Rattle.desks.specs.Stepping.{Stepping}
 use Rattle.desks.specs.Follows.{Follows}

@@ -1,4 +1,4 @@
--- The request's rules as a relation: one move to a rule, with what the rule tests and what it leaves written out (02, No. 6; 01, Refusals by number).
+-- The request's rules as a relation: one move for each rule, with what the rule tests and what it leaves written out (02, No. 6; 01, Refusals by number).
 use Prim.Native.Nat.{ℕ, suc, _≤_}
 use mathlib.Core.Path.{_≡_}
 use mathlib.Core.Logic.{_⊎_}
@@ -21,11 +21,11 @@ use Rattle.stamp_rules.specs.Rules.{Outcome, late, done}
 use Rattle.stamp_rules.specs.Table.{Due}
 use Rattle.stamp_rules.specs.Asked.{Asking}
 
--- this desk and this answer, and nobody is woken
+-- this desk and this answer, and no job is woken
 abbrev pub telling : Desk → Answer → Outcome
 telling e said = record { desk = e; said = said; wakes = [] }
 
--- the desk with these places, and the next number that comes with them; the cells' numbers stay
+-- the desk with these places and this next number; the cells' numbers stay
 abbrev pub placed : Desk → ℕ → List ℕ → Desk
 placed d next jobs = record { next = next; jobs = jobs; reader = d .reader; writer = d .writer }
 
@@ -46,7 +46,7 @@ pub data Moved (d : Desk) (r : Request) : Outcome → Type 0 where
       Moved d r (telling (placed d (suc (d .next)) (seated (d .next) (d .jobs))) (Go (d .next)))
   -- commit and give-up close the job
   closes : EndAsked r → isOpen d (r .job) ≡ true → Moved d r (telling (without d (r .job)) (Go (r .job)))
-  -- who asks for a cell and is not late goes
+  -- a job that asks for a cell and is not late goes
   goes : (a : Ask) → Asking d r a → late d (r .job) (r .cell) a ≡ false → Moved d r (telling (done d (r .job) (r .cell) a) (Go (r .job)))
-  -- who is late is sent back, which closes the job; the cells' numbers stay
+  -- a job that is late is sent back, which closes it; the cells' numbers stay
   goes-back : (a : Ask) → Asking d r a → late d (r .job) (r .cell) a ≡ true → Moved d r (telling (without d (r .job)) (Back (r .job)))

@@ -1,5 +1,5 @@
--- EVERY PROMISE OF A TIMESTAMP DESK, said once: of the request's desk, and of each desk that runs, by what it shows from now on and the history that it has written (02, No. 6).
--- Demand 3 is not among them, and no more is said of dirty reads: such a history may be dirty.
+-- EVERY PROMISE OF A TIMESTAMP DESK, said once: for the request's desk and for each desk that runs, by what it shows from now on and the history that it has written (02, No. 6).
+-- Demand 3 is not among them, nor is a clean history: such a history may be dirty.
 use Rattle.conflict.specs.History.{History}
 use Rattle.desks.specs.Request.{Request}
 use Rattle.desks.specs.Course.{Course, now}
@@ -25,7 +25,7 @@ pub record Promises (h : History) (k : Course Desk) : Type 0 where
   pub effects : Effects k
   -- what the history records of a step
   pub recorded : (r : Request) → Recorded k r
-  -- nobody waits, nobody is woken, no 4, 5 or 8
+  -- no job waits, no job is woken, no 4, 5 or 8
   pub quiet : (r : Request) → Quiet k r
   -- the cells' two numbers are what the history says
   pub stamped : Stamped h k

@@ -1,4 +1,4 @@
--- When a read, write, increment or u is sent back, what it leaves where it goes, and how a job is closed (02, No. 6).
+-- When a read, write, increment or u is sent back, what it leaves if it goes, and how a job is closed (02, No. 6).
 use Prim.Native.Nat.{ℕ, suc}
 use mathlib.Core.Bool.{Bool, _||_}
 use mathlib.Core.List.{[]}
@@ -52,7 +52,7 @@ done d j c Update = hasRead d j c
 unfoldable pub close : Desk → ℕ → Answer → Outcome
 close d j said = record { desk = record { next = d .next; jobs = vacated j (d .jobs); reader = d .reader; writer = d .writer }; said = said; wakes = [] }
 
--- read, write, increment or u of an open job: sent back, which closes it, where it is late, and else go (02, No. 6)
+-- read, write, increment or u of an open job: sent back if it is late, which closes the job; otherwise go (02, No. 6)
 unfoldable pub ask : Desk → ℕ → ℕ → Ask → Outcome
 ask d j c a = pick (late d j c a) (close d j (Back j)) (record { desk = done d j c a; said = Go j; wakes = [] })
 

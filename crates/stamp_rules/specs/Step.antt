@@ -21,7 +21,7 @@ use Rattle.stamp_rules.specs.Rules.{Outcome, close, ask, begin}
 unfoldable pub stepBegin : Desk → Outcome
 stepBegin d = beginning d (d .next) (d .jobs) (begin d)
 
--- commit and give-up close the job: 3 where it is not open (01, Jobs and their numbers)
+-- commit and give-up close the job: 3 if it is not open (01, Jobs and their numbers)
 unfoldable pub stepClose : Desk → ℕ → Outcome
 stepClose d j = pick (isOpen d j) (close d j (Go j)) (refused d NotOpen)
 
@@ -33,7 +33,7 @@ stepRetry d j = pick (isOpen d j) (refused d NoRetry) (refused d NotOpen)
 unfoldable pub stepAsk : Desk → ℕ → ℕ → Ask → Outcome
 stepAsk d j c a = pick (isOpen d j) (pick (ltb c cells) (ask d j c a) (refused d CellAbove)) (refused d NotOpen)
 
--- a request by its letter; k is no request, nor is any other byte: 1
+-- a request by its letter; 1 for k and for any other byte, which are not requests
 unfoldable pub stepBy : Desk → Request → Lettered → Outcome
 stepBy d r Unknown = refused d UnknownKind
 stepBy d r (Known Back) = refused d UnknownKind

@@ -1,4 +1,4 @@
--- The refusals of the timestamp desk row by row, then the order in which the rows are tested. Nothing here speaks of the step (02, No. 6; 01, Refusals by number).
+-- The refusals of the timestamp desk row by row, then the order in which the rows are tested. The step is not mentioned here (02, No. 6; 01, Refusals by number).
 use Prim.Native.Nat.{ℕ}
 use mathlib.Core.Path.{_≡_}
 use mathlib.Core.Bool.{Bool, false, not}
@@ -14,7 +14,7 @@ use Rattle.desks.specs.Request.{Request}
 use Rattle.desks.specs.Table.{isBegin, isRetry, letterIs, otherKind, cellAbove, allOpen, noNumberLeft, namedBy}
 use Rattle.stamp_rules.specs.Desk.{Desk, isOpen}
 
--- the table: when the row of each refusal holds, by the letter, whether the job is open, the cell and the desk. 4, 5 and 8 never occur here; 19 is retry (02, No. 6). The rows from 9 to 18 are not a step's
+-- the table: when the row of each refusal holds, by the letter, whether the job is open, the cell and the desk. 4, 5 and 8 never occur here; 19 is retry (02, No. 6). The rows from 9 to 18 do not belong to a step
 unfoldable pub holds : Lettered → Bool → ℕ → Desk → Refusal → Bool
 holds l open′ c d UnknownKind = otherKind l
 holds l open′ c d CellAbove = cellAbove l c
@@ -35,11 +35,11 @@ holds l open′ c d TooLong = false
 holds l open′ c d ShortList = false
 holds l open′ c d NoRetry = letterIs isRetry l
 
--- the order of the tests: 1 first; begin tests 7, then 6; all others 3 first, then 19 for retry, then 2 (02, No. 6)
+-- the order of the tests: 1 first; begin tests 7, then 6; all other kinds test 3 first, then 19 for retry, then 2 (02, No. 6)
 unfoldable pub order : Lettered → List Refusal
 order l = UnknownKind ∷ pick (letterIs isBegin l) (NoNumberLeft ∷ AllOpen ∷ []) (NotOpen ∷ NoRetry ∷ CellAbove ∷ [])
 
--- what the table says of a request by its letter, whether its job is open, and its cell
+-- what the table says of a request, given its letter, whether its job is open, and its cell
 unfoldable pub dueBy : Desk → Lettered → Bool → ℕ → Option Refusal
 dueBy d l open′ c = firstOf (holds l open′ c d) (order l)
 
