@@ -1,4 +1,4 @@
--- A front keeps the method and the view that it was started with, whatever it has seen: so it is of one program.
+-- A front keeps the method and the view that it was started with, whatever it has seen: so it belongs to one program.
 -- Assumes nothing.
 use Prim.Native.Nat.{ℕ}
 use mathlib.Core.Path.{_≡_, ap, _∙_}
@@ -24,7 +24,7 @@ use Rattle.desk_io.specs.Serving.{programBy, startedFront, Saw}
 method-kept : (m : Method) (text : List ℕ) → clerkAfter (startedClerk m) text .desks .method ≡ m
 method-kept m text = ap (λ (d : Desks). d .method) (clerk-desk m text) ∙ started-method (run-started (at-start firstNumber (omega arith) (omega arith)) 1 (linesOf text))
 
--- so the program that a front is of is the one that it was started for
+-- so the program of a front is the one that it was started for
 pub program-kept : {m : Method} {view : View} {f : Front} {p : Program} → Saw (startedFront m view) f → p ≡ programBy (f .clerk .desks .method) (f .view) → p ≡ programBy m view
 program-kept {m} {view} s e = e ∙ ap (λ (x : Front). programBy (x .clerk .desks .method) (x .view)) (s .front) ∙ ap (λ k. programBy k view) (method-kept m (s .text))
 

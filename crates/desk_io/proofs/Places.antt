@@ -1,4 +1,4 @@
--- Where a call of the work comes to, and where a chunk and a text do, call after call and chunk after chunk.
+-- Where a call of the work ends, and where a chunk and a text end, call after call and chunk after chunk.
 -- Assumes nothing.
 use Prim.Native.Nat.{ℕ, _+_, _-_, _≤_, _<_}
 use mathlib.Core.Path.{_≡_, refl, sym, ap, _∙_}
@@ -24,11 +24,11 @@ use Rattle.desk_io.specs.Serving.{frontAfter, Turned, HandsOn, Serves, S
 front-append : (f : Front) (a b : List ℕ) → frontAfter f (a ++ b) ≡ frontAfter (frontAfter f a) b
 front-append f a b i = record { view = f .view; clerk = clerk-append (f .clerk) a b i }
 
--- of no bytes it is as it was
+-- after no bytes the front is as it was
 pub front-none : (f : Front) → frontAfter f [] ≡ f
 front-none f i = record { view = f .view; clerk = clerk-none (f .clerk) i }
 
--- a call from the buffer's first byte on, with room for a line and a byte to work on
+-- a call from the buffer's first byte, with room for a line and at least one byte to work on
 pub call-turned : (f : Front) (chunk : List ℕ) (from : ℕ) (out : List ℕ) {w : Worked} {after : List ℕ} → from < length chunk → lineRoom ≤ length out →
     w ≡ workOf (f .view) (f .clerk) chunk from out 0 .worked → after ≡ workOf (f .view) (f .clerk) chunk from out 0 .out →
     Turned f chunk from (record { front = record { view = f .view; clerk = w .clerk }; next = w .next; at = w .at }) after
@@ -40,7 +40,7 @@ call-turned f chunk from out {w} {after} h l e g =
     (λ n. let u = call-used (f .view) (f .clerk) chunk from out 0 n in omega arith) in
     rw (e, g) (record { ahead = on; within = d .within; front = λ i. record { view = f .view; clerk = d .clerk i }; records = d .text })
 
--- what stands before the place told is what is to be written out
+-- the bytes before the place told are what is to be written out
 pub handed-on : (c : Called) (out : List ℕ) {bytes : List ℕ} → bytes ≡ take (c .at) out → HandsOn c out bytes
 handed-on c out e f chunk from t = e ∙ t .records
 
@@ -54,7 +54,7 @@ seen-more f {chunk = chunk} {from = from} {c = c} e t =
     let h = t .ahead in
     t .front ∙ ap (λ (x : Front). frontAfter x (part chunk from (c .next))) e ∙ sym (front-append f (take from chunk) (part chunk from (c .next))) ∙ ap (frontAfter f) (up-to chunk from (c .next) (omega arith))
 
--- output that is not taken ends the work there
+-- if output is not taken, the work ends there
 pub serves-some : {f k : Front} {chunk : List ℕ} {from : ℕ} → k ≡ frontAfter f (take from chunk) → Serves f chunk (record { front = k; seen = from; taken = false })
 serves-some e = record { some = e; all = λ t. not-both t refl }
 
@@ -66,15 +66,15 @@ serves-all {f} {chunk = chunk} {from} e h = record { some = e; all = λ t. e ∙
 saw-on : {first f k : Front} (s : Saw first f) (bytes : List ℕ) → k ≡ frontAfter f bytes → Saw first k
 saw-on {first} s bytes e = record { text = s .text ++ bytes; front = e ∙ ap (λ (x : Front). frontAfter x bytes) (s .front) ∙ sym (front-append first (s .text) bytes) }
 
--- at first it has seen nothing
+-- at first the front has seen nothing
 pub saw-none : {f : Front} → Saw f f
 saw-none {f} = record { text = []; front = sym (front-none f) }
 
--- by whatever name the first one goes
+-- the same, if the first front goes by another name
 pub saw-since : {a b f : Front} → a ≡ b → Saw a f → Saw b f
 saw-since e s = record { text = s .text; front = s .front ∙ ap (λ (x : Front). frontAfter x (s .text)) e }
 
--- after a chunk it has seen that too, all of it or as far as output was taken
+-- after a chunk it has seen that chunk too, all of it or as far as output was taken
 pub saw-chunk : {first f : Front} {chunk : List ℕ} {s : Served} → Saw first f → Serves f chunk s → not (s .taken) ≡ false → Saw first (s .front)
 saw-chunk {chunk = chunk} {s} w t e = by-test (s .taken) (λ y. saw-on w chunk (t .all y)) (λ n. not-both (ap not n) e)
 

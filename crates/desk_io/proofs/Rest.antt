@@ -1,4 +1,4 @@
--- What stands in the buffer to be written out last, by why no more is read.
+-- What the buffer holds to be written out last, by why no more is read.
 -- Assumes nothing.
 use Prim.Native.Nat.{ℕ, _≤_}
 use mathlib.Core.Path.{_≡_, refl, sym, ap, ap₂, _∙_, subst}
@@ -21,7 +21,7 @@ use Rattle.desk_io.specs.declared.Halt.{Halt}
 use Rattle.desk_io.specs.declared.Halt.the-variants.{Ended, NotRead, AllRead, NotTaken}
 use Rattle.desk_io.specs.Serving.{MakesAll, MakesUnread, Makes, Over, Rests}
 
--- the record of a last line, and behind it what is written last, are the end of the input
+-- the record of a last line, and then what is written last, are the end of the input
 pub end-is : (view : View) (c : Clerk) (out : List ℕ) {f g : Finished} {mid after : List ℕ} → f ≡ finishOf view c out 0 .finished → mid ≡ finishOf view c out 0 .out →
     g ≡ closeOf view c mid (f .at) .finished → after ≡ closeOf view c mid (f .at) .out → (g .at ≡ endOf view c out 0 .finished .at) × (after ≡ endOf view c out 0 .out)
 end-is view c out {f} {g} {mid} {after} e m k a =
@@ -34,7 +34,7 @@ room-at-most Answers = omega arith
 room-at-most History = omega arith
 room-at-most Chains = omega arith
 
--- what a program needs at its end it has
+-- there is room for what a program needs at its end
 closing-fits : (view : View) → closingRoom view ≤ programRoom view
 closing-fits Answers = omega arith
 closing-fits History = omega arith
@@ -50,7 +50,7 @@ by-why {h} {at = at} {out} e w r =
 
 module _ (h : Halted) (out : List ℕ) (room : programRoom (h .front .view) ≤ length out) where
   module _ {at : ℕ} {after : List ℕ} (e : at ≡ endOf (h .front .view) (h .front .clerk) out 0 .finished .at) (f : after ≡ endOf (h .front .view) (h .front .clerk) out 0 .out) where
-    -- what the end of the input puts into the buffer makes it all
+    -- what the end of the input puts into the buffer completes the output
     makes-all : (m : Method) (text : List ℕ) → h .front .clerk ≡ clerkAfter (startedClerk m) text → MakesAll m (h .front .view) text (take at after)
     makes-all m text k = rw (e, f) (ended-all m (h .front .view) (h .front .clerk) text k out room)
 
@@ -58,7 +58,7 @@ module _ (h : Halted) (out : List ℕ) (room : programRoom (h .front .view) ≤ 
     ends-there : at ≤ length after
     ends-there = rw (e, f) (ends-within (h .front .view) (h .front .clerk) out 0 (omega arith))
 
-    -- the input has ended
+    -- the case that the input has ended
     pub rests-ended : h .why ≡ Ended → Rests h at after
     rests-ended w = by-why w ends-there makes-all
 
@@ -66,22 +66,22 @@ module _ (h : Halted) (out : List ℕ) (room : programRoom (h .front .view) ≤ 
     pub rests-answers : h .why ≡ NotRead → h .front .view ≡ Answers → Rests h at after
     rests-answers w v = by-why w ends-there (λ m text k. subst (λ x. MakesAll m x text (take at after) → MakesUnread m x text (take at after)) (sym v) (λ y. y) (makes-all m text k))
 
-    -- or the history is
+    -- a read failed, and the history is written
     pub rests-history : h .why ≡ NotRead → h .front .view ≡ History → Rests h at after
     rests-history w v = by-why w ends-there (λ m text k. subst (λ x. MakesAll m x text (take at after) → MakesUnread m x text (take at after)) (sym v) (λ y. y) (makes-all m text k))
 
-  -- every line has been read
+  -- the case that every line has been read
   pub rests-read : {at : ℕ} {after : List ℕ} → at ≡ closeOf (h .front .view) (h .front .clerk) out 0 .finished .at → after ≡ closeOf (h .front .view) (h .front .clerk) out 0 .out → Over (h .why) (h .front .clerk .splitter) → h .why ≡ AllRead → Rests h at after
   rests-read e f s w =
       let r = closing-fits (h .front .view) in
       by-why w (rw (e, f) (close-within (h .front .view) (h .front .clerk) out 0 (omega arith)))
       (λ m text k more. rw (e, f) (closed-all m (h .front .view) (h .front .clerk) text k out (omega arith) (subst (λ y. Over y (h .front .clerk .splitter)) w s) more))
 
--- nothing is written after a write that failed
+-- after a write that failed nothing more is written
 pub rests-untaken : {h : Halted} {out : List ℕ} → h .why ≡ NotTaken → Rests h 0 out
 rests-untaken w = by-why w (omega arith) (λ m text k. refl)
 
--- nor are chains after a read that failed
+-- after a read that failed no chains are written
 pub rests-chains : {h : Halted} {out : List ℕ} → h .why ≡ NotRead → h .front .view ≡ Chains → Rests h 0 out
 rests-chains w v = by-why w (omega arith) (λ m text k. subst (λ x. MakesUnread m x text []) (sym v) refl)
 

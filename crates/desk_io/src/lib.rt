@@ -1,4 +1,4 @@
-// The front of the desk programs: chunk after chunk of standard input to the clerk, and the records, or at the end the chains, to standard output (01, What is delivered; 02, Nos. 3 and 6).
+// The front of the desk programs: it passes standard input to the clerk chunk by chunk, and writes the records, or at the end the chains, to standard output (01, What is delivered; 02, Nos. 3 and 6).
 use clerk::chains::close;
 use clerk::work::finish;
 use clerk::work::work;
@@ -17,13 +17,13 @@ ghost use Rattle.program_rules.specs.Closing.{programRoom, closeOf, endOf};
 ghost use Rattle.desk_io.specs.declared.Halt.the-variants.{NotRead};
 ghost use Rattle.desk_io.specs.Serving.{startedFront, programBy, Turned, HandsOn, Serves, Over, Halts, Rests, HandsOnLast};
 
-// Which desk program it is: the method by which it answers, and the view that it writes.
+// Which desk program it is: the method that answers, and the view that it writes.
 pub struct Program {
     pub method: Method,
     pub view: View,
 }
 
-// What a program keeps from one read to the next: the view that it writes, and the clerk, who keeps the method.
+// What a program keeps from one read to the next: the view that it writes, and the clerk, which keeps the method.
 struct Front {
     view: View,
     clerk: Clerk,
@@ -36,14 +36,14 @@ struct Called {
     at: usize,
 }
 
-// The front after so many bytes of a chunk, and whether all output was taken.
+// The front after some bytes of a chunk, how many they are, and whether all output was taken.
 struct Served {
     front: Front,
     seen: usize,
     taken: bool,
 }
 
-// Why no more is read: the input ended or could not be read, every line that is to be read has been, or output was not taken.
+// Why no more is read: the input ended or could not be read, every line to be read has been read, or output was not taken.
 enum Halt {
     Ended,
     NotRead,
@@ -51,7 +51,7 @@ enum Halt {
     NotTaken,
 }
 
-// The front after all that was read, and why that was all.
+// The front after all that was read, and why reading stopped.
 struct Halted {
     front: Front,
     why: Halt,
@@ -65,7 +65,7 @@ fn started(method: Method, view: View) -> Front
     Front { view, clerk }
 }
 
-// Which program a front is of.
+// The program that a front belongs to.
 fn program_of(front: Front) -> Program
     ensures { λ r. ⌜ r ≡ programBy (front .clerk .desks .method) (front .view) ⌝ }
 {
@@ -76,7 +76,7 @@ fn program_of(front: Front) -> Program
     Program { method, view }
 }
 
-// Whether every line that is to be read has been read, so that no byte to come has an answer.
+// Whether every line to be read has been read, so that no further byte has an answer.
 fn is_over(s: Splitter) -> bool
     ensures { λ r. ⌜ r ≡ allRead s ⌝ }
 {
@@ -86,7 +86,7 @@ fn is_over(s: Splitter) -> bool
     REQUEST_LINES < s.line
 }
 
-// One call of the work, from a place of a chunk on: its records stand in the buffer, to be written out.
+// One call of the work, from a place of a chunk: its records are left in the buffer, to be written out.
 fn serve_some(front: Front, chunk: &[u8], from: usize, out: &mut [u8]) -> Called
     requires { ⌜ (from < length (now chunk)) × (lineRoom ≤ length (now out)) ⌝ }
     ensures { λ r. ⌜ Turned front (now (chunk .entry)) from r (now (out .exit)) ⌝ }
@@ -100,7 +100,7 @@ fn serve_some(front: Front, chunk: &[u8], from: usize, out: &mut [u8]) -> Called
     Called { front, next, at }
 }
 
-// What is to be written out after a call of the work, as the part of the buffer that holds it: the records of the lines that end in what the call has seen.
+// The part of the buffer to be written out after a call of the work: the records of the lines that end in what the call has seen.
 fn to_write<'a>(called: Called, out: &'a [u8]) -> &'a [u8]
     requires { ⌜ called .at ≤ length (now out) ⌝ }
     ensures bytes { λ r. ⌜ now r ≡ take (called .at) (now (out .entry)) ⌝ }
@@ -110,7 +110,7 @@ fn to_write<'a>(called: Called, out: &'a [u8]) -> &'a [u8]
     &out[0..at]
 }
 
-// A chunk: the records of every line that ends in it are written out before the next read. Output that is not taken ends the work.
+// A chunk: the records of every line that ends in it are written out before the next read. If output is not taken, the work ends.
 fn serve_chunk(before: Front, chunk: &[u8], out: &mut [u8]) -> Served
     requires { ⌜ lineRoom ≤ length (now out) ⌝ }
     ensures { λ r. ⌜ Serves before (now (chunk .entry)) r ⌝ }
@@ -136,7 +136,7 @@ fn serve_chunk(before: Front, chunk: &[u8], out: &mut [u8]) -> Served
     }
 }
 
-// Reads chunk after chunk. Nothing says that input ends, so the loop counts down from a number of turns that no run uses up.
+// Reads chunk after chunk. No contract says that input ends, so the loop counts down from a number of turns that no run uses up.
 fn serve_all(method: Method, view: View, input: &mut [u8], out: &mut [u8]) -> Halted
     requires { ⌜ lineRoom ≤ length (now out) ⌝ }
     ensures { λ r. ⌜ Halts method view r ⌝ }
@@ -207,7 +207,7 @@ fn say_untaken(method: Method, view: View) {
     }
 }
 
-// Says on standard error why no more is read, where something failed.
+// Says on standard error why no more is read, if something failed.
 fn say_halt(method: Method, view: View, why: Halt) {
     match why {
         Halt::Ended => {}
@@ -217,7 +217,7 @@ fn say_halt(method: Method, view: View, why: Halt) {
     }
 }
 
-// The input has ended: the record of a last line that lacks its newline, and behind it what the program writes last, from the buffer's first byte on.
+// The input has ended: the record of a last line that lacks its newline, and after it what the program writes last, from the buffer's first byte.
 fn put_ended(front: Front, out: &mut [u8]) -> usize
     ensures { λ r. ⌜ (r ≡ endOf (front .view) (front .clerk) (now (out .entry)) 0 .finished .at) × (now (out .exit) ≡ endOf (front .view) (front .clerk) (now (out .entry)) 0 .out) ⌝ }
 {
@@ -228,7 +228,7 @@ fn put_ended(front: Front, out: &mut [u8]) -> usize
     closed.at
 }
 
-// Every line has been read: what the program writes last, from the buffer's first byte on.
+// Every line has been read: what the program writes last, from the buffer's first byte.
 fn put_closed(front: Front, out: &mut [u8]) -> usize
     ensures { λ r. ⌜ (r ≡ closeOf (front .view) (front .clerk) (now (out .entry)) 0 .finished .at) × (now (out .exit) ≡ closeOf (front .view) (front .clerk) (now (out .entry)) 0 .out) ⌝ }
 {
@@ -237,7 +237,7 @@ fn put_closed(front: Front, out: &mut [u8]) -> usize
     closed.at
 }
 
-// A read failed: answers and history end as they do at the end of the input, and no chain is told of half a text.
+// A read failed: answers and history end as at the end of the input, and no chain is told for half a text.
 fn put_unread(front: Front, out: &mut [u8]) -> usize
     requires { ⌜ programRoom (front .view) ≤ length (now out) ⌝ }
     ensures { λ r. ⌜ Rests (record { front = front; why = NotRead }) r (now (out .exit)) ⌝ }
@@ -250,7 +250,7 @@ fn put_unread(front: Front, out: &mut [u8]) -> usize
     }
 }
 
-// What is still to be written once no more is read, from the buffer's first byte on.
+// What is still to be written once no more is read, from the buffer's first byte.
 fn put_rest(halted: Halted, out: &mut [u8]) -> usize
     requires { ⌜ (programRoom (halted .front .view) ≤ length (now out)) × (Over (halted .why) (halted .front .clerk .splitter)) ⌝ }
     ensures { λ r. ⌜ Rests halted r (now (out .exit)) ⌝ }
@@ -265,7 +265,7 @@ fn put_rest(halted: Halted, out: &mut [u8]) -> usize
     }
 }
 
-// What is to be written last, as the part of the buffer that holds it.
+// The part of the buffer to be written last.
 fn to_write_last<'a>(halted: Halted, out: &'a mut [u8]) -> &'a [u8]
     requires { ⌜ (programRoom (halted .front .view) ≤ length (now out)) × (Over (halted .why) (halted .front .clerk .splitter)) ⌝ }
     ensures { λ r. ⌜ HandsOnLast halted (now r) ⌝ }
@@ -275,7 +275,7 @@ fn to_write_last<'a>(halted: Halted, out: &'a mut [u8]) -> &'a [u8]
     &all[0..at]
 }
 
-// All of the input, and what is to be written and said at its end; told is which program was run.
+// Handles all of the input, and what is written and said at its end; returns which program was run.
 fn serve_input(method: Method, view: View, input: &mut [u8], out: &mut [u8]) -> Program
     requires { ⌜ programRoom view ≤ length (now out) ⌝ }
     ensures { λ r. ⌜ r ≡ programBy method view ⌝ }
@@ -289,8 +289,8 @@ fn serve_input(method: Method, view: View, input: &mut [u8], out: &mut [u8]) -> 
     program_of(halted.front)
 }
 
-// Serves standard input to its end, to the end of line 1,000,000, or to the first output that is not taken; what cannot be read or written is said on standard error.
-// Told is which program was run, so that no other method or view is handed on.
+// Serves standard input to its end, to the end of line 1,000,000, or to the first output that is not taken; says on standard error what cannot be read or written.
+// Returns which program was run, so that no other method or view is passed on.
 pub fn serve(method: Method, view: View) -> Program
     ensures { λ r. ⌜ r ≡ programBy method view ⌝ }
 {

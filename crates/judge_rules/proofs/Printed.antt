@@ -110,7 +110,7 @@ module _ (text : List ℕ) (short : length text ≤ 65_536) where
               ∙ orderly-bytes (o .order),
         )
 
-    -- A KNOT: for any other faultless text it prints knot and each job of its cycle
+    -- A KNOT: for a faultless text that is not dirty and whose committed part is not conflict-serializable it prints knot and each job of its cycle, a tab before each
     pub printed-knot : (ConflictSerializable (committedPart says) → ⊥) → (IsDirty says → ⊥) →
         (knot : List ℕ) × (taken : List ℕ) × (remain : List ℕ) × Takes (edge (committedPart says)) (jobsOf says) taken remain × Shown (edge (committedPart says)) remain knot
         × (verdictOf text ≡ 107 ∷ 110 ∷ 111 ∷ 116 ∷ joined (map (λ j. 9 ∷ decimal j) knot) ++ 10 ∷ [])

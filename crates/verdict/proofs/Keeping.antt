@@ -1,4 +1,4 @@
--- What is kept of chunks that come one after the other: a chunk kept byte by byte, and behind what was kept before it; and the line on all of them.
+-- What is kept of chunks that come one after the other: a chunk is kept byte by byte, after what was kept before; and the line on all of them.
 -- Assumes nothing.
 use Prim.Native.Nat.{ℕ, _+_, _-_, _≤_, _<_, min}
 use mathlib.Core.Path.{_≡_, refl, sym, ap, ap₂, _∙_}
@@ -16,7 +16,7 @@ use Rattle.judge_rules.specs.VerdictLine.{verdictOf}
 use Rattle.judge_line.proofs.LongTexts.{first-bytes}
 use Rattle.verdict.specs.Taking.{fitting, kept, Took, Judges}
 
--- one byte more of the chunk
+-- one more byte of the chunk
 pub paste-more : (text : List ℕ) (before : ℕ) (chunk : List ℕ) (i len : ℕ) {now : List ℕ} → len < length text → i < length chunk → len ≡ before + i → now ≡ paste text before chunk i →
     set now len (getD chunk i 0) ≡ paste text before chunk (i + 1)
 paste-more text before chunk i len h k e f = rw (f, e, add-one i) (paste-suc text before chunk i 0 (omega arith) k)
@@ -65,7 +65,7 @@ pub took-within : {buffer after : List ℕ} {len : ℕ} → Took buffer after le
 unfolding fitting
 took-within t = let c = t .count in omega arith
 
--- a chunk more, where there was room left
+-- one more chunk, if there was room left
 pub took-more : {buffer text : List ℕ} {len : ℕ} → Took buffer text len → len < length text → (chunk : List ℕ) {after : List ℕ} {to : ℕ} → length text ≡ length buffer →
     to ≡ len + fitting text len chunk → after ≡ kept text len chunk → Took buffer after to
 unfolding fitting kept
@@ -83,7 +83,7 @@ took-more {buffer} {text} {len} t h chunk {after} {to} l e f =
       holds = f ∙ ap₂ (λ x m. paste x m chunk k) p n ∙ paste-on buffer (t .read) chunk k (omega arith) ∙ ap (paste buffer 0 (t .read ++ chunk)) q;
     }
 
--- the first bytes of what was read stand at the buffer's start
+-- the first bytes of what was read are at the buffer's start
 took-first : {buffer text : List ℕ} {len : ℕ} (t : Took buffer text len) → take len text ≡ take (length buffer) (t .read)
 unfolding fitting kept
 took-first {buffer} {text} {len} t =
@@ -97,7 +97,7 @@ took-first {buffer} {text} {len} t =
         (λ y. let l = leb-true (length (t .read)) (length buffer) y in take-all len (t .read) (omega arith) ∙ sym (take-all (length buffer) (t .read) l))
         (λ n. let l = leb-false (length (t .read)) (length buffer) n in let e : len ≡ length buffer = omega arith in ap (λ m. take m (t .read)) e)
 
--- the buffer that they were read into has as many bytes as what it then holds
+-- the buffer has as many bytes as before
 took-length : {buffer text : List ℕ} {len : ℕ} → Took buffer text len → length buffer ≡ length text
 unfolding fitting kept
 took-length {buffer} t = sym (ap length (t .holds) ∙ length-paste buffer 0 (t .read) (fitting buffer 0 (t .read)) (omega arith) (omega arith))

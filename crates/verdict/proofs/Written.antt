@@ -1,4 +1,4 @@
--- What the reporter tells and leaves where there is room for the longest line: the line stands before the place told, and none is refused.
+-- What the reporter tells and leaves if there is room for the longest line: the line stands before the place told, and none is refused.
 -- Assumes nothing.
 use Prim.Native.Nat.{ℕ, _≤_}
 use mathlib.Core.Path.{_≡_}

@@ -6,11 +6,11 @@ use lib.ListN.{length}
 use lib.Seq.{paste}
 use Rattle.judge_rules.specs.VerdictLine.{verdictOf}
 
--- how many bytes of a chunk there is room for in a buffer behind its first ones
+-- how many bytes of a chunk fit into a buffer after its first ones
 unfoldable pub fitting : List ℕ → ℕ → List ℕ → ℕ
 fitting text before chunk = min (length text - before) (length chunk)
 
--- a chunk kept behind the first bytes, as far as there is room for it; all other bytes stay
+-- a chunk kept after the first bytes, as far as there is room; all other bytes stay
 unfoldable pub kept : List ℕ → ℕ → List ℕ → List ℕ
 kept text before chunk = paste text before chunk (fitting text before chunk)
 
@@ -20,6 +20,6 @@ pub record Took (buffer after : List ℕ) (len : ℕ) : Type 0 where
   pub count : len ≡ fitting buffer 0 read
   pub holds : after ≡ kept buffer 0 read
 
--- what is to be written: whatever bytes were read into a buffer that now holds the text, these bytes are the verdict's line on all of them (01, The judge's rules). That they go to standard output no contract can say: the one call of `write_all` is left to the comparison of programs
+-- what is to be written: whatever bytes were read into a buffer that now holds the text, these bytes are the verdict's line on all of them (01, The judge's rules). No contract can say that they go to standard output: the one call of `write_all` is left to the comparison of programs
 abbrev pub Judges : List ℕ → ℕ → List ℕ → Type 0
 Judges text len bytes = (buffer : List ℕ) (t : Took buffer text len) → bytes ≡ verdictOf (t .read)

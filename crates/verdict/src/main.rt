@@ -11,16 +11,16 @@ ghost use Rattle.terms.specs.Limits.{judgedBytes};
 ghost use Rattle.judge_rules.specs.VerdictLine.{verdictOf, lineLimit};
 ghost use Rattle.verdict.specs.Taking.{fitting, kept, Took, Judges};
 
-// One byte more than a text may have is enough of a longer one.
+// As many bytes as are read: one more than a text may have shows that it is too long.
 const READ: usize = JUDGED_BYTES + 1;
 
-// How many bytes of the text were read, and whether the input came to its end or to a text that is too long: no read failed.
+// How many bytes of the text were read, and whether reading ended well: at the input's end or at a text that is too long, with no read failed.
 struct Taken {
     len: usize,
     whole: bool,
 }
 
-// The line on a text stands before the place that is told. There is room for the longest, so none is refused.
+// The line on a text, put before the place told. There is room for the longest, so none is refused.
 fn put_line(text: &[u8], out: &mut [u8]) -> usize
     requires { ⌜ lineLimit ≤ length (now out) ⌝ }
     ensures { λ r. ⌜ (r ≤ length (now (out .exit))) × (take r (now (out .exit)) ≡ verdictOf (now (text .entry))) ⌝ }
@@ -41,7 +41,7 @@ fn line_on<'a>(text: &[u8], out: &'a mut [u8]) -> &'a [u8]
     &all[0..next]
 }
 
-// A chunk's bytes kept behind those that are, as far as there is room for them, and how many there are then.
+// Keeps a chunk's bytes after those already kept, as far as there is room, and tells how many are kept then.
 fn keep(text: &mut [u8], before: usize, chunk: &[u8]) -> usize
     requires { ⌜ before ≤ length (now text) ⌝ }
     ensures { λ r. ⌜ (r ≡ before + fitting (now (text .entry)) before (now (chunk .entry))) × (now (text .exit) ≡ kept (now (text .entry)) before (now (chunk .entry))) ⌝ }
@@ -59,7 +59,7 @@ fn keep(text: &mut [u8], before: usize, chunk: &[u8]) -> usize
     len
 }
 
-// Reads until the input ends or the text's buffer is full. Nothing says that input ends, so the loop counts down from a number of turns that no run uses up.
+// Reads until the input ends or the text's buffer is full. No contract says that input ends, so the loop counts down from a number of turns that no run uses up.
 fn take_all(input: &mut [u8], text: &mut [u8]) -> Taken
     ensures { λ r. ⌜ Took (now (text .entry)) (now (text .exit)) (r .len) ⌝ }
 {
@@ -83,7 +83,7 @@ fn take_all(input: &mut [u8], text: &mut [u8]) -> Taken
     Taken { len, whole: false }
 }
 
-// What is to be written: the line on all that was read, as the part of the buffer that holds it.
+// The part of the buffer to be written: the line on all that was read.
 fn to_write<'a>(taken: Taken, text: &[u8], out: &'a mut [u8]) -> &'a [u8]
     requires { ⌜ (length (now text) ≡ judgedBytes + 1) × (taken .len ≤ length (now text)) × (lineLimit ≤ length (now out)) ⌝ }
     ensures { λ r. ⌜ Judges (now (text .entry)) (taken .len) (now r) ⌝ }
@@ -92,7 +92,7 @@ fn to_write<'a>(taken: Taken, text: &[u8], out: &'a mut [u8]) -> &'a [u8]
     line_on(&text[0..n], out)
 }
 
-// Writes out the line on what was read, and says on standard error what failed. Where a read fails there is no text to judge, and there is no line: no verdict on half a history.
+// Writes out the line on what was read, and says on standard error what failed. If a read fails there is no text to judge and no line: half a history gets no verdict.
 fn report(input: &mut [u8], text: &mut [u8], out: &mut [u8])
     requires { ⌜ (length (now text) ≡ judgedBytes + 1) × (lineLimit ≤ length (now out)) ⌝ }
 {

@@ -1,4 +1,4 @@
--- `desk_io::put_closed` meets its contract: what the program writes last, from the buffer's first byte on.
+-- `desk_io::put_closed` meets its contract: what the program writes last, from the buffer's first byte.
 -- Assumes nothing.
 use mathlib.Core.Path.{ap}
 use Rattle.program_rules.specs.declared.Finished.{Finished}

@@ -1,4 +1,4 @@
--- `desk_io::put_ended` meets its contract: the record of a last line, and what is written last behind it.
+-- `desk_io::put_ended` meets its contract: the record of a last line, and then what is written last.
 -- Assumes nothing.
 use borrow.Author.Needs.{needs}
 use Rattle.desk_io.proofs.Rest.{end-is}

@@ -1,4 +1,4 @@
--- `desk_io::serve` meets its contract: a buffer of 65,536 bytes has room enough for every program.
+-- `desk_io::serve` meets its contract: a buffer of 65,536 bytes has enough room for every program.
 -- Assumes nothing.
 use native.Mathlib.Omega.{arith}
 use Rattle.desk_io.proofs.Rest.{room-at-most}

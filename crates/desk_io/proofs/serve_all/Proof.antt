@@ -1,4 +1,4 @@
--- `desk_io::serve_all` meets its contract. The loop's invariant: the front has seen what was read so far, and both buffers keep their lengths. The measure is the number of turns that are left.
+-- `desk_io::serve_all` meets its contract. The loop's invariant: the front has seen what was read so far, and both buffers keep their lengths. The measure is the number of turns left.
 -- Assumes nothing.
 use mathlib.Core.Path.{_≡_, sym, _∙_}
 use native.Mathlib.Omega.{arith}

@@ -1,4 +1,4 @@
--- `desk_io::serve_input` meets its contract: the front at the end is still of the program that was asked for, and there is room for each line's records and for what is written last.
+-- `desk_io::serve_input` meets its contract: at the end the front still belongs to the program asked for, and there is room for each line's records and for what is written last.
 -- Assumes nothing.
 use native.Mathlib.Omega.{arith}
 use Rattle.program_rules.proofs.Closings.{line-room}

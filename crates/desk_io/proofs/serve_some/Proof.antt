@@ -1,4 +1,4 @@
--- `desk_io::serve_some` meets its contract: a call of the work from the buffer's first byte on.
+-- `desk_io::serve_some` meets its contract: a call of the work from the buffer's first byte.
 -- Assumes nothing.
 use native.Mathlib.Omega.{arith}
 use borrow.Author.Needs.{needs}

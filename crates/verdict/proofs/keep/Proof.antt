@@ -1,4 +1,4 @@
--- `verdict::keep` meets its contract. The loop's invariant: so many bytes of the chunk stand behind the first ones of the buffer. The measure is what is left of the chunk.
+-- `verdict::keep` meets its contract. The loop's invariant: this many bytes of the chunk stand after the first ones of the buffer. The measure is what is left of the chunk.
 -- Assumes nothing.
 use Prim.Native.Nat.{_+_, _-_, _≤_}
 use mathlib.Core.Path.{_≡_, refl}
