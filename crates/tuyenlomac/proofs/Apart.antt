@@ -1,4 +1,4 @@
--- The numbers that callers get tell the cases apart: answers of a desk, and what a line says; and the number of an answer's word is the one that the record writer takes for it.
+-- The numbers that callers get tell the cases apart: a desk's answers, and what a line says. The number of an answer's word is the one that the record writer takes for it.
 -- Assumes nothing.
 use Prim.Native.Nat.{ℕ}
 use mathlib.Core.Path.{_≡_, refl, sym, ap, _∙_}
@@ -39,7 +39,7 @@ at-word Orderly = refl
 at-word Knot = refl
 at-word Dirty = refl
 
--- EQUAL NUMBERS, EQUAL ANSWERS: of any two answers that tell no field at fault, as no desk's does, the numbers tell whether they are the same
+-- EQUAL NUMBERS, EQUAL ANSWERS: two answers that tell no field at fault, as no desk's does, are equal if their numbers are
 pub same-told : (a b : Answer) (n m : ℕ) → fieldBeside a ≡ fieldBeside b → inThree a n ≡ inThree b m → (a ≡ b) × (n ≡ m)
 unfolding inThree
 same-told a b n m f e =

@@ -40,7 +40,7 @@ pub refused-told : {w : Written} {n : ℕ} (why : Refusal) → w ≡ Refused why
 unfolding writtenNumbers
 refused-told why e h = rw (e, h)
 
--- a chain, and why there is none
+-- a chain, and the refusal of one
 pub jobs-told : {c : Chained} (n : ℕ) → c ≡ Jobs n → (0 ∷ n ∷ []) ≡ chainNumbers c
 unfolding chainNumbers
 jobs-told n e = rw e

@@ -1,4 +1,4 @@
--- EVERY PROMISE, THROUGH THE LIBRARY: after any list of calls on a started desk each has told, in numbers, what the step by value gives in its turn, so every promise of the desk's rules holds; what start leaves is a started desk, and from there on each call says what the paper's desk says (02, No. 7).
+-- EVERY PROMISE, THROUGH THE LIBRARY: after any list of calls on a started desk, each call has told, in numbers, what the step by value gives in its turn, so every promise of the desk's rules holds. What start leaves is a started desk, and from there on each call says what the paper's desk says (02, No. 7).
 -- Assumes nothing.
 use Prim.Native.Nat.{ℕ, _<_, _≤_}
 use mathlib.Core.Path.{_≡_, refl, sym, ap, subst, _∙_}
@@ -55,7 +55,7 @@ locks-calls lists = calls-for (λ k. k .desk) (λ d r. tellingLocks lists (locks
 pub stamps-calls : (d : Stamps) (rs : List Request) → (ks : List StampsCall) × Lent (λ k. k .desk) OnStamps d rs ks
 stamps-calls = calls-for (λ k. k .desk) (λ d r. tellingStamps (by-number.stepOf d (r .kind) (r .job) (r .cell))) (λ d r. record { desk = refl; answer = refl })
 
--- calls of which each tells what an entry of the lent desk gives are calls of that entry
+-- if each call tells what an entry of the lent desk gives, the calls are calls of that entry
 module _ {S O K : Type 0} {leaves : O → S} {entry : S → Request → O → Type 0} {left : K → S} {call : S → Request → K → Type 0} {tells : O → K → Type 0}
     (one : (d : S) (r : Request) (k : K) → call d r k → (o : O) × entry d r o × tells o k) (same : (o : O) (k : K) → tells o k → left k ≡ leaves o) where
   called-lent : {d : S} {rs : List Request} {ks : List K} → Lent left call d rs ks → (os : List O) × Lent leaves entry d rs os × Each tells os ks
@@ -65,7 +65,7 @@ module _ {S O K : Type 0} {leaves : O → S} {entry : S → Request → O → Ty
       let (os, l, ts) = called-lent more in
       (o ∷ os, next e (subst (λ x. Lent leaves entry x rs os) (same o k t) l), one-more t ts)
 
--- a call on a lock desk tells what the entry of the lent desk gives, and one on a timestamp desk likewise
+-- a call on a lock desk tells what the entry of the lent desk gives; so does one on a timestamp desk
 locks-one : (d : Desk) (r : Request) (k : LocksCall) → OnLocks d r k → (o : Outcome) × entries.OnLocks d r o × TellsLocks o k
 locks-one d r k s = (locks.stepOf d (r .kind) (r .job) (r .cell), refl, s)
 
@@ -79,7 +79,7 @@ locks-lent = called-lent locks-one (λ o k t. t .desk)
 stamps-lent : {d : Stamps} {rs : List Request} {ks : List StampsCall} → Lent (λ k. k .desk) OnStamps d rs ks → (os : List Stamped) × Lent (λ o. o .stamps) entries.OnStamps d rs os × Each TellsStamps os ks
 stamps-lent = called-lent stamps-one (λ o k t. t .desk)
 
--- the lock desk
+-- every promise of the lock desk, after any calls
 pub library-locks : {d : Desk} {h : History} {rs : List Request} {ks : List LocksCall} → arrays.Started d h → Lent (λ k. k .desk) OnLocks d rs ks →
     (os : List Outcome) × Each TellsLocks os ks × AsSteps arrays.onArrays d rs (map locksTold os) × by-locks.Promises (h ++ wroteBy rs (map locksTold os)) (arrays.running (leftBy d (map locksTold os)))
 library-locks s c =
@@ -87,7 +87,7 @@ library-locks s c =
     let p = lent-locks s l in
     (os, t, p .0, p .1)
 
--- the timestamp desk
+-- every promise of the timestamp desk, after any calls
 pub library-stamps : {d : Stamps} {h : History} {rs : List Request} {ks : List StampsCall} → stamps.Started d h → Lent (λ k. k .desk) OnStamps d rs ks →
     (os : List Stamped) × Each TellsStamps os ks × AsSteps stamps.onStamps d rs (map stampsTold os) × by-stamps.Promises (h ++ wroteBy rs (map stampsTold os)) (stamps.running (leftBy d (map stampsTold os)))
 library-stamps s c =
@@ -108,7 +108,7 @@ module _ {S T K : Type 0} {see : S → T} {does : Stepping S} {new : ℕ → S} 
       one-more (subst (λ o. says (o .said) (o .wakes) k) p t)
       (subst (λ x. Each (λ (o : Stepped T). says (o .said) (o .wakes)) (stepsOf theirs x rs) ks) (ap see e ∙ ap (λ o. o .desk) p) further)
 
--- a call on a lock desk says what the step of the arrays says, and one on a timestamp desk likewise
+-- a call on a lock desk says what the step of the arrays says; so does one on a timestamp desk
 locks-says : (d : Desk) (r : Request) (k : LocksCall) → OnLocks d r k → (k .desk ≡ arrays.onArrays d r .desk) × SaysLocks (arrays.onArrays d r .said) (arrays.onArrays d r .wakes) k
 locks-says d r k t =
     (t .desk, record { answer = t .answer ∙ ap (inThree (locks.stepOf d (r .kind) (r .job) (r .cell) .said .answer)) (count-told d (r .kind) (r .job) (r .cell)); wakes = t .wakes })
@@ -120,21 +120,21 @@ module _ (n : ℕ) (some : 0 < n) (last : n ≤ lastNumber) where
   not-zero : n ≡ 0 → ⊥
   not-zero z = omega (arith, z)
 
-  -- a start at any other number than 0 is not refused, and what it leaves is a started desk that has written nothing
+  -- a start at any number other than 0 is not refused, and what it leaves is a started desk that has written nothing
   pub locks-start : (d : Desk) → (startNumber (locks.startOf n) ≡ 0) × arrays.Started (startLeaves d (locks.startOf n)) []
   locks-start d = let s = locks-started d n not-zero in (sym (s .0), subst (λ e. arrays.Started e []) (s .1) (fresh n some last))
 
   pub stamps-start : (d : Stamps) → (stampsNumber (by-number.startOf n) ≡ 0) × stamps.Started (stampsLeaves d (by-number.startOf n)) []
   stamps-start d = let s = stamps-started d n not-zero in (sym (s .0), subst (λ e. stamps.Started e []) (s .1) (fresh n some last))
 
-  -- from a start on each call on the lock desk says, in numbers, what the paper's desk says in its turn: the answer, and whom it wakes
+  -- from a start on, each call on the lock desk says, in numbers, what the paper's desk says in its turn: the answer, and which jobs it wakes
   pub library-says : (d : Desk) {rs : List Request} {ks : List LocksCall} → Lent (λ k. k .desk) OnLocks (startLeaves d (locks.startOf n)) rs ks →
       Each (λ o. SaysLocks (o .said) (o .wakes)) (stepsOf paper-step.step (paper.freshDesk n) rs) ks
   library-says d {rs} {ks} c =
       subst (λ e. Each (λ o. SaysLocks (o .said) (o .wakes)) (stepsOf paper-step.step e rs) ks) (arrays-follow.faithful .starts n some last)
       (called-says arrays-follow.faithful SaysLocks locks-says (fresh n some last) (subst (λ e. Lent (λ k. k .desk) OnLocks e rs ks) (sym (locks-started d n not-zero .1)) c))
 
-  -- and each call on the timestamp desk what the request's desk says
+  -- and each call on the timestamp desk says what the request's desk says
   pub library-stamp-says : (d : Stamps) {rs : List Request} {ks : List StampsCall} → Lent (λ k. k .desk) OnStamps (stampsLeaves d (by-number.startOf n)) rs ks →
       Each (λ o. SaysStamps (o .said) (o .wakes)) (stepsOf request-step.step (request.freshDesk n) rs) ks
   library-stamp-says d {rs} {ks} c =

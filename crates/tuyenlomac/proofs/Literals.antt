@@ -1,4 +1,4 @@
--- What callers are told and what they hand in, as literal numbers and bytes: wakes, answers, words, lines and records, each at an example that every other reading of the numbers makes false (01, Lines; 01, rule 4; 02, No. 5).
+-- What callers are told and what they pass in, as literal numbers and bytes: wakes, answers, words, lines and records, each shown on an example that any other reading of the numbers makes false (01, Lines; 01, rule 4; 02, No. 5).
 -- Assumes nothing.
 use Prim.Native.Nat.{ℕ}
 use mathlib.Core.Path.{_≡_, refl}
@@ -30,14 +30,14 @@ pub wakes-are :
 unfolding wakesIn kindByte askBy filled
 wakes-are = refl
 
--- answers: 0 go, 1 wait and 2 back with the job, 3 no with the refusal; and how many wake
+-- answers: 0 go, 1 wait and 2 back with the job, 3 no with the refusal; and the number of wakes
 pub answers-are :
     inThree (goes 7) 2 ∷ inThree (waits 7) 0 ∷ inThree (back 7) 1 ∷ inThree (refuses NotOpen) 0 ∷ []
     ≡ record { word = 0; number = 7; wakes = 2 } ∷ record { word = 1; number = 7; wakes = 0 } ∷ record { word = 2; number = 7; wakes = 1 } ∷ record { word = 3; number = 3; wakes = 0 } ∷ []
 unfolding inThree wordOf numberBeside
 answers-are = refl
 
--- words that a record may have: 0 to 4, the last being wake; 5, the first of the judge's, is none
+-- words that a record may have: 0 to 4, the last being wake; 5, the first of the judge's words, is not one
 pub words-are : map wordAt (0 ∷ 1 ∷ 2 ∷ 3 ∷ 4 ∷ 5 ∷ []) ≡ Known Go ∷ Known Wait ∷ Known Back ∷ Known No ∷ Known Wake ∷ Unknown ∷ []
 words-are = refl
 
@@ -48,21 +48,21 @@ pub lines-are :
 unfolding lineIn bytes parts fieldAhead afterField isDigit digitsOnly valueFrom shortest isNumber numberThen ending cellPart jobPart letterIn letterPart readLine
 lines-are = refl
 
--- answer records: the line's number, the word, the number, and the field at fault where it is not 0; a number that is no word's has none
+-- answer records: the line's number, the word, the number, and the field at fault if it is not 0; a number that stands for no word has no record
 pub answer-bytes-are :
     answerBytes 12 (wordAt 1) 7 0 ∷ answerBytes 8 (wordAt 4) 2 0 ∷ answerBytes 3 (wordAt 3) 9 2 ∷ answerBytes 12 (wordAt 5) 7 0 ∷ []
     ≡ some (bytes "12\twait\t7\n") ∷ some (bytes "8\twake\t2\n") ∷ some (bytes "3\tno\t9\t2\n") ∷ none ∷ []
 unfolding answerBytes answerRecord wordLine tabbed given decimal digitsIn bytes
 answer-bytes-are = refl
 
--- lines of letters, with the job and the cell that the letter has; a byte that is no letter's has none
+-- lines of letters, with the job and the cell that the letter has; a byte that is not a letter's has no line
 pub line-bytes-are :
     lineBytes (letterOf 119) 7 5 ∷ lineBytes (letterOf 107) 7 5 ∷ lineBytes (letterOf 98) 7 5 ∷ lineBytes (letterOf 120) 7 5 ∷ []
     ≡ some (bytes "w\t7\t5\n") ∷ some (bytes "k\t7\n") ∷ some (bytes "b\n") ∷ none ∷ []
 unfolding lineBytes lineRecord field decimal digitsIn bytes
 line-bytes-are = refl
 
--- what writing tells: the refusal's number, or 0, and then the place behind the record; a record that there is not gets 1, and every byte stays, whatever the buffer and the place
+-- what writing tells: the refusal's number, or 0, and then the place after the record; a record that does not exist gets 1, and every byte stays, whatever the buffer and the place
 pub written-are : map writtenNumbers (Next 9 ∷ Refused NoRoom ∷ []) ≡ (0 ∷ 9 ∷ []) ∷ (15 ∷ 0 ∷ []) ∷ []
 unfolding writtenNumbers
 written-are = refl
@@ -71,7 +71,7 @@ pub none-such : (buffer : List ℕ) (at : ℕ) → (writtenNumbers (toldOf buffe
 unfolding writtenNumbers toldOf leftOf
 none-such buffer at = (refl, refl)
 
--- and a line of four bytes, written into nine zeros from place 3 on
+-- and a line of four bytes, written into nine zeros from place 3
 pub write-is :
     (writtenNumbers (toldOf (0 ∷ 0 ∷ 0 ∷ 0 ∷ 0 ∷ 0 ∷ 0 ∷ 0 ∷ 0 ∷ []) 3 (lineBytes (letterOf 99) 7 5)) ≡ 0 ∷ 7 ∷ [])
     × (leftOf (0 ∷ 0 ∷ 0 ∷ 0 ∷ 0 ∷ 0 ∷ 0 ∷ 0 ∷ 0 ∷ []) 3 (lineBytes (letterOf 99) 7 5) ≡ 0 ∷ 0 ∷ 0 ∷ 99 ∷ 9 ∷ 55 ∷ 10 ∷ 0 ∷ 0 ∷ [])

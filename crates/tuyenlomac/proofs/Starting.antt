@@ -1,4 +1,4 @@
--- A start in numbers: what is answered and left where the first number is 0, and where it is not.
+-- A start in numbers: what is answered and left if the first number is 0, and if it is not.
 -- Assumes nothing.
 use Prim.Native.Nat.{ℕ}
 use mathlib.Core.Path.{_≡_, refl}

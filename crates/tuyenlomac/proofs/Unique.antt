@@ -1,4 +1,4 @@
--- No second result, and no second content of a field, a list or a buffer, meets the contract of a function that the library has.
+-- No second result, and no second content of a field, a list or a buffer, meets the contract of a function of the library.
 -- Assumes nothing.
 use Prim.Native.Nat.{ℕ}
 use mathlib.Core.Path.{_≡_, sym, ap, _∙_}
@@ -36,7 +36,7 @@ use Rattle.tuyenlomac.proofs.lines.tuyenlomac_write_line.Kinds as write
 pub in-three-unique : Unique in-threeK.ps in-threeK.r in-three.Post
 in-three-unique κs a x y e f p q = p ∙ sym q
 
--- the start of either desk: the refusal, and what then is where the desk is to be
+-- the start of either desk: the refusal, and what is then in the desk's place
 pub tuyenlomac-locks-start-on-unique : UniqueLent locks-startK.ps locks-startK.r locks-start.Post
     (λ κs e. deskOf (now (e .0)) (now (e .1 .0)) (now (e .1 .1 .0)) (now (e .1 .1 .1 .0)) (now (e .1 .1 .1 .1 .0)) (now (e .1 .1 .1 .1 .1 .0)))
 tuyenlomac-locks-start-on-unique κs a x y e f p q = (p .0 ∙ sym (q .0), p .1 ∙ sym (q .1))
@@ -69,7 +69,7 @@ same-first = ap (λ l. getD l 0 0)
 same-second : {a b c d : ℕ} → (a ∷ b ∷ []) ≡ (c ∷ d ∷ []) → b ≡ d
 same-second = ap (λ l. getD l 1 0)
 
--- who asks for a chain: what is answered, and what the list then holds
+-- a question for a chain: what is answered, and what the list then holds
 pub tuyenlomac-locks-chain-on-unique : UniqueLent locks-chainK.ps locks-chainK.r locks-chain.Post (λ κs e. now (e .1 .1 .1 .1 .1 .1 .1 .0))
 tuyenlomac-locks-chain-on-unique κs a x y e f p q =
     let s = p .0 ∙ sym (q .0) in

@@ -1,4 +1,4 @@
--- A call on a desk that is lent to the library, and what it is for it to tell, in numbers, what a step by value gives, or what the paper's desk says (02, No. 7). Calls one after another are those of `Rattle.lent.specs.Calls`.
+-- A call on a desk that is lent to the library, and what it means that the call tells, in numbers, what a step by value gives, or what the paper's desk says (02, No. 7). Calls one after another are those of `Rattle.lent.specs.Calls`.
 use mathlib.Core.Path.{_≡_}
 use mathlib.Core.List.{List, [], _∷_}
 use lib.ListN.{length}
@@ -16,14 +16,14 @@ use Rattle.tuyenlomac.specs.declared.answers.Answered.{Answered}
 use Rattle.tuyenlomac.specs.Numbers.{inThree}
 use Rattle.tuyenlomac.specs.Desks.{Lists, wakesIn}
 
--- what a call on a lock desk comes to: the desk that it leaves, the lists lent for the wakes and as it leaves them, and the answer
+-- the result of a call on a lock desk: the desk that it leaves, the lists lent for the wakes before and after, and the answer
 pub record LocksCall : Type 0 where
   pub desk : Desk
   pub lent : Lists
   pub told : Lists
   pub answer : Answered
 
--- these four together
+-- these four as one record
 abbrev pub locksCall : Desk → Lists → Lists → Answered → LocksCall
 locksCall after lent told r = record { desk = after; lent = lent; told = told; answer = r }
 
@@ -33,16 +33,16 @@ pub record TellsLocks (o : Outcome) (k : LocksCall) : Type 0 where
   pub answer : k .answer ≡ inThree (o .said .answer) (o .said .count)
   pub wakes : k .told ≡ wakesIn (wakesTold (o .said)) (k .lent)
 
--- a call that finds the desk d and is asked r tells what the step by value gives then
+-- a call that finds the desk d and gets request r tells what the step by value gives
 abbrev pub OnLocks : Desk → Request → LocksCall → Type 0
 OnLocks d r = TellsLocks (locks.stepOf d (r .kind) (r .job) (r .cell))
 
--- what a call on a timestamp desk comes to; nobody wakes there
+-- the result of a call on a timestamp desk; no job wakes there
 pub record StampsCall : Type 0 where
   pub desk : Stamps
   pub answer : Answered
 
--- both together
+-- both as one record
 abbrev pub stampsCall : Stamps → Answered → StampsCall
 stampsCall after r = record { desk = after; answer = r }
 
@@ -51,16 +51,16 @@ pub record TellsStamps (o : Stamped) (k : StampsCall) : Type 0 where
   pub desk : k .desk ≡ o .stamps
   pub answer : k .answer ≡ inThree (o .answer) 0
 
--- a call that finds the desk d and is asked r, likewise
+-- the same for a call that finds the timestamp desk d and gets request r
 abbrev pub OnStamps : Stamps → Request → StampsCall → Type 0
 OnStamps d r = TellsStamps (stamps.stepOf d (r .kind) (r .job) (r .cell))
 
--- a call on a lock desk says, in numbers, an answer with wakes: the answer, how many it wakes, and the wakes in the lists
+-- a call on a lock desk says, in numbers, an answer with wakes: the answer, how many jobs wake, and the wakes in the lists
 pub record SaysLocks (a : Answer) (ws : List Action) (k : LocksCall) : Type 0 where
   pub answer : k .answer ≡ inThree a (length ws)
   pub wakes : k .told ≡ wakesIn ws (k .lent)
 
--- and one on a timestamp desk, which has no lists
+-- and a call on a timestamp desk, which has no lists
 abbrev pub SaysStamps : Answer → List Action → StampsCall → Type 0
 SaysStamps a ws k = k .answer ≡ inThree a (length ws)
 

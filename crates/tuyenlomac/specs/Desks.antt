@@ -1,4 +1,4 @@
--- What a start answers and leaves where the desk is the caller's, and how the wakes of a step are told in three lists of numbers (01, refusal 10; 01, rule 4).
+-- What a start answers and leaves in a desk that the caller keeps, and how the wakes of a step are told in three lists of numbers (01, refusal 10; 01, rule 4).
 use Prim.Native.Nat.{ℕ}
 use mathlib.Core.List.{List, map}
 use Rattle.laws.specs.Lists.{filled}
@@ -15,22 +15,22 @@ use Rattle.stamp_arrays.specs.declared.state.Stamps.{Stamps}
 use Rattle.stamp_arrays.specs.declared.state.Start.{Start as StampsStart}
 use Rattle.stamp_arrays.specs.declared.state.Start.the-variants.{Ready as made, Refused as not-made}
 
--- what is answered to a start: 0, or the refusal's number (01, refusal 10)
+-- the answer to a start: 0, or the refusal's number (01, refusal 10)
 unfoldable pub startNumber : Start → ℕ
 startNumber (Ready d) = 0
 startNumber (Refused why) = numberOf why
 
--- what then is where the desk is to be: the desk that was started, or what was there
+-- what is then in the desk's place: the started desk, or what was there
 unfoldable pub startLeaves : Desk → Start → Desk
 startLeaves before (Ready d) = d
 startLeaves before (Refused why) = before
 
--- what is answered to the start of a timestamp desk
+-- the answer to the start of a timestamp desk
 unfoldable pub stampsNumber : StampsStart → ℕ
 stampsNumber (made d) = 0
 stampsNumber (not-made why) = numberOf why
 
--- and what then is where it is to be
+-- and what is then in its place
 unfoldable pub stampsLeaves : Stamps → StampsStart → Stamps
 stampsLeaves before (made d) = d
 stampsLeaves before (not-made why) = before
@@ -41,7 +41,7 @@ pub record Lists : Type 0 where
   pub cells : List ℕ
   pub kinds : List ℕ
 
--- three lists together
+-- three lists as one record
 abbrev pub listsOf : List ℕ → List ℕ → List ℕ → Lists
 listsOf jobs cells kinds = record { jobs = jobs; cells = cells; kinds = kinds }
 
@@ -49,7 +49,7 @@ listsOf jobs cells kinds = record { jobs = jobs; cells = cells; kinds = kinds }
 unfoldable pub kindByte : Kind → ℕ
 kindByte k = byteOf (Asks (askBy k))
 
--- wakes told in three lists: they fill the first places of each, in their order, and the rest stay
+-- wakes told in three lists: they fill the first places of each, in order, and the rest stay
 unfoldable pub wakesIn : List Action → Lists → Lists
 wakesIn ws l =
     listsOf (filled (map (λ (a : Action). a .job) ws) (l .jobs)) (filled (map (λ (a : Action). a .cell) ws) (l .cells))

@@ -1,4 +1,4 @@
--- Answers in numbers, for callers that have no enums. The numbers of the words are ours: include/tuyenlomac.h names the first five, and has the judge's by their own four numbers.
+-- Answers in numbers, for callers that have no enums. The numbers of the words are our own: include/tuyenlomac.h names the first five, and tells the judge's words by their own four numbers.
 use Prim.Native.Nat.{ℕ}
 use lib.Dec.{eqb}
 use Rattle.laws.specs.Choice.{pick}
@@ -21,7 +21,7 @@ wordNumber Orderly = 5
 wordNumber Knot = 6
 wordNumber Dirty = 7
 
--- this word, where it has the number, or else what is left
+-- this word if it has the number, else the given one
 abbrev orElse : Word → ℕ → Worded → Worded
 orElse w n rest = pick (eqb n (wordNumber w)) (Known w) rest
 
@@ -29,6 +29,6 @@ orElse w n rest = pick (eqb n (wordNumber w)) (Known w) rest
 abbrev pub wordAt : ℕ → Worded
 wordAt n = orElse Go n (orElse Wait n (orElse Back n (orElse No n (orElse Wake n Unknown))))
 
--- an answer with so many wakes: the word's number, the number beside it, and that of the wakes
+-- an answer with this many wakes: the word's number, the number beside it, and the number of wakes
 unfoldable pub inThree : Answer → ℕ → Answered
 inThree a wakes = record { word = wordNumber (wordOf a); number = numberBeside a; wakes = wakes }

@@ -1,4 +1,4 @@
--- Lines and records in numbers: what a line says, and what writing a record tells and leaves, where a number may be that of no word or letter (01, Lines; 02, No. 5).
+-- Lines and records in numbers: what a line says, and what writing a record tells and leaves, also for a number that stands for no word or letter (01, Lines; 02, No. 5).
 use Prim.Native.Nat.{ℕ}
 use mathlib.Core.List.{List, [], _∷_}
 use mathlib.Core.Option.{Option, none, some}
@@ -16,32 +16,32 @@ use Rattle.tuyenlomac.specs.declared.lines.Line.{Line}
 use Rattle.tuyenlomac.specs.declared.lines.Worded.{Worded}
 use Rattle.tuyenlomac.specs.declared.lines.Worded.the-variants.{Known as a-word, Unknown as no-word}
 
--- what a line says: a good one its letter's byte, job and cell, and 0; a bad one the field at fault (02, No. 5)
+-- what a line says: for a good line its letter's byte, job and cell, and 0; for a bad line the field at fault (02, No. 5)
 unfoldable pub lineIn : Reading → Line
 lineIn (Good letter job cell) = record { job = job; cell = cell; kind = byteOf letter; field = 0 }
 lineIn (Bad which) = record { job = 0; cell = 0; kind = 0; field = fieldNumber which }
 
--- what writing tells: 0 and the place behind the record, or the refusal's number and 0
+-- what writing tells: 0 and the place after the record, or the refusal's number and 0
 unfoldable pub writtenNumbers : Written → List ℕ
 writtenNumbers (Next place) = 0 ∷ place ∷ []
 writtenNumbers (Refused why) = numberOf why ∷ 0 ∷ []
 
--- the bytes of an answer record, where there is such a word
+-- the bytes of an answer record, if there is such a word
 unfoldable pub answerBytes : ℕ → Worded → ℕ → ℕ → Option (List ℕ)
 answerBytes line (a-word w) number fault = some (answerRecord line w number fault)
 answerBytes line no-word number fault = none
 
--- the bytes of the line of a letter, where there is such a letter
+-- the bytes of the line of a letter, if there is such a letter
 unfoldable pub lineBytes : Lettered → ℕ → ℕ → Option (List ℕ)
 lineBytes (Known l) job cell = some (lineRecord l job cell)
 lineBytes Unknown job cell = none
 
--- what writing tells: as of any record, and 1 where there is none
+-- what writing tells: the same as for any record, and 1 if there is none
 unfoldable pub toldOf : List ℕ → ℕ → Option (List ℕ) → Written
 toldOf buffer at none = Refused UnknownKind
 toldOf buffer at (some bytes) = told buffer at bytes
 
--- and what the buffer then holds: all as it was where there is none
+-- and what the buffer then holds: all as it was if there is none
 unfoldable pub leftOf : List ℕ → ℕ → Option (List ℕ) → List ℕ
 leftOf buffer at none = buffer
 leftOf buffer at (some bytes) = left buffer at bytes

@@ -37,7 +37,7 @@ fn number_beside(a: Answer) -> u32
     }
 }
 
-// An answer with so many wakes.
+// An answer with this many wakes.
 pub fn in_three(a: Answer, wakes: usize) -> Answered
     ensures { λ r. ⌜ r ≡ inThree a wakes ⌝ }
 {

@@ -1,10 +1,10 @@
-// The judge for a caller who keeps the text of a history: the verdict in numbers, and where the faulty line stands (01, The judge's rules).
+// The judge for a caller that keeps the text of a history: the verdict in numbers, and where the faulty line stands (01, The judge's rules).
 use judge::entry::judge_at;
 ghost use mathlib.Core.Path.{_≡_};
 ghost use lib.ListN.{length};
 ghost use Rattle.judge_rules.specs.Judgement.{judgementOf, lineFrom, inNumbers};
 
-// The verdict in four numbers; and where in the text the faulty line stands, and how many bytes it has without its newline, or 0 and 0.
+// The verdict in four numbers; and the place of the faulty line in the text with its length without the newline, or 0 and 0.
 #[repr(C)]
 pub struct Judgement {
     pub said: [u32; 4],

@@ -19,7 +19,7 @@ ghost use Rattle.text_rules.specs.Lines.{readLine};
 ghost use Rattle.tuyenlomac.specs.Numbers.{wordAt};
 ghost use Rattle.tuyenlomac.specs.Texts.{lineIn, writtenNumbers, answerBytes, lineBytes, toldOf, leftOf};
 
-// What a line says. Of a good one `field` is 0, and `kind` is its letter's byte; `job` and `cell` are 0 where the letter has none. Of a bad one `field` is the field at fault, 1 to 4, and the others are 0.
+// What a line says. For a good line `field` is 0 and `kind` is its letter's byte; `job` and `cell` are 0 if the letter has none. For a bad line `field` is the field at fault, 1 to 4, and the others are 0.
 #[repr(C)]
 pub struct Line {
     pub job: u32,
@@ -28,14 +28,14 @@ pub struct Line {
     pub field: u8,
 }
 
-// What writing tells: 0 and the place behind the record, or the refusal's number and 0.
+// What writing tells: 0 and the place after the record, or the refusal's number and 0.
 #[repr(C)]
 pub struct Placed {
     pub refusal: u32,
     pub next: usize,
 }
 
-// A number is that of a word of answer records, or of none.
+// The word of answer records that a number stands for, if there is one.
 pub enum Worded {
     // the word that has this number
     Known(Word),
@@ -90,7 +90,7 @@ fn placed_at(w: Written) -> Placed
     }
 }
 
-// What a line of requests says; the line with its newline.
+// What a line of requests says; the line comes with its newline.
 #[no_mangle]
 pub extern "C" fn tuyenlomac_read_request(line: &[u8]) -> Line
     ensures { λ r. ⌜ r ≡ lineIn (readLine ofRequests (now (line .entry))) ⌝ }
@@ -98,7 +98,7 @@ pub extern "C" fn tuyenlomac_read_request(line: &[u8]) -> Line
     line_in(read_request(line))
 }
 
-// What a line of a history says; the line with its newline.
+// What a line of a history says; the line comes with its newline.
 #[no_mangle]
 pub extern "C" fn tuyenlomac_read_history(line: &[u8]) -> Line
     ensures { λ r. ⌜ r ≡ lineIn (readLine ofHistories (now (line .entry))) ⌝ }
@@ -106,7 +106,7 @@ pub extern "C" fn tuyenlomac_read_history(line: &[u8]) -> Line
     line_in(read_history(line))
 }
 
-// An answer record from a place on: 1 where no word has that number, then 15 where it does not fit, and with either every byte stays.
+// Writes an answer record from a place: 1 if no word has that number, then 15 if the record does not fit; after either every byte stays.
 #[no_mangle]
 pub extern "C" fn tuyenlomac_write_answer(
     buffer: &mut [u8],
@@ -125,7 +125,7 @@ pub extern "C" fn tuyenlomac_write_answer(
     }
 }
 
-// The line of a letter from a place on, a history record or a request: 1 where no letter has that byte, then 15 where it does not fit, and with either every byte stays.
+// Writes the line of a letter from a place, a history record or a request: 1 if no letter has that byte, then 15 if the line does not fit; after either every byte stays.
 #[no_mangle]
 pub extern "C" fn tuyenlomac_write_line(
     buffer: &mut [u8],

@@ -1,4 +1,4 @@
-// The lock desk for a caller who keeps it: the desk's six fields are lent to each call, and changed where they stand (02, No. 7).
+// The lock desk for a caller that keeps it: the desk's six fields are lent to each call, and changed where they stand (02, No. 7).
 use crate::answers::Answered;
 use crate::answers::in_three;
 use conflict::action::Kind;
@@ -27,14 +27,14 @@ ghost use Rattle.desk_chain.specs.Chains.{askedOn};
 ghost use Rattle.tuyenlomac.specs.Desks.{startNumber, startLeaves, kindByte, listsOf, wakesIn};
 ghost use Rattle.tuyenlomac.specs.Calls.{locksCall, OnLocks};
 
-// What is answered to whoever asks for a job's chain: 0 and how many jobs it has, or the refusal's number and 0.
+// The answer to a question for a job's chain: 0 and how many jobs it has, or the refusal's number and 0.
 #[repr(C)]
 pub struct ChainSaid {
     pub refusal: u32,
     pub jobs: usize,
 }
 
-// The byte of the letter that the history has for what a woken job does.
+// The byte of the letter that the history has for a woken job's action.
 fn kind_byte(k: Kind) -> u8
     ensures { λ r. ⌜ r ≡ kindByte k ⌝ }
 {
@@ -45,14 +45,14 @@ fn kind_byte(k: Kind) -> u8
     }
 }
 
-// Lists of as many places as there are: what a lent array does not say of itself.
+// Lists have as many places as stated, which a lent array does not say by itself.
 fn sized(jobs: [u32; PLACES], cells: [u32; PLACES], kinds: [u8; PLACES]) -> bool
     ensures { λ r. ⌜ (length jobs ≡ places) × (length cells ≡ places) × (length kinds ≡ places) ⌝ }
 {
     true
 }
 
-// The wakes of the places woken, so many, into the first places of three lists: the jobs, the cells, and what each does there.
+// Writes the wakes of the places woken, this many, into the first places of three lists: the jobs, the cells, and what each does there.
 fn tell_wakes<'a>(
     number: &'a [u32; PLACES],
     cell: &'a [u8; PLACES],
@@ -80,7 +80,7 @@ fn tell_wakes<'a>(
     }
 }
 
-// A lock desk started at a first number: 0. For 0 refusal 10, and what is there stays (01, refusal 10).
+// Starts a lock desk at a first number and answers 0. For number 0 the answer is refusal 10, and what is there stays (01, refusal 10).
 #[no_mangle]
 pub extern "C" fn tuyenlomac_locks_start_on(
     next: &mut u64,
@@ -106,7 +106,7 @@ pub extern "C" fn tuyenlomac_locks_start_on(
     0
 }
 
-// One request by the letter's byte, the job and the cell asked for. Where it wakes jobs, they are told in the first places of the three lists.
+// One request by the letter's byte, the job and the cell asked for. The jobs that it wakes are told in the first places of the three lists.
 #[no_mangle]
 pub extern "C" fn tuyenlomac_locks_step_on(
     next: &mut u64,
@@ -146,7 +146,7 @@ pub extern "C" fn tuyenlomac_locks_step_on(
     in_three(answer, count)
 }
 
-// What is answered to whoever asks for a chain, in two numbers.
+// The answer to a question for a chain, in two numbers.
 fn chain_said(c: Chained) -> ChainSaid
     ensures { λ r. ⌜ (r .refusal ∷ r .jobs ∷ []) ≡ chainNumbers c ⌝ }
 {
@@ -162,7 +162,7 @@ fn chain_said(c: Chained) -> ChainSaid
     }
 }
 
-// The chain of a job, in the first places of the list (02, No. 3). The desk is only looked at.
+// The chain of a job, in the first places of the list (02, No. 3). The desk is only read.
 #[no_mangle]
 pub extern "C" fn tuyenlomac_locks_chain_on(
     next: &u64,

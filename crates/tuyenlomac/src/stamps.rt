@@ -1,4 +1,4 @@
-// The timestamp desk for a caller who keeps it: the desk's four fields are lent to each call, and changed where they stand (02, No. 6; 02, No. 7).
+// The timestamp desk for a caller that keeps it: the desk's four fields are lent to each call, and changed where they stand (02, No. 6; 02, No. 7).
 use crate::answers::Answered;
 use crate::answers::in_three;
 use stamp_arrays::state::ROWS;
@@ -12,7 +12,7 @@ ghost use Rattle.stamp_arrays.specs.Steps.{stampsOf, startOf};
 ghost use Rattle.tuyenlomac.specs.Desks.{stampsNumber, stampsLeaves};
 ghost use Rattle.tuyenlomac.specs.Calls.{stampsCall, OnStamps};
 
-// A timestamp desk started at a first number: 0. For 0 refusal 10, and what is there stays (01, refusal 10).
+// Starts a timestamp desk at a first number and answers 0. For number 0 the answer is refusal 10, and what is there stays (01, refusal 10).
 #[no_mangle]
 pub extern "C" fn tuyenlomac_stamps_start_on(
     next: &mut u64,
@@ -34,7 +34,7 @@ pub extern "C" fn tuyenlomac_stamps_start_on(
     0
 }
 
-// One request by the letter's byte, the job and the cell. Nobody waits here, so nobody wakes.
+// One request by the letter's byte, the job and the cell. No job waits here, so none wakes.
 #[no_mangle]
 pub extern "C" fn tuyenlomac_stamps_step_on(
     next: &mut u64,

@@ -1,4 +1,4 @@
--- `tuyenlomac::lines::tuyenlomac_write_answer` meets its contract: the record writer, in numbers, or 1 where there is no such word.
+-- `tuyenlomac::lines::tuyenlomac_write_answer` meets its contract: the record writer, in numbers, or 1 if there is no such word.
 -- Assumes nothing.
 use borrow.Author.Needs.{needs}
 use mathlib.Core.Path.{sym, ap, _∙_}

@@ -1,4 +1,4 @@
--- `tuyenlomac::lines::tuyenlomac_write_line` meets its contract: the record writer, in numbers, or 1 where there is no such letter.
+-- `tuyenlomac::lines::tuyenlomac_write_line` meets its contract: the record writer, in numbers, or 1 if there is no such letter.
 -- Assumes nothing.
 use borrow.Author.Needs.{needs}
 use mathlib.Core.Path.{sym, ap, _∙_}

@@ -1,4 +1,4 @@
--- `tuyenlomac::lines::word_at` meets its contract: a matched number is put for the argument, and any other differs from each.
+-- `tuyenlomac::lines::word_at` meets its contract: a matched number replaces the argument, and any other number differs from each.
 -- Assumes nothing.
 use borrow.Author.Tests.{ne-eqb}
 use Rattle.tuyenlomac.proofs.lines.word_at.Statement.{statement}

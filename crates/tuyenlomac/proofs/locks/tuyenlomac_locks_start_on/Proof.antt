@@ -1,4 +1,4 @@
--- `tuyenlomac::locks::tuyenlomac_locks_start_on` meets its contract: 0 is refused, and from any other number a desk with nobody in it is started.
+-- `tuyenlomac::locks::tuyenlomac_locks_start_on` meets its contract: 0 is refused, and any other number starts a desk without jobs.
 -- Assumes nothing.
 use borrow.Author.Needs.{needs}
 use Rattle.desk_arrays.specs.Steps.{emptyDesk}

@@ -1,4 +1,4 @@
--- `tuyenlomac::locks::tuyenlomac_locks_step_on` meets its contract: the step in place, its answer in numbers, and its wakes told in the lists where there are any.
+-- `tuyenlomac::locks::tuyenlomac_locks_step_on` meets its contract: the step in place, its answer in numbers, and its wakes, if any, told in the lists.
 -- Assumes nothing.
 use borrow.Author.Needs.{needs}
 use Rattle.tuyenlomac.proofs.Waking.{step-told, step-quiet}

@@ -1,4 +1,4 @@
--- `tuyenlomac::stamps::tuyenlomac_stamps_start_on` meets its contract: 0 is refused, and from any other number a desk with nobody in it is started.
+-- `tuyenlomac::stamps::tuyenlomac_stamps_start_on` meets its contract: 0 is refused, and any other number starts a desk without jobs.
 -- Assumes nothing.
 use borrow.Author.Needs.{needs}
 use Rattle.stamp_arrays.specs.Steps.{emptyStamps}
