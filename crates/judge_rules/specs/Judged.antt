@@ -1,4 +1,4 @@
--- What the judge finds for jobs and their edges, and for a history; the verdict that it gives from this is in Judgement.antt (01, The judge's rules).
+-- What the judge finds of jobs and their edges, and of a history; the verdict that it says of this is in Judgement.antt (01, The judge's rules).
 use Prim.Native.Nat.{ℕ}
 use mathlib.Core.Bool.{Bool, true, false}
 use mathlib.Core.List.{List, [], _∷_}
