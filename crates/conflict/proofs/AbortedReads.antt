@@ -104,7 +104,7 @@ none-of-three zero h m = act-no-mark (m .1 .1)
 none-of-three (suc zero) h m = act-no-mark (m .1 .1)
 none-of-three (suc (suc k)) h m = omega arith
 
--- 3's write stands when line 3 comes
+-- 3's write still stands at line 3
 stands-three : Standing overwritten 3 1 3 0
 stands-three = record {
   write = record { kind = Write; job = 3; cell = 0 };

@@ -41,7 +41,7 @@ pub keeps-own : (j : ℕ) {s t : Schedule} → Equivalent s t → own j s ≡ ow
 keeps-own j done = refl
 keeps-own j (after w e) = swap-keeps-own j w ∙ keeps-own j e
 
--- a swap keeps whether an action that stands before conflicts with one of job j
+-- a swap keeps whether an earlier action conflicts with one of job j
 swap-keeps-touches : (c : Action) (j : ℕ) {s t : Schedule} → Swap s t → touches c j s ≡ touches c j t
 unfolding touches
 swap-keeps-touches c j (here {a} {b} {s} o f) =
@@ -71,7 +71,7 @@ pub keeps-names : (order : List ℕ) {s t : Schedule} → Equivalent s t → nam
 keeps-names order done = refl
 keeps-names order (after w e) = swap-keeps-names order w ∙ keeps-names order e
 
--- a job that stands before others: an edge goes from it to another, or stands among those behind it
+-- one job's actions in front of others: an edge goes from that job to another, or is an edge among the others
 edge-behind : {P : Type 0} (k : ℕ) (s t : Schedule) (i j : ℕ) → edge (own k s ++ t) i j ≡ true
     → (eqb k i ≡ true → eqb k j ≡ false → P) → (edge t i j ≡ true → P) → P
 unfolding own keep edge

@@ -49,7 +49,7 @@ line-4 = r 1 A ∷ w 1 A ∷ r 1 B ∷ r 2 A ∷ w 1 B ∷ w 2 A ∷ r 2 B ∷ w
 abbrev line-5 : Schedule
 line-5 = r 1 A ∷ w 1 A ∷ r 1 B ∷ w 1 B ∷ r 2 A ∷ w 2 A ∷ r 2 B ∷ w 2 B ∷ []
 
--- two neighbours are swapped where the tests say that they may be
+-- two neighbours may be swapped if the tests say so
 swap-of : (a b : Action) {s : Schedule} → eqb (a .job) (b .job) ≡ false → conflicts a b ≡ false → Swap (a ∷ b ∷ s) (b ∷ a ∷ s)
 swap-of a b o f = here (eqb-false (a .job) (b .job) o) f
 

@@ -17,7 +17,7 @@ use Rattle.conflict.specs.declared.cells.Touched.{Touched}
 use Rattle.conflict.specs.Schedule.{agree}
 use Rattle.conflict.specs.Cells.{inSet, actsOn, someKind, canConflict}
 
--- the last bit of what two numbers share
+-- the last bit of the bitwise and of two numbers
 low-and : (x y : ℕ) → eqb (bitAnd x y % 2) 1 ≡ (eqb (x % 2) 1 && eqb (y % 2) 1)
 low-and x y =
     by-test (eqb (x % 2) 1)
@@ -34,7 +34,7 @@ low-and x y =
     let z : y % 2 ≡ 0 = omega (arith, eqb-false (y % 2) 1 g) in
     ne-eqb (bitAnd x y % 2) 1 (λ e. omega (arith, rw (w, z) at (and-step x y))))))
 
--- the last bit of two numbers joined
+-- the last bit of the bitwise or of two numbers
 low-or : (x y : ℕ) → eqb (bitOr x y % 2) 1 ≡ (eqb (x % 2) 1 || eqb (y % 2) 1)
 low-or x y =
     by-test (eqb (x % 2) 1)

@@ -29,7 +29,7 @@ not-back Commit e = refl
 not-back GiveUp e = refl
 not-back Back e = sym e
 
--- so it is when one more mark has gone by
+-- this still holds when one more mark has gone by
 past-mark : (whole : History) (m : Mark) (i : ℕ) (h : History) → endsForGood (Ends m i ∷ h) ≡ true → Ahead whole (Ends m i ∷ h) → Ahead whole h
 unfolding lineOf marked
 past-mark whole m i h e ahead j l =
@@ -40,7 +40,7 @@ past-mark whole m i h e ahead j l =
     (λ f. rw f))
     (λ n. rw (n, and-false))
 
--- of the lines that are left, the two forms keep the same actions
+-- among the lines that are left, the two forms keep the same actions
 part-is : (whole h : History) → endsForGood h ≡ true → Ahead whole h → partOf whole h ≡ committed h
 unfolding partOf committed endsForGood lineOf marked
 part-is whole [] e ahead = refl

@@ -19,7 +19,7 @@ names-wider part order (a ∷ s) wider h =
     and-both (member (a .job) order) (names order s) (wider (a .job) (and-first (member (a .job) part) (names part s) h))
     (names-wider part order s wider (and-second (member (a .job) part) (names part s) h))
 
--- of the lines that are left, only actions of jobs with a c in the whole are kept
+-- among the lines that are left, only actions of jobs with a c in the whole are kept
 part-names : (order : List ℕ) (whole h : History) → ((j : ℕ) → marked isCommit j whole ≡ true → member j order ≡ true) → names order (partOf whole h) ≡ true
 unfolding names partOf keep
 part-names order whole [] listed′ = refl

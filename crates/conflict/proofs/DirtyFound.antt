@@ -26,22 +26,22 @@ pub record FirstFrom (h : History) (n reader writer : ℕ) : Type 0 where
   pub latest : Latest h at at reader writer
   pub first : (y x i j : ℕ) → DirtyRead h y x i j → (at ≤ y) ⊎ (y < n)
 
--- the first that there is, or that there is none
+-- the first one, or that there is none
 abbrev From : History → ℕ → Option ReadOf → Type 0
 From h n none = (y x i j : ℕ) → DirtyRead h y x i j → y < n
 From h n (some d) = FirstFrom h n (d .reader) (d .writer)
 
 module _ (h : History) (n : ℕ) where
-  -- what the read at place n has
+  -- what is known of the read at place n
   abbrev Here : ℕ → Option ℕ → Type 0
   Here reader none = (x i j : ℕ) → DirtyRead h n x i j → ⊥
   Here reader (some writer) = Latest h n n reader writer
 
-  -- another place than n
+  -- a place other than n
   before-it : ((x i j : ℕ) → DirtyRead h n x i j → ⊥) → (y x i j : ℕ) → DirtyRead h y x i j → y < suc n → y < n
   before-it apart y x i j d l = by-test (eqb y n) (λ t. absurd (apart x i j (subst (λ z. DirtyRead h z x i j) (eqb-true y n t) d))) (λ f. omega (arith, eqb-false y n f))
 
-  -- where nothing is dirty at place n, what stands later decides
+  -- if nothing is dirty at place n, what comes later decides
   from-later : ((x i j : ℕ) → DirtyRead h n x i j → ⊥) → (later : Option ReadOf) → From h (suc n) later → From h n later
   from-later apart none f = λ y x i j d. before-it apart y x i j d (f y x i j d)
   from-later apart (some r) f = record {
@@ -91,7 +91,7 @@ module _ (h : History) (n : ℕ) where
   mark-unread seen e rest l s no′ x i j d =
       no′ (d .read) (read-parts d (inOrder seen []) e rest (sym l ∙ order-append seen (e ∷ rest)) (omega (arith, order-length seen [])) .0)
 
--- of the lines that are left the first dirty read is found
+-- among the lines that are left, the first dirty read is found
 found : (h seen rest : History) → inOrder seen rest ≡ h → From h (length seen) (dirtyFrom seen rest)
 unfolding dirtyFrom inOrder
 found h seen [] l = λ y x i j d. omega (arith, read-within d, ap length l, order-length seen [])
@@ -137,7 +137,7 @@ module _ (h : History) where
   told-first : (i j : ℕ) → dirtyOf h ≡ some (record { reader = i; writer = j }) → FirstDirty h i j
   told-first i j e = from-first h i j (by-found (some (record { reader = i; writer = j })) e)
 
-  -- it tells none where there is none
+  -- if there is none, the test tells none
   told-none : dirtyOf h ≡ none → IsDirty h → ⊥
   told-none e d = let l : d .read-at < 0 = by-found none e (d .read-at) (d .write-at) (d .reader) (d .writer) (d .dirty-read) in omega arith
 
@@ -145,7 +145,7 @@ module _ (h : History) where
   pub first-is-dirty : (i j : ℕ) → FirstDirty h i j → IsDirty h
   first-is-dirty i j f = record { read-at = f .read-at; write-at = f .write-at; reader = i; writer = j; dirty-read = f .dirty-read }
 
-  -- by what the test tells
+  -- a proof by what the test tells
   by-told : {P : Type 0} (o : Option ReadOf) → dirtyOf h ≡ o → (dirtyOf h ≡ none → P) → ((i j : ℕ) → dirtyOf h ≡ some (record { reader = i; writer = j }) → P) → P
   by-told none e one′ two′ = one′ e
   by-told (some r) e one′ two′ = two′ (r .reader) (r .writer) e

@@ -41,7 +41,7 @@ first-part : (u l : History) (k : ℕ) (e : Event) → k < length u → LineAt (
 first-part u l k e g a = (g, sym (List·getD-append u l e k g) ∙ a .1)
 
 module _ (h : History) (p q i j : ℕ) where
-  -- as the request words it, so by runs
+  -- from the request's words to runs
   to-runs : DirtyRead h p q i j → DirtyByRuns h p q i j
   to-runs d =
       let ahead : History = d .before ++ Does (d .write) ∷ d .between in
@@ -89,7 +89,7 @@ module _ (h : History) (p q i j : ℕ) where
         };
       }
 
-  -- by runs, so as the request words it
+  -- from runs to the request's words
   from-runs : DirtyByRuns h p q i j → DirtyRead h p q i j
   from-runs d =
       let n : ℕ = p - suc q in

@@ -86,7 +86,7 @@ promotion-alone X = refl
 promotion-alone I = refl
 promotion-alone U = refl
 
--- next to what a promotion to U is granted
+-- beside which modes a promotion to U is granted
 only-to-u : (other : Mode) → grants other U ≡ true → (other ≡ Free) ⊎ (other ≡ S)
 unfolding grants
 only-to-u Free h = inl refl
@@ -115,7 +115,7 @@ only-intends Write h = not-both h refl
 only-intends Increment h = not-both h refl
 only-intends Update h = refl
 
--- two actions agree where their needs may be held together, or both are reads with intent
+-- two actions agree if their needs may be held together, or both are reads with intent to write
 agrees-by : (a b : Ask) → agree (recorded a) (recorded b) ≡ (beside (needed a) (needed b) || (intends a && intends b))
 unfolding agree recorded beside grants needed intends
 agrees-by a b = equal _ _ (of-asks (test a) (of-asks (λ a. eachAsk (test a)) refl a) b)

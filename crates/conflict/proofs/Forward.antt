@@ -17,7 +17,7 @@ use Rattle.conflict.proofs.Swaps.{equivalent-trans, equivalent-later, e
 use Rattle.conflict.proofs.Edges.{touches-here, touches-later, touches-cases, edge-here, edge-later, edge-cases}
 use Rattle.conflict.proofs.OwnActions.{others, serial-others, serial-again, names-others, names-none}
 
--- an action of another job goes behind all actions of job j, if none of them conflicts with it
+-- an action of another job can move behind all actions of job j, if none of them conflicts with it
 goes-behind : (j : ℕ) (a : Action) (s t : Schedule) → eqb (a .job) j ≡ false → touches a j s ≡ false → Equivalent (a ∷ (own j s ++ t)) (own j s ++ (a ∷ t))
 unfolding own keep touches
 goes-behind j a [] t f n = done

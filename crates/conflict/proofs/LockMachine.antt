@@ -35,14 +35,14 @@ pub record Kept (t : Table) (h : History) : Type 0 where
   pub under : held t h ≡ true
   pub strictly : strict h ≡ true
 
--- from one such line of tests to the next, part by part: what has ended stays ended, and what is allowed stays so where nothing has ended
+-- from one row of tests to the next, part by part: a run that has ended stays ended, and an allowed action stays allowed while its run has not ended
 still : (x y r x′ y′ r′ : Bool) → (x ≡ true → x′ ≡ true) → (x′ ≡ false → y ≡ true → y′ ≡ true) → (r ≡ true → r′ ≡ true) → ((x || y) && r) ≡ true → ((x′ || y′) && r′) ≡ true
 still x y r x′ y′ r′ f g k e =
     and-both (x′ || y′) r′
     (by-test x′ (λ t. rw t) (λ n. rw n (or-either x y (and-first (x || y) r e) (λ p. not-both (f p) n) (λ q. g n q))))
     (k (and-second (x || y) r e))
 
--- a run that has ended has also ended later on
+-- a run that has ended stays ended
 ended-more : (j : ℕ) (h g : History) → ended j h ≡ true → ended j (h ++ g) ≡ true
 ended-more j h g e = ended-append j h g ∙ or-first (ended j h) (ended j g) e
 
@@ -62,7 +62,7 @@ held-grows t u (Does a ∷ h) more e =
     (λ p. p) (λ n l. lets-grows (u (a .job) (a .cell)) (t (a .job) (a .cell)) (a .kind) (more (a .job) (a .cell)) l) (held-grows t u h more) e
 held-grows t u (Ends m i ∷ h) more e = held-grows t u h more e
 
--- so it is with one more action that the table allows
+-- this still holds with one more action that the table allows
 held-acts : (t : Table) (h : History) (b : Action) → allows t b ≡ true → held t h ≡ true → held t (h ++ Does b ∷ []) ≡ true
 unfolding held
 held-acts t [] b l e = and-both (ended (b .job) [] || allows t b) true (or-second (ended (b .job) []) (allows t b) l) refl
@@ -82,7 +82,7 @@ held-stops t u (Does a ∷ h) m j more e =
     (held-stops t u h m j more) e
 held-stops t u (Ends n i ∷ h) m j more e = held-stops t u h m j more e
 
--- two actions that one table allows do not conflict, where its modes may be held together
+-- two actions that one table allows do not conflict, if its modes may be held together
 no-conflict : (t : Table) (a b : Action) → Together t → allows t a ≡ true → allows t b ≡ true → conflicts a b ≡ false
 unfolding conflicts
 no-conflict t a b safe p q =

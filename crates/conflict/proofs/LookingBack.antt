@@ -52,7 +52,7 @@ at-most : (x n : ℕ) → (x ≤ n) ⊎ (suc n ≤ x)
 at-most x n = by-test (leb x n) (λ t. inl (leb-true x n t)) (λ f. inr (leb-false x n f))
 
 module _ (h : History) (p n : ℕ) (apart : (x i j : ℕ) → DirtyRead h p x i j → x ≡ n → ⊥) where
-  -- another place than n
+  -- a place other than n
   past : (x i j : ℕ) → DirtyRead h p x i j → n ≤ x → suc n ≤ x
   past x i j d g = by-test (eqb x n) (λ t. absurd (apart x i j d (eqb-true x n t))) (λ f. omega (arith, eqb-false x n f))
 

@@ -46,7 +46,7 @@ pub ends-rest : (m : Mark) (i : ℕ) (h : History) → endsForGood (Ends m i ∷
 unfolding endsForGood
 ends-rest m i h e = and-second (isBack m || not (lineOf i h)) (endsForGood h) e
 
--- at a mark of its own that no line follows, unless it is a k, a job has a c and no k exactly if that mark is a c
+-- at a job's own mark, which no line of it follows unless it is a k: the job has a c and no k exactly if that mark is a c
 at-mark : (m : Mark) (i : ℕ) (h : History) → (isBack m ≡ false → lineOf i h ≡ false) → ((isCommit m || marked isCommit i h) && not (isBack m || marked isBack i h)) ≡ isCommit m
 unfolding isCommit isBack
 at-mark Commit i h alone = rw (unmarked isBack i h (alone refl))

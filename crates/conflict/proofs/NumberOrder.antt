@@ -38,7 +38,7 @@ number-order-part h o = within-order (committed-part-within h) o
 pub number-order-committed : (h : History) → ActsInNumberOrder h → InNumberOrder (committed h)
 number-order-committed h o = within-order (committed-within h) o
 
--- a job with an action that conflicts with an earlier one has the larger number, if every such action is by one
+-- if every later action that conflicts with a is by a larger number than a's, a job with such an action has a larger number
 touches-rises : (a : Action) (j : ℕ) (s : Schedule) → ((between : Schedule) (b : Action) (after : Schedule) → s ≡ between ++ b ∷ after → conflicts a b ≡ true → a .job < b .job) → touches a j s ≡ true → a .job < j
 unfolding touches
 touches-rises a j [] h t = not-both t refl
@@ -73,7 +73,7 @@ pub ascending-commits : (h : History) (j : ℕ) → member j (sorted (commitOrde
 ascending-commits h j = sorted-member (commitOrder h) j ∙ listed j h
 
 module _ (h : History) (o : ActsInNumberOrder h) where
-  -- every edge of the committed part goes forward in them
+  -- every edge of the committed part goes forward in that order
   number-order-forward : Forward (sorted (commitOrder h)) (committedPart h)
   number-order-forward =
       ascending-forward (sorted (commitOrder h)) (committedPart h) (sorted-ascending (commitOrder h))

@@ -23,7 +23,7 @@ use Rattle.conflict.proofs.Edges.{conflicts-other}
 use Rattle.conflict.proofs.Conflicting.{conflict-cell, conflict-kinds}
 use Rattle.conflict.proofs.Largest.{largest-over}
 
--- of two kinds that do not agree the first changes, or it reads and the second changes
+-- of two kinds that do not agree, the first changes the cell, or it reads and the second changes the cell
 by-disagreeing : {P : Type 0} (k l : Kind) → agree k l ≡ false → (changes k ≡ true → P) → (reads k ≡ true → changes l ≡ true → P) → P
 unfolding agree changes reads
 by-disagreeing Read Read f one′ two′ = not-both refl f

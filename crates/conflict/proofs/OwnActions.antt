@@ -32,7 +32,7 @@ own-same j [] = refl
 own-same j (a ∷ s) =
     by-test (eqb (a .job) j) (λ e. simp e (ap (λ u. a ∷ u) (own-same j s))) (λ f. rw f (own-same j s))
 
--- one action more or not, of another job
+-- one more action of another job, kept or not
 own-more : (k : ℕ) (b : Bool) (a : Action) (s : Schedule) → (b ≡ true → eqb (a .job) k ≡ false) → own k (keep b a s) ≡ own k s
 unfolding own keep
 own-more k true a s h = rw (h refl)
@@ -76,7 +76,7 @@ own-serial-none (j ∷ order) k s f =
     own-append k (own j s) (serial order s)
     ∙ ap₂ _++_ (own-other j k s (nor-first (eqb j k) (member k order) f)) (own-serial-none order k s (nor-second (eqb j k) (member k order) f))
 
--- the first job of the order has its own actions in front, and none behind them
+-- the first job of the order has its own actions in front, and none after them
 own-first : (j : ℕ) (order : List ℕ) (s : Schedule) → member j order ≡ false → own j (serial (j ∷ order) s) ≡ own j s
 unfolding serial
 own-first j order s f =

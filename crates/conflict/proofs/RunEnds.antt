@@ -30,7 +30,7 @@ commits-at j (Ends o i ∷ l) (suc n) m f a =
     by-test (eqb i j) (λ t. absurd (f 0 (omega arith) (o, (omega arith, ap (Ends o) (eqb-true i j t)))))
     (λ g. rw g (commits-at j l n m (λ k s x. f (suc k) (omega arith) (x .0, (omega (arith, x .1 .0), x .1 .1))) (omega (arith, a .0), a .1)))
 
--- where there is none it does not
+-- without a mark it does not commit
 commits-none : (j : ℕ) (l : History) → ((k : ℕ) → MarkAt l k j → ⊥) → commits j l ≡ false
 unfolding commits
 commits-none j [] f = refl
@@ -57,7 +57,7 @@ none-ended j (Ends o i ∷ l) f zero x = let s : i ≡ j = let q = x .1 .1 in cc
 none-ended j (Ends o i ∷ l) f (suc k) x =
     by-test (eqb i j) (λ t. not-both refl (rw t at f)) (λ g. none-ended j l (rw g at f) k (x .0, (omega (arith, x .1 .0), x .1 .1)))
 
--- only a commit is one
+-- the only mark that is a commit is `Commit`
 commit-is : (m : Mark) → isCommit m ≡ true → m ≡ Commit
 unfolding isCommit
 commit-is Commit e = refl

@@ -22,7 +22,7 @@ use Rattle.conflict.specs.DirtyRuns.{LineAt, MarkAt, Run, InRun}
 pub act-no-mark : {P : Type 0} {a : Action} {m : Mark} {j : ℕ} → Does a ≡ Ends m j → P
 act-no-mark e = let z : _≡_ {A = ℕ} 0 1 = cc in absurd (omega arith)
 
--- a line within the history reads the same whatever stands for one that is not there
+-- a line within the history reads the same whatever the default for a missing line
 any-line : (h : History) (k : ℕ) (x y : Event) → k < length h → getD h k x ≡ getD h k y
 any-line [] k x y l = absurd (omega arith)
 any-line (e ∷ h) zero x y l = refl
@@ -32,7 +32,7 @@ any-line (e ∷ h) (suc k) x y l = any-line h k x y (omega arith)
 pub line-one : (h : History) (k : ℕ) (x y : Event) → LineAt h k x → LineAt h k y → x ≡ y
 line-one h k x y a b = sym (a .1) ∙ any-line h k x y (a .0) ∙ b .1
 
--- every line within is some event
+-- every line within the history is some event
 line-some : (h : History) (k : ℕ) → k < length h → (e : Event) × LineAt h k e
 line-some h k l =
     let none′ : Event = Ends Commit 0 in
@@ -55,7 +55,7 @@ shifted-back h u x l p q s k e a =
     let size : length h ≡ length u + suc (length l) = ap length q ∙ length-append u (x ∷ l) in
     (omega (arith, a .0), sym (getD-append-add u (x ∷ l) (suc k) e) ∙ sym (ap (λ g. getD g (length u + suc k) e) q) ∙ ap (λ m. getD h m e) (sym n) ∙ a .1)
 
--- equal marks are one job's
+-- equal marks belong to one job
 same-job : {m n : Mark} {i j : ℕ} → Ends m i ≡ Ends n j → i ≡ j
 same-job e = cc
 

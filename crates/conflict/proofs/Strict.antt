@@ -19,7 +19,7 @@ use Rattle.conflict.proofs.Edges.{touches-cases, touches-other, edge-he
 use Rattle.conflict.proofs.Marks.{listed, commits-marked}
 use Rattle.conflict.proofs.Committed.{committed-is, committed-has, commit-order-once}
 
--- an action that does not conflict with the first touches only what stands behind it
+-- an action that does not conflict with the first conflicts only with later ones
 touches-rest : (a : Action) (j : ℕ) (b : Action) (kept : Bool) (s : Schedule) → conflicts a b ≡ false → touches a j (keep kept b s) ≡ true → touches a j s ≡ true
 unfolding keep
 touches-rest a j b true s n t = touches-cases a j b s t (λ m c. not-both c n) (λ l. l)

@@ -20,7 +20,7 @@ use Rattle.desk_io.specs.declared.Front.{Front}
 use Rattle.desk_io.specs.declared.Program.{Program}
 use Rattle.desk_io.specs.Serving.{programBy, startedFront, Saw}
 
--- a clerk keeps his method
+-- a clerk keeps its method
 method-kept : (m : Method) (text : List ℕ) → clerkAfter (startedClerk m) text .desks .method ≡ m
 method-kept m text = ap (λ (d : Desks). d .method) (clerk-desk m text) ∙ started-method (run-started (at-start firstNumber (omega arith) (omega arith)) 1 (linesOf text))
 

@@ -20,7 +20,7 @@ use Rattle.desk_io.specs.declared.Called.{Called}
 use Rattle.desk_io.specs.declared.Served.{Served}
 use Rattle.desk_io.specs.Serving.{frontAfter, Turned, HandsOn, Serves, Saw}
 
--- a front that has seen some bytes and then others has seen them one behind the other
+-- a front that has seen some bytes and then others has seen them joined
 front-append : (f : Front) (a b : List ℕ) → frontAfter f (a ++ b) ≡ frontAfter (frontAfter f a) b
 front-append f a b i = record { view = f .view; clerk = clerk-append (f .clerk) a b i }
 
@@ -44,7 +44,7 @@ call-turned f chunk from out {w} {after} h l e g =
 pub handed-on : (c : Called) (out : List ℕ) {bytes : List ℕ} → bytes ≡ take (c .at) out → HandsOn c out bytes
 handed-on c out e f chunk from t = e ∙ t .records
 
--- the bytes of a chunk up to a place, and from there on up to another
+-- the bytes of a chunk up to a place, and then from there to another
 up-to : (chunk : List ℕ) (from to : ℕ) → from ≤ to → take from chunk ++ part chunk from to ≡ take to chunk
 up-to chunk from to h = let e : from + (to - from) ≡ to = omega arith in sym (take-add from (to - from) chunk) ∙ ap (λ n. take n chunk) e
 

@@ -40,7 +40,7 @@ closing-fits Answers = omega arith
 closing-fits History = omega arith
 closing-fits Chains = omega arith
 
--- by why no more is read
+-- a proof by why no more is read
 by-why : {h : Halted} {why : Halt} {at : ℕ} {out : List ℕ} → h .why ≡ why → at ≤ length out → ((m : Method) (text : List ℕ) → h .front .clerk ≡ clerkAfter (startedClerk m) text → Makes m (h .front .view) why text (take at out)) → Rests h at out
 by-why {h} {at = at} {out} e w r =
     record {
@@ -54,7 +54,7 @@ module _ (h : Halted) (out : List ℕ) (room : programRoom (h .front .view) ≤ 
     makes-all : (m : Method) (text : List ℕ) → h .front .clerk ≡ clerkAfter (startedClerk m) text → MakesAll m (h .front .view) text (take at after)
     makes-all m text k = rw (e, f) (ended-all m (h .front .view) (h .front .clerk) text k out room)
 
-    -- and stands within it
+    -- and lies within it
     ends-there : at ≤ length after
     ends-there = rw (e, f) (ends-within (h .front .view) (h .front .clerk) out 0 (omega arith))
 

@@ -63,7 +63,7 @@ module _ {d : Desk} (v : Inv d) where
       let l : j < i = way-younger v c (record { job = j; ask = a }) e i (n .way) in
       (λ m h. let g = chain-above y m h in omega arith, chain-rises y)
 
-  -- it has no more than one job more than there are younger ones
+  -- it has at most one job more than there are younger ones
   chain-short : {j : ℕ} {js : List ℕ} → IsChain d j js → length js ≤ suc (youngerThan j (d .jobs))
   chain-short (runs e) = omega arith
   chain-short (waits {j} {i} c a e n y) =

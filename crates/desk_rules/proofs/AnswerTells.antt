@@ -37,7 +37,7 @@ pub record Tells (d : Desk) (r : Request) (i j : ℕ) (o : Outcome) (P : Type 0)
   pub outcome : step d r ≡ o
   pub was : P
 
--- two goes are of one job
+-- two equal goes name one job
 same-go : {i j : ℕ} → Go i ≡ Go j → j ≡ i
 same-go e = cc
 
@@ -119,12 +119,12 @@ ask-went d r a j e g = by-move (step-moved d r) refl g
 abbrev pub Joins : Desk → Request → Ask → List Waiter → Type 0
 Joins d r a q = Joined (isFree (d .row (r .cell) .held (r .job))) (asker r a) (d .row (r .cell) .queue) q
 
--- a move by which a job that asks is held up: it waits in the queue that it joins, or is sent back
+-- a move that holds an asking job up: the job waits in the queue that it joins, or is sent back
 data HeldUp (d : Desk) (r : Request) : Outcome → Type 0 where
   waits : (a : Ask) (q : List Waiter) → Asking d r a → Joins d r a q → HeldUp d r (standing d (r .job) (r .cell) a q)
   leaves : (a : Ask) → Asking d r a → Elder d (r .job) (r .cell) → HeldUp d r (rule4 d (r .job) sentback (d .jobs) (Back (r .job)))
 
--- every move that answers neither go nor a refusal is such
+-- every move that answers neither go nor a refusal is of this kind
 held-up : {d : Desk} {r : Request} {o : Outcome} → Moved d r o → goesOrRefuses (o .said) ≡ false → HeldUp d r o
 unfolding refused rule4
 held-up (refuses why _) e = not-both refl e
@@ -148,7 +148,7 @@ pub record Waited (d : Desk) (r : Request) (j : ℕ) : Type 0 where
   pub joins : Joins d r ask queue
   pub outcome : step d r ≡ queued d (r .job) (r .cell) ask queue
 
--- two waits are of one job
+-- two equal waits name one job
 same-wait : {i j : ℕ} → Wait i ≡ Wait j → j ≡ i
 same-wait e = cc
 
@@ -160,7 +160,7 @@ ask-waited d r j g = by-move (held-up (step-moved d r) (ap goesOrRefuses g)) ref
     by-move (waits a q k p) h e = record { job = same-wait e; ask = a; asking = k; queue = q; joins = p; outcome = unfold queued in h }
     by-move (leaves a k x) h e = unfold rule4 in other-answer e refl
 
--- two sendings back are of one job
+-- two equal sendings back name one job
 same-back : {i j : ℕ} → Back i ≡ Back j → j ≡ i
 same-back e = cc
 

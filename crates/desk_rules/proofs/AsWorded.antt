@@ -41,7 +41,7 @@ is-closed running f = not-both refl f
 is-closed (waiting c a) f = not-both refl f
 is-closed sentback f = not-both refl f
 
--- 1 is due for another kind, whatever else
+-- 1 is due for a request of another kind, whatever else it says
 other-due : (d : Desk) (x : Lettered) (s : Status) (c : ℕ) → otherKind x ≡ true → dueBy d x s c ≡ some UnknownKind
 unfolding dueBy holds order firstOf
 other-due d Unknown s c t = refl
@@ -63,7 +63,7 @@ module _ (d : Desk) (r : Request) where
   unfolding dueOf
   begin-due b = ap (λ k. dueBy d (letterOf k) (d .stat (r .job)) (r .cell)) b
 
-  -- what every desk refuses is due
+  -- a refusal that every desk gives is due
   alike-due : DeskLimits (d .next) (d .jobs) (λ j. isOpen (d .stat j)) → {n : ℕ} → RefusedAlike (λ j. isOpen (d .stat j)) (d .next) (d .stat (r .job) ≡ running) r n → (why : Refusal) × Due d r why × (numberOf why ≡ n)
   unfolding dueBy holds order firstOf isOpen
   alike-due l (other-kind f) = (UnknownKind, unfold dueOf in other-due d (letterOf (r .kind)) (d .stat (r .job)) (r .cell) (none-of-eight (r .kind) f), refl)
@@ -72,7 +72,7 @@ module _ (d : Desk) (r : Request) where
   alike-due l (all-open b p o) = (AllOpen, begin-due b ∙ six-due (d .next) (d .jobs) p (none-free l o), refl)
   alike-due l (no-number-left b p) = (NoNumberLeft, begin-due b ∙ seven-due (d .next) (d .jobs) p, refl)
 
-  -- and so is what this desk refuses
+  -- and so is a refusal of this desk
   worded-due : DeskLimits (d .next) (d .jobs) (λ j. isOpen (d .stat j)) → {n : ℕ} → RefusedAs d r n → (why : Refusal) × Due d r why × (numberOf why ≡ n)
   unfolding dueBy holds order firstOf isOpen
   worded-due l (alike w) = alike-due l w

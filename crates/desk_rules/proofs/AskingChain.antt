@@ -67,7 +67,7 @@ module _ (d : Desk) (j : ℕ) (list : List ℕ) where
       go (waiting c a) e = live-way (waiting-live e)
       go sentback e = went-back e (back-due e)
 
--- two refusals that are the same have the same number
+-- equal refusals have equal numbers
 same-refusal : {x y : Refusal} → No x ≡ No y → numberOf x ≡ numberOf y
 same-refusal e = cc
 
@@ -79,18 +79,18 @@ jobs-no e = let z : _≡_ {A = ℕ} 0 1 = cc in absurd (omega arith)
 other-status : {P : Type 0} → closed ≡ sentback → P
 other-status e = let z : _≡_ {A = ℕ} 0 1 = cc in absurd (omega arith)
 
--- so many jobs are so many
+-- equal answers tell equal counts
 same-jobs : {n m : ℕ} → Jobs n ≡ Jobs m → n ≡ m
 same-jobs e = cc
 
 module _ {d : Desk} (v : Inv d) (j : ℕ) (list : List ℕ) where
   -- what the answer to a refused question is like
   module _ (x : Refusal) (e : askChain d j list ≡ record { said = No x; list = list }) where
-    -- another refusal it is not
+    -- it is not another refusal
     other-refusal : {P : Type 0} {y : Refusal} → askChain d j list .said ≡ No y → numberOf x ≢ numberOf y → P
     other-refusal h n = absurd (n (same-refusal (sym (ap (λ o. o .said) e) ∙ h)))
 
-    -- nor is it an answer
+    -- nor a count of jobs
     not-answered : {P : Type 0} {n : ℕ} → askChain d j list .said ≡ Jobs n → P
     not-answered h = jobs-no (sym h ∙ ap (λ o. o .said) e)
 

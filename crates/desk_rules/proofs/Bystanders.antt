@@ -26,7 +26,7 @@ use Rattle.desks.proofs.Places.{seated-others, vacated-others}
 use Rattle.desk_rules.proofs.Wakes.{others-stay}
 use Rattle.desk_rules.proofs.RunEnd.{wakesAfter}
 
--- at the end of a job's run another that is not woken stays as it was
+-- at the end of a job's run, another job that is not woken stays as it was
 ended-others : (d : Desk) (j : ℕ) (s : Status) (js : List ℕ) (said : Answer) (i : ℕ) → i ≢ j → isWoken i (rule4 d j s js said .wakes) ≡ false → rule4 d j s js said .desk .stat i ≡ d .stat i
 unfolding rule4
 ended-others d j s js said i n f = others-stay (at (d .stat) j s) (wakesAfter d j) i f ∙ at-other (d .stat) j s i n
@@ -37,7 +37,7 @@ module _ (d : Desk) (r : Request) (i : ℕ) (n : i ≢ named d r) where
   unfolding named
   not-job e f q = n (q ∙ rw (e, f))
 
-  -- nor the new one, where it is
+  -- nor is it the new job of a begin
   not-next : letterOf (r .kind) ≡ Known Begin → i ≢ d .next
   unfolding named
   not-next e q = n (q ∙ rw e)

@@ -19,7 +19,7 @@ pub fewer-younger : {d : Desk} → Inv d → (c : ℕ) (w : Waiter) → d .stat 
 fewer-younger {d} v c w k i n =
     younger-less i (w .job) (d .jobs) (way-younger v c w k i (n .way)) (v .seats i (live-open (d .stat i) (way-live v c w k i (n .way))))
 
--- with as many looks as there are younger jobs the chain comes to its end
+-- as many looks as there are younger jobs are enough to reach the chain's end
 is-chain-by : {d : Desk} → Inv d → (n j : ℕ) → youngerThan j (d .jobs) ≤ n → isLive (d .stat j) ≡ true → IsChain d j (chainBy n d j)
 unfolding chainBy onward
 is-chain-by {d} v zero j l h =

@@ -28,15 +28,15 @@ use Rattle.desk_rules.proofs.Kept.{step-inv}
 use Rattle.desk_rules.proofs.Numbers.{next-rises}
 
 module _ {d : Desk} (v : Inv d) (j : ℕ) (e : d .stat j ≡ closed) where
-  -- a closed job is not one that is open
+  -- a closed job is not an open one
   other-job : (i : ℕ) → isOpen (d .stat i) ≡ true → j ≢ i
   other-job i o q = not-both (ap (λ k. isOpen (d .stat k)) q ∙ o) (closed-not-open e)
 
-  -- where one open job's status changes, a closed job stays closed
+  -- if an open job's status changes, a closed job stays closed
   stays-at : (i : ℕ) (s : Status) → isOpen (d .stat i) ≡ true → at (d .stat) i s j ≡ closed
   stays-at i s o = at-other (d .stat) i s j (other-job i o) ∙ e
 
-  -- and so where a run ends
+  -- and also if a run ends
   stays-ended : (i : ℕ) (s : Status) (js : List ℕ) (said : Answer) → isOpen (d .stat i) ≡ true → rule4 d i s js said .desk .stat j ≡ closed
   unfolding rule4
   stays-ended i s js said o =

@@ -36,7 +36,7 @@ by-rule2 : {d : Desk} {r : Request} {a : Ask} → Promotes d r a → step d r �
 unfolding ask
 by-rule2 {d} {r} {a} p = asking-step d r a (p .asking) ∙ rw (p .not-covered, p .holds)
 
--- rule 3 decides for a job new to the cell
+-- rule 3 decides a request of a job new to the cell
 by-rule3 : {d : Desk} {r : Request} {a : Ask} → Enters d r a → step d r ≡ rule3 d (r .job) (r .cell) a
 unfolding ask
 by-rule3 {d} {r} {a} p =
@@ -61,22 +61,22 @@ rule2-front : (d : Desk) (j c : ℕ) (a : Ask) → agrees (d .jobs) (d .row c .h
 unfolding rule2 queued withStatus withRow
 rule2-front d j c a f t = rw (f, t) (at-same (d .row) c _)
 
--- a job new to the cell that waits: the cell has it at the end of its queue
+-- a job new to the cell that waits is at the end of the cell's queue
 rule3-end : (d : Desk) (j c : ℕ) (a : Ask) → (isEmpty (d .row c .queue) && agrees (d .jobs) (d .row c .held) j (needed a)) ≡ false → (olderThanHolders (d .jobs) (d .row c .held) j && olderThanWaiters (d .row c .queue) j) ≡ true → rule3 d j c a .desk .row c ≡ record { held = d .row c .held; queue = d .row c .queue ++ record { job = j; ask = a } ∷ [] }
 unfolding rule3 queued withStatus withRow
 rule3-end d j c a f t = rw (f, t) (at-same (d .row) c _)
 
--- a queue in which somebody stands is not empty
+-- a queue with a waiter is not empty
 not-empty : {w : Waiter} {q : List Waiter} → In w q → isEmpty q ≡ false
 unfolding isEmpty
 not-empty first = refl
 not-empty (later h) = refl
 
--- two tests do not both hold where the first fails
+-- two tests do not both hold if the first fails
 not-first : (a b : Bool) → a ≡ false → (a && b) ≡ false
 not-first a b e = rw e
 
--- nor where the second fails
+-- nor if the second fails
 not-second : (a b : Bool) → b ≡ false → (a && b) ≡ false
 not-second true b e = e
 not-second false b e = refl
@@ -90,17 +90,17 @@ module _ {d : Desk} {h : History} (started : Started d h) (r : Request) (a : Ask
   disagreeing : (m : Mode) (i : ℕ) → Opposed d r m i → agrees (d .jobs) (heldThere d r) (r .job) m ≡ false
   disagreeing m i o = not-agrees (d .jobs) (heldThere d r) (r .job) m seats i (o .holder .other) (o .disagrees)
 
-  -- where another holder is older, the job is not older than every holder
+  -- if another holder is older, the job is not older than every holder
   not-older : (i : ℕ) → OtherHolder d r i → i < r .job → olderThanHolders (d .jobs) (heldThere d r) (r .job) ≡ false
   not-older i o l =
       by-test (olderThanHolders (d .jobs) (heldThere d r) (r .job))
       (λ t. let g : r .job < i = older-holders (d .jobs) (heldThere d r) (r .job) seats t i (o .other) (o .holds) in absurd (omega arith)) (λ f. f)
 
-  -- where every other holder is younger, it is
+  -- if every other holder is younger, it is
   is-older : ((i : ℕ) → OtherHolder d r i → r .job < i) → olderThanHolders (d .jobs) (heldThere d r) (r .job) ≡ true
   is-older h = each-older (d .jobs) (heldThere d r) (r .job) (λ i n f. h i (record { other = n; holds = f }))
 
-  -- where every waiter is younger too, it is older than everybody there
+  -- if every waiter is younger too, it is older than every holder and waiter
   oldest-there : ((i : ℕ) → OtherHolder d r i → r .job < i) → ((w : Waiter) → In w (queueThere d r) → r .job < w .job) → (olderThanHolders (d .jobs) (heldThere d r) (r .job) && olderThanWaiters (queueThere d r) (r .job)) ≡ true
   oldest-there h w = and-both (olderThanHolders (d .jobs) (heldThere d r) (r .job)) (olderThanWaiters (queueThere d r) (r .job)) (is-older h) (each-older-waiters (queueThere d r) (r .job) w)
 
@@ -115,7 +115,7 @@ module _ {d : Desk} {h : History} (started : Started d h) (r : Request) (a : Ask
       each-agrees (d .jobs) (heldThere d r) (r .job) m
       (λ i n. by-test (isFree (heldThere d r i)) (λ t. rw (is-free (heldThere d r i) t) (grants-free m)) (λ f. h i (record { other = n; holds = f })))
 
-  -- where a waiter is older, the job is not older than every waiter
+  -- if a waiter is older, the job is not older than every waiter
   behind : (w : Waiter) → In w (queueThere d r) → w .job < r .job → olderThanWaiters (queueThere d r) (r .job) ≡ false
   behind w s l =
       by-test (olderThanWaiters (queueThere d r) (r .job))

@@ -32,7 +32,7 @@ module _ (d : Desk) (r : Request) where
   is-due : (x why : Refusal) → RefusedAs d r (numberOf x) → some x ≡ some why → RefusedAs d r (numberOf why)
   is-due x why w e = subst (λ y. RefusedAs d r (numberOf y)) (same-why e) w
 
-  -- 3, of a request that names a job
+  -- 3, for a request that names a job
   shut : member (r .kind) withCAT ≡ true → d .stat (r .job) ≡ closed → RefusedAs d r 3
   shut m q = alike (not-open m (unfold isOpen in ap isOpen q))
 

@@ -39,7 +39,7 @@ unfolding standingIn freshDesk idle
 none-standing m zero = refl
 none-standing m (suc n) = omega (arith, none-standing m n)
 
--- another row for a cell changes nothing of the cells before it
+-- another row for a cell does not change the cells before it
 before-cell : (rows : ℕ → Row) (c : ℕ) (x : Row) (n : ℕ) → n ≤ c → standingIn (at rows c x) n ≡ standingIn rows n
 unfolding standingIn
 before-cell rows c x zero h = refl
@@ -54,7 +54,7 @@ at-most-more k rows c x h (suc n) =
     (λ t. let e : n ≡ c = eqb-true n c t in rw (e, at-same rows c x, before-cell rows c x c (omega arith)) (omega arith))
     (λ f. let o : n ≢ c = eqb-false n c f in let m : standingIn (at rows c x) n ≤ k + standingIn rows n = at-most-more k rows c x h n in rw (at-other rows c x n o) (omega arith))
 
--- a job that leaves a queue makes it no longer
+-- a job that leaves a queue does not make it longer
 without-size : (j : ℕ) (q : List Waiter) → length (without j q) ≤ length q
 unfolding without
 without-size j [] = omega arith
@@ -68,7 +68,7 @@ settle-size js held (w ∷ q) =
     by-test (agrees js held (w .job) (wants held w))
     (λ t. rw t (omega (arith, settle-size js (at held (w .job) (wants held w)) q))) (λ f. rw f (omega arith))
 
--- so of a row that is released
+-- the same for a row that is released
 released-size : (js : List ℕ) (j : ℕ) (r : Row) → length (released js j r .woken) + length (released js j r .row .queue) ≤ length (r .queue)
 unfolding released
 released-size js j r = omega (arith, settle-size js (at (r .held) j Free) (without j (r .queue)), without-size j (r .queue))
@@ -98,7 +98,7 @@ unfolding wakeRecords
 wake-size [] = refl
 wake-size (a ∷ ws) = ap suc (wake-size ws)
 
--- a request that goes has one record at most
+-- a request that goes has at most one record
 went-size : (r : Request) (j : ℕ) (l : Lettered) → length (wentBy r j l) ≤ 1
 unfolding wentBy
 went-size r j Unknown = omega arith

@@ -9,7 +9,7 @@ use Rattle.desks.specs.Request.{Request, Alike}
 use Rattle.desk_rules.specs.Desk.{Desk}
 use Rattle.desk_rules.specs.Step.{stepCommit, stepGiveUp, stepRetry, stepAsk, stepBy, step}
 
--- requests that are alike to a letter have the same outcome under it
+-- requests that are alike for a letter have the same outcome
 by-alike : (d : Desk) (r s : Request) (l : Lettered) → Alike l r s → stepBy d r l ≡ stepBy d s l
 unfolding stepBy
 by-alike d r s Unknown e = refl

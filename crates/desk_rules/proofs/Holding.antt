@@ -43,7 +43,7 @@ rule4-keeps : {d : Desk} → Inv d → (j : ℕ) (s : Status) (js : List ℕ) (s
 unfolding rule4
 rule4-keeps v j s js said i c n = row-releases v j c .grown i n
 
--- a mode that covers what the job held is granted
+-- a job is granted a mode that covers what it held
 grant-keeps : (d : Desk) (j b : ℕ) (m : Mode) → covers m (d .row b .held j) ≡ true → (i c : ℕ) → Keeps d (grant d j b m .desk) i c
 unfolding grant withRow
 grant-keeps d j b m h i c =

@@ -31,7 +31,7 @@ module _ {d : Desk} {h : History} (s : Started d h) (r : Request) (a : Ask) (l :
   pub just-asked : StartsToWait d (step d r .desk) r a (r .job)
   just-asked = let w = effects s .waits r (r .job) e in subst (λ b. StartsToWait d (step d r .desk) r b (r .job)) (same-ask (w .1 .asking .letter) l) (w .1)
 
-  -- it had no place in the queue
+  -- it was not in the queue
   no-place-yet : In (asker r a) (d .row (r .cell) .queue) → ⊥
   no-place-yet m = no-place (started-inv s .rows (r .cell)) (r .job) (λ a. running-not-waiting (just-asked .asking .runs)) (asker r a) m refl
 

@@ -25,12 +25,12 @@ use Rattle.desk_rules.proofs.KeptStatus.{no-place}
 use Rattle.desk_rules.proofs.KeptGrant.{grant-inv}
 use Rattle.desk_rules.proofs.KeptQueue.{joins-front, joins-last, queued-inv}
 
--- a queue that the last waiter joins has its first blocked where it had, or where it was empty and that waiter is blocked
+-- when a waiter joins at the end, the queue's first waiter is blocked if it was before, or if the queue was empty and the new waiter is blocked
 last-blocked : (held : ℕ → Mode) (w : Waiter) (q : List Waiter) → FirstBlocked held q → (q ≡ [] → FirstBlocked held (w ∷ [])) → FirstBlocked held (q ++ w ∷ [])
 last-blocked held w [] b f = f refl
 last-blocked held w (v ∷ q) b f = b
 
--- where a queue is empty and a test that asks for that too fails, the rest of the test does
+-- if a queue is empty and a test that also asks for this fails, the rest of the test fails
 empty-not : (q : List Waiter) (b : Bool) → q ≡ [] → (isEmpty q && b) ≡ false → b ≡ false
 unfolding isEmpty
 empty-not q b e h = rw e at h
@@ -40,11 +40,11 @@ module _ {d : Desk} (v : Inv d) (j c : ℕ) (a : Ask) (runs : d .stat j ≡ runn
   holders-seated : Seated (d .jobs) (d .row c .held)
   holders-seated = row-ready v c .seats
 
-  -- the job has no place in the queue
+  -- the job is not in the queue
   asker-no-place : (w : Waiter) → In w (d .row c .queue) → w .job ≢ j
   asker-no-place = no-place (v .rows c) j (λ a. running-not-waiting runs)
 
-  -- where it holds the cell, every waiter is older
+  -- if it holds the cell, every waiter is older
   waiters-older : isFree (d .row c .held j) ≡ false → (w : Waiter) → In w (d .row c .queue) → w .job < j
   waiters-older f w h = v .rows c .elder w j h (λ e. asker-no-place w h (sym e)) f
 

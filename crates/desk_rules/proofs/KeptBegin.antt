@@ -21,7 +21,7 @@ use Rattle.laws.proofs.Functions.{at-other, at-each, at-all}
 use Rattle.desks.proofs.Places.{seated-others, seated-there, seated-once, seated-size, free-nobody, free-once}
 use Rattle.desk_rules.proofs.KeptStatus.{open-number, status-row}
 
--- an idle row is as every row is
+-- an idle row keeps the invariant
 idle-row : (c : ℕ) → RowInv (λ j. closed) c idle
 unfolding idle
 idle-row c = record {

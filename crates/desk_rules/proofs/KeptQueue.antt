@@ -44,7 +44,7 @@ joins-each {old} {w} k P new stay v h = by-side (k .either v h)
     by-side (inl e) = subst P (sym e) new
     by-side (inr l) = stay v l
 
--- the row of the queue that a job joins: it is older than every other holder, the queue falls with it, and its first is blocked
+-- the row of the queue that a job joins, if the job is older than every other holder, the queue falls with it, and its first waiter is blocked
 joined-row : {stat : ℕ → Status} {c : ℕ} {r : Row} → RowInv stat c r → (w : Waiter) (q : List Waiter) → Joins (r .queue) w q → stat (w .job) ≡ running → c < cells → ((i : ℕ) → i ≢ w .job → isFree (r .held i) ≡ false → w .job < i) → Falling q → FirstBlocked (r .held) q → covers (r .held (w .job)) (needed (w .ask)) ≡ false → RowInv (at stat (w .job) (waiting c (w .ask))) c (record { held = r .held; queue = q })
 joined-row {stat} {c} {r} v w q k runs l o f b x = record {
   pairs = v .pairs;

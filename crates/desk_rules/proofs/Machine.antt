@@ -31,7 +31,7 @@ use Rattle.desk_rules.proofs.WakeRecords.{recorded-wake}
 abbrev pub tableOf : Desk → Table
 tableOf d = λ j c. d .row c .held j
 
--- wakes that a table allows are done one after another
+-- wakes that a table allows are actions done one after another
 acts-all : {t : Table} {h : History} → Ran t h → (xs : List Action) → ((a : Action) → In (Does a) (wakeRecords xs) → allows t a ≡ true) → Ran t (h ++ wakeRecords xs)
 unfolding wakeRecords
 acts-all {h = h} k [] f = rw (append-nil h) k

@@ -33,11 +33,11 @@ either : {d : Desk} {r : Request} (b : Bool) {x y : Outcome} → (b ≡ true →
 either true f g = f refl
 either false f g = g refl
 
--- where two tests hold, each does
+-- if two tests both hold, each does
 both : (a b : Bool) → (a && b) ≡ true → (a ≡ true) × (b ≡ true)
 both a b e = (and-first a b e, and-second a b e)
 
--- where two tests do not both hold, one of them fails
+-- if two tests do not both hold, one of them fails
 one-fails : {P : Type 0} (a b : Bool) → (a && b) ≡ false → (a ≡ false → P) → (b ≡ false → P) → P
 one-fails true b e f g = g e
 one-fails false b e f g = f refl
@@ -61,7 +61,7 @@ ask-moved d r a k =
     (λ f. either (agrees (d .jobs) (d .row (r .cell) .held) (r .job) (askedThere d r a)) (promotes a k n f)
     (λ e. either (olderThanHolders (d .jobs) (d .row (r .cell) .held) (r .job)) (waits-in-front a k n f e) (λ h. goes-back a k (no-promotion n f e h)))))
 
--- a cell that is none of the 64 is above 63
+-- a cell that is not one of the 64 is above 63
 cell-above : (c : ℕ) → ltb c cells ≡ false → leb cells c ≡ true
 cell-above c f = le-leb cells c (ltb-false c cells f)
 

@@ -36,7 +36,7 @@ unfolding wakeRecords
 wakes-unmarked f j [] = marked-none f j
 wakes-unmarked f j (a ∷ xs) = marked-does f j a (wakeRecords xs) ∙ wakes-unmarked f j xs
 
--- so nothing follows a mark there
+-- so no event follows a mark there
 wakes-end : (xs : List Action) → endsForGood (wakeRecords xs) ≡ true
 unfolding wakeRecords
 wakes-end [] = good-none
@@ -64,7 +64,7 @@ module _ {d : Desk} (v : Inv d) {r : Request} where
       (self-after v (r .job) s ∙ l (and-second (eqb (r .job) j) (isLast m) t)))
       (λ t. not-both t (wakes-unmarked isLast j (wakesAfter d (r .job))))
 
-  -- in a step's own events nothing of a job follows its c or a
+  -- in a step's own events no event of a job follows its c or a
   wrote-ends : {o : Outcome} {g : History} → Wrote d r o g → endsForGood g ≡ true
   wrote-ends (nothing w) = good-none
   wrote-ends (action a k w c) = good-does (asking r a) [] ∙ good-none

@@ -28,7 +28,7 @@ use Rattle.desk_rules.proofs.ClosedForGood.{closed-through}
 use Rattle.desk_rules.proofs.Numbers.{next-rises-on}
 use Rattle.desks.proofs.StartedThrough.{run-started, after-both}
 
--- where a job is older than every other live job, no older one is live
+-- if a job is older than every other live job, no older one is live
 no-older : (d : Desk) (j : ℕ) → OldestLive d j → (i : ℕ) × (i < j) × (isLive (d .stat i) ≡ true) → ⊥
 no-older d j o (i, l, v) = let g : j < i = o i (omega arith) v in omega arith
 

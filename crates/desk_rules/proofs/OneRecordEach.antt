@@ -25,13 +25,13 @@ use Rattle.desk_rules.proofs.Wakes.{woken-in}
 use Rattle.desk_rules.proofs.RunEnd.{wakesAfter, statusAfter, self-not-woken, self-after, woken-after}
 use Rattle.desk_rules.proofs.Written.{asking, Wrote, nothing, action, mark}
 
--- a job that is not among the wakes has no record of theirs
+-- a job that is not woken has no record among the wakes'
 none-of : (j : ℕ) (xs : List Action) → isWoken j xs ≡ false → recordsFor j (wakeRecords xs) ≡ 0
 unfolding recordsFor wakeRecords isWoken
 none-of j [] f = refl
 none-of j (a ∷ xs) f = rw (nor-first (eqb (a .job) j) (isWoken j xs) f) (omega (arith, none-of j xs (nor-second (eqb (a .job) j) (isWoken j xs) f)))
 
--- where no job is told twice, each has one at most
+-- if no job is told twice, each has at most one
 one-of : (j : ℕ) (xs : List Action) → ((x y : Action) → Before x y xs → x .job ≢ y .job) → recordsFor j (wakeRecords xs) ≤ 1
 unfolding recordsFor wakeRecords
 one-of j [] n = omega arith

@@ -28,7 +28,7 @@ module _ (d : Desk) (j c i : ℕ) where
       at-each (λ x. x .held i ≡ d .row b .held i) (d .row) c (record { held = at (d .row c .held) j m; queue = d .row c .queue }) b
       (λ e. at-other (d .row c .held) j m i n ∙ ap (λ k. d .row k .held i) (sym e)) (λ _. refl)
 
-  -- where a queue changes, everybody does
+  -- when a queue changes, every job holds what it held
   queued-all : (q : List Waiter) (b : ℕ) → at (d .row) c (record { held = d .row c .held; queue = q }) b .held i ≡ d .row b .held i
   queued-all q b = at-each (λ x. x .held i ≡ d .row b .held i) (d .row) c (record { held = d .row c .held; queue = q }) b (λ e. ap (λ k. d .row k .held i) (sym e)) (λ _. refl)
 

@@ -13,7 +13,7 @@ use Rattle.desk_rules.specs.Effects.{StartsToWait}
 use Rattle.laws.proofs.Functions.{at-same, at-other, at-each}
 use Rattle.desk_rules.proofs.AnswerTells.{Joins, Waited}
 
--- waiting in a queue that joins the job as the rules say
+-- waiting in a queue that the job joins as the rules say
 queued-waits : (d : Desk) (r : Request) (a : Ask) (q : List Waiter) → Asking d r a → Joins d r a q → StartsToWait d (queued d (r .job) (r .cell) a q .desk) r a (r .job)
 unfolding queued withStatus withRow
 queued-waits d r a q k h =

@@ -63,7 +63,7 @@ row-holds d r why e = first-holds (holds (letterOf (r .kind)) (d .stat (r .job))
 due-number : (d : Desk) (r : Request) (why : Refusal) → Due d r why → (1 ≤ numberOf why) × (numberOf why ≤ 8)
 due-number d r why e = row-number (letterOf (r .kind)) (d .stat (r .job)) (r .cell) d why (row-holds d r why e)
 
--- a wait and a back are answers to requests for a cell alone
+-- only requests for a cell are answered wait or back
 only-cells : (d : Desk) (r : Request) → letterIs asksNoCell (letterOf (r .kind)) ≡ true → goesOrRefuses (step d r .said) ≡ true
 only-cells d r k = by-answer (step d r .said) refl
   where

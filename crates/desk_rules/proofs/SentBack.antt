@@ -48,11 +48,11 @@ closed-not-back : closed ≢ sentback
 closed-not-back e = let z : _≡_ {A = ℕ} 0 1 = cc in omega arith
 
 module _ {d : Desk} (v : Inv d) (j : ℕ) (live : isLive (d .stat j) ≡ true) where
-  -- where another status than sent back is given to a job, no live job is sent back
+  -- if a job gets a status other than sent back, no live job is sent back
   not-back-at : {P : Type 0} (i : ℕ) (s : Status) → s ≢ sentback → at (d .stat) i s j ≡ sentback → P
   not-back-at i s n e = absurd (at-each (λ x. x ≢ sentback) (d .stat) i s j (λ _. n) (λ _. live-not-back live) e)
 
-  -- nor where a run ends with it
+  -- nor if a run ends with that status
   not-back-ended : {P : Type 0} (i : ℕ) (s : Status) (js : List ℕ) (said : Answer) → s ≢ sentback → rule4 d i s js said .desk .stat j ≡ sentback → P
   unfolding rule4
   not-back-ended i s js said n e =

@@ -50,7 +50,7 @@ module _ {d : Desk} (v : Inv d) (r : Request) (rs : List Request) (c : ℕ) (w :
     granted = g;
   }
 
-  -- it waits on in the first, and is served in the rest
+  -- it still waits in the first, and is served in the rest
   served-later : IsWaiting (step d r .desk) c w → Served (from (step d r .desk)) c w rs → Served (from d) c w (r ∷ rs)
   unfolding writes
   served-later h s = record {
@@ -88,7 +88,7 @@ waits-on : {d : Desk} → Inv d → (c : ℕ) (w : Waiter) (rs : List Request) �
 waits-on v c w [] k p = inl k
 waits-on v c w (r ∷ rs) k p = one-more v r rs c w k p (waits-on (step-inv v r) c w rs)
 
--- of two, where not the one, the other
+-- if one of two fails, the other holds
 otherwise : {A B : Type 0} → A ⊎ B → (A → ⊥) → B
 otherwise (inl a) n = absurd (n a)
 otherwise (inr b) n = b

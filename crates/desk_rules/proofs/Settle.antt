@@ -74,7 +74,7 @@ taking-pairs held j m g p i k n =
     (λ d. at-each (λ x. beside (held i) x ≡ true) held j m k (λ e. grants-beside (held i) m (g i d)) (λ _. p i k n))
 
 module _ (js : List ℕ) (held : ℕ → Mode) (w : Waiter) (q : List Waiter) (r : Ready js held (w ∷ q)) where
-  -- once the first waiter is granted, the row can be settled further: it is younger than the waiters left, because the queue falls
+  -- once the first waiter is granted, the rest of the row can be settled: that job is younger than the waiters left, because the queue falls
   granted-ready : agrees js held (w .job) (wants held w) ≡ true → Ready js (at held (w .job) (wants held w)) q
   granted-ready a = record {
     seats = λ i. at-each (λ x. isFree x ≡ false → member i js ≡ true) held (w .job) (wants held w) i
@@ -96,12 +96,12 @@ module _ (js : List ℕ) (held : ℕ → Mode) (w : Waiter) (q : List Waiter) (r
   wanted : (s : Settled) → Settles js (at held (w .job) (wants held w)) q s → (v : Waiter) → In v (s .woken) → wants (at held (w .job) (wants held w)) v ≡ wants held v
   wanted s t v l = wants-same (at held (w .job) (wants held w)) held v (at-other held (w .job) (wants held w) (v .job) (woken-other s t v l))
 
-  -- what was granted to it beside another job than the first was so beside what that job held
+  -- what it was granted beside a job other than the first, it was granted beside what that job held
   after-first : (s : Settled) (t : Settles js (at held (w .job) (wants held w)) q s) (v : Waiter) → In v (s .woken) → (i : ℕ) → i ≢ w .job →
       grants (at held (w .job) (wants held w) i) (wants (at held (w .job) (wants held w)) v) ≡ true → grants (held i) (wants held v) ≡ true
   after-first s t v l i n g = rw (wanted s t v l, at-other held (w .job) (wants held w) i n) at g
 
-  -- and what was so settled, with the first waiter woken, is the row settled
+  -- and the row settled from there, with the first waiter woken, is the row settled
   granted-settles : agrees js held (w .job) (wants held w) ≡ true → (s : Settled) → Settles js (at held (w .job) (wants held w)) q s → Settles js held (w ∷ q) (wokenFirst w s)
   unfolding wokenFirst
   granted-settles a s t = record {

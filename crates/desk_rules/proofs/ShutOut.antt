@@ -53,7 +53,7 @@ module _ {d : Desk} (v : Inv d) (x c : ℕ) where
       (λ w k e. not-both (subst (λ y. isFree (after y) ≡ true) e (none-granted w k j (λ p. n (sym (p ∙ e))) h g)) f)
       (λ none. row-releases v x c .kept i (not-ended i f) none)
 
-  -- a waiter that is granted U is granted it ahead of every older waiter, which then is not granted
+  -- a waiter that is granted U is granted it ahead of every older waiter, and that one is then not granted
   older-not-granted : (u w : Waiter) → In u (rowsAfter d x c .woken) → In w (rowsAfter d x c .woken) → w .job < u .job → after (u .job) ≡ U → isFree (after (w .job)) ≡ true
   older-not-granted u w k l o e =
       let t = row-releases v x c in

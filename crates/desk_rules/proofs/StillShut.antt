@@ -24,7 +24,7 @@ use Rattle.desk_rules.proofs.Holding.{moved-held}
 use Rattle.desks.proofs.StartedThrough.{after-both, wrote-both}
 use Rattle.desk_rules.proofs.ShutOut.{moved-beside}
 
--- of two parts of a history in which no run of the job ends, it ends in neither
+-- if no run of the job ends in a history of two parts, none ends in either
 neither : (j : ℕ) (g h : History) → ended j (g ++ h) ≡ false → (ended j g ≡ false) × (ended j h ≡ false)
 neither j g h e =
     let f = sym (ended-append j g h) ∙ e in

@@ -88,13 +88,13 @@ each-older-waiters q j h =
     (λ n. let (w, k, l) = not-older-waiters q j n in let g : j < w .job = h w k in absurd (omega arith))
 
 module _ (f : Mode → ℕ → Bool) (js : List ℕ) (held : ℕ → Mode) (j : ℕ) where
-  -- a test over all other holders, which nothing held passes, says so of every other job
+  -- a test over all other holders that passes for a job holding nothing holds for every other job
   others-each : ((i : ℕ) → isFree (held i) ≡ true → f (held i) i ≡ true) → Seated js held → every (λ i. eqb i j || f (held i) i) js ≡ true → (i : ℕ) → i ≢ j → f (held i) i ≡ true
   others-each free seats h i n =
       by-test (isFree (held i)) (free i)
       (λ k. rw (ne-eqb i j n) at (every-each (λ i. eqb i j || f (held i) i) js h i (seats i k)))
 
-  -- where it fails, it fails for another job
+  -- if it fails, it fails for some other job
   others-not : every (λ i. eqb i j || f (held i) i) js ≡ false → (i : ℕ) × (i ≢ j) × (f (held i) i ≡ false)
   others-not h = told (every-not (λ i. eqb i j || f (held i) i) js h)
     where

@@ -41,7 +41,7 @@ abbrev Locked : Desk → Request → Desk → Action → Type 0
 Locked d r e x = (a : Ask) × AskedBy d r x a × UnderLock e x a
 
 module _ {d : Desk} (v : Inv d) {r : Request} where
-  -- an action that is woken when a run ends
+  -- an action of a job that is woken when a run ends
   woken-locked : (e : Desk) (x : Action) → ((c : ℕ) → e .row c ≡ rowsAfter d (r .job) c .row) → GrantedAt (rowsAfter d (r .job)) cells x → Locked d r e x
   unfolding wake
   woken-locked e x q k =

@@ -52,12 +52,12 @@ use Rattle.desk_rules.proofs.Records.{recorded}
 use Rattle.desk_rules.proofs.ShutOut.{moved-beside, moved-got}
 use Rattle.desk_rules.proofs.StillShut.{step-shuts, still-shuts, run-inv, fewer-through, same-between}
 
--- the table has the same due of a u as of a read
+-- the table has the same due for a u as for a read
 same-row : (d : Desk) (s : Status) (c : ℕ) → dueBy d (Known (Asks Update)) s c ≡ dueBy d (Known (Asks asks-read)) s c
 unfolding dueBy holds order firstOf
 same-row d s c = refl
 
--- so of two requests with the same job and cell
+-- so the same for two requests with the same job and cell
 same-due : (d : Desk) (r s : Request) → letterOf (r .kind) ≡ Known (Asks Update) → letterOf (s .kind) ≡ Known (Asks asks-read) → r .job ≡ s .job → r .cell ≡ s .cell → dueOf d r ≡ dueOf d s
 unfolding dueOf
 same-due d r s e f p q =
@@ -76,7 +76,7 @@ module _ {d : Desk} {h : History} (s : Started d h) where
       let m : askedThere d r Update ≡ U = asked-free (ownMode d r) (needed Update) (e .holds-nothing) ∙ needs-exactly .3 in
       ⊎-elim (λ f. not-both (rw f free-is-free) (o .holds)) (λ f. f) (promotion-to-u (heldThere d r i) .0 (rw m at a))
 
-  -- where every other holder has S, u goes
+  -- if every other holder has S, u goes
   goes-beside-s : (r : Request) → Enters d r Update → queueThere d r ≡ [] → ((i : ℕ) → OtherHolder d r i → heldThere d r i ≡ S) → step d r .said ≡ Go (r .job)
   goes-beside-s r e q all = decides s r Update .entry-goes e q (λ i o. rw (all i o, needs-exactly .3) (beside-held-s U .1 (inr (inr refl))))
 
@@ -86,7 +86,7 @@ module _ {d : Desk} {h : History} (s : Started d h) where
       not-both (sym (shut-grants (heldThere d r i) (askedThere d r a) t) ∙ decides s r a .goes-agreeing k n g i o)
       (covers-not-free (askedThere d r a) a (asked-covers (ownMode d r) (needed a)))
 
-  -- a covering mode goes by rule 1
+  -- a request that a held mode covers goes by rule 1
   goes-covered : (r : Request) (a : Ask) → Asking d r a → covers (ownMode d r) (needed a) ≡ true → GoesUnchanged (from d) r
   goes-covered r a k c = let t = decides s r a .has-it k c in record { goes = t .0; desk = t .1; wakes = t .2 }
 
@@ -137,7 +137,7 @@ module _ {d : Desk} {h : History} (s : Started d h) where
             (same-between c j w some more i n t) (u .goes-on) g ∙ z ∙ here;
       }
 
-  -- a job is sent back from its U only where there is such a job
+  -- a job is sent back from its U only if there is such a job
   behind-s : (got : Request) (rest : List Request) (r : Request) (j c : ℕ) → HasU (from d) got rest j c → r .job ≡ j → r .cell ≡ c → step (deskAfter (step d got .desk) rest) r .said ≡ Back j → (i : ℕ) × (i < j) × HeldSince (from d) got rest i c
   behind-s got rest r j c u e f b =
       let w = step-inv v got in

@@ -67,7 +67,7 @@ last-joins w r u n = record { hold = refl; ways = λ i k. by-way i k }
     by-way i (ahead v e a) = ahead v e (ahead-last (r .queue) (λ p. n (ap (λ x. x .job) p)) a)
 
 module _ {d : Desk} (v : Inv d) (r : Request) (c : ℕ) (w : Waiter) (k : IsWaiting d c w) where
-  -- a job that runs is another
+  -- a job that runs is another job
   runs-other : (j : ℕ) → d .stat j ≡ running → w .job ≢ j
   runs-other j e p = running-not-waiting e (sym (ap (d .stat) p) ∙ k)
 
@@ -79,11 +79,11 @@ module _ {d : Desk} (v : Inv d) (r : Request) (c : ℕ) (w : Waiter) (k : IsWait
   next-other : w .job ≢ d .next
   next-other = let l : w .job < d .next = v .below (w .job) (waiting-open k) in omega arith
 
-  -- where one row is changed, the waiter's is undisturbed if it is whenever it is that one
+  -- when one row changes, the waiter's row is undisturbed, provided that it is if the changed row is its own
   one-row : (b : ℕ) (new : Row) → (IsWaiting d b w → Undisturbed w (d .row b) new) → Undisturbed w (d .row c) (at (d .row) b new c)
   one-row b new h = at-all (λ x y. IsWaiting d x w → Undisturbed w (d .row x) y) (d .row) b new h (λ x _ _. same-row w (d .row x)) c k
 
-  -- where another job's status is changed, it still waits
+  -- if another job's status changes, the waiter still waits
   waits-still : (j : ℕ) (s : Status) → w .job ≢ j → at (d .stat) j s (w .job) ≡ waiting c (w .ask)
   waits-still j s n = at-other (d .stat) j s (w .job) n ∙ k
 

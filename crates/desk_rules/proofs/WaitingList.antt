@@ -25,7 +25,7 @@ rising-last (k ∷ ns) n r h = (
   rising-last ns n (r .1) (λ m t. h m (member-more k ns m t)),
 )
 
--- one more where it is to be listed
+-- one more job, if it is to be listed
 put-last : (b : Bool) (ns : List ℕ) (n : ℕ) → (b ≡ true → ns ++ put b n [] ≡ ns ++ n ∷ []) × (b ≡ false → ns ++ put b n [] ≡ ns)
 unfolding put
 put-last true ns n = (λ _. refl, λ f. not-both refl f)

@@ -54,7 +54,7 @@ pub before-second : {x y : Action} {xs : List Action} → Before x y xs → In y
 before-second (next h) = later h
 before-second (further b) = later (before-second b)
 
--- of two lists of wakes: both are of the first, or both of the second, or the first of the first and the second of the second
+-- in two lists of wakes joined: both wakes are in the first, or both in the second, or one in each, in that order
 before-either : {P : Type 0} {x y : Action} (a b : List Action) → Before x y (a ++ b) → (Before x y a → P) → (In x a → In y b → P) → (Before x y b → P) → P
 before-either [] b h f g k = k h
 before-either {x = x} {y = y} (z ∷ a) b h f g k =
@@ -71,7 +71,7 @@ in-at c (v ∷ q) {x} h = in-split h (λ e. (v, first, e)) (λ k. more (in-at c 
     more : (w : Waiter) × In w q × (x ≡ wake c w) → (w : Waiter) × In w (v ∷ q) × (x ≡ wake c w)
     more (w, i, e) = (w, later i, e)
 
--- and tells that cell
+-- and names that cell
 cell-at : (c : ℕ) (q : List Waiter) {x : Action} → In x (wakesAt c q) → x .cell ≡ c
 unfolding wake
 cell-at c q h = let (w, i, e) = in-at c q h in ap (λ t. t .cell) e
@@ -92,12 +92,12 @@ at-ahead c (u ∷ q) {x} {y} b =
     more : (v : Waiter) × (w : Waiter) × (x ≡ wake c v) × (y ≡ wake c w) × Ahead v w q → (v : Waiter) × (w : Waiter) × (x ≡ wake c v) × (y ≡ wake c w) × Ahead v w (u ∷ q)
     more (v, w, e, k, a) = (v, w, e, k, waiting.further a)
 
--- a wake that was granted at one of some cells tells one of them
+-- a wake that was granted at one of some cells names one of them
 cell-below : {s : ℕ → Settled} {n : ℕ} {x : Action} → GrantedAt s n x → x .cell < n
 unfolding wake
 cell-below g = let e = ap (λ t. t .cell) (g .is) in let l = g .below in omega arith
 
--- and was granted at one of some cells more
+-- and was granted at one of a larger set of cells
 one-more : {s : ℕ → Settled} {n : ℕ} {x : Action} → GrantedAt s n x → GrantedAt s (suc n) x
 one-more g = record { cell = g .cell; below = omega (arith, g .below); waiter = g .waiter; granted = g .granted; is = g .is }
 

@@ -30,13 +30,13 @@ use Rattle.desk_rules.proofs.RunEnded.{ran}
 abbrev jobsOf : List Action → List ℕ
 jobsOf xs = map (λ (x : Action). x .job) xs
 
--- to be among the wakes is to be one of their jobs
+-- a job is woken exactly if it is among these jobs
 woken-named : (j : ℕ) (xs : List Action) → member j (jobsOf xs) ≡ isWoken j xs
 unfolding member isWoken
 woken-named j [] = refl
 woken-named j (x ∷ xs) = ap (λ b. eqb (x .job) j || b) (woken-named j xs)
 
--- where no job is told twice, they are named once
+-- if no job is told twice, they are named once
 named-once : (xs : List Action) → ((x y : Action) → Before x y xs → x .job ≢ y .job) → distinct (jobsOf xs) ≡ true
 unfolding distinct
 named-once [] apart = refl

@@ -94,7 +94,7 @@ module _ {d : Desk} {h : History} (s : Started d h) (r : Request) where
   v : Inv d
   v = started-inv s
 
-  -- of two wakes the earlier one comes first in the search of rule 4
+  -- of two wakes the one told first comes first in the search of rule 4
   searched : {x y : Action} → Before x y (step d r .wakes) → Searched (rowsAfter d (r .job)) x y
   searched {x} {y} b = search-order (rowsAfter d (r .job)) cells .ordered (subst (Before x y) (wake-ran d r x (before-first b) .0 .wakes) b)
 
@@ -103,7 +103,7 @@ module _ {d : Desk} {h : History} (s : Started d h) (r : Request) where
   unfolding wake
   left-with c w i t y e a q = rw (e, t .row c) (granted-exactly v (r .job) c w i a (rw e at q))
 
-  -- and on another
+  -- and on every other cell
   left-elsewhere : (b : ℕ) (u : Waiter) → In u (rowsAfter d (r .job) b .woken) → Ran d r → (y : Action) → y ≡ wake b u → (c : ℕ) → c ≢ y .cell → step d r .desk .row c .held (y .job) ≡ d .row c .held (y .job)
   unfolding wake
   left-elsewhere b u k t y e c q = rw (e, t .row c) (granted-elsewhere v (r .job) b c u k (rw e at q))

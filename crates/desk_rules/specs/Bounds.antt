@@ -75,7 +75,7 @@ WakesAtMost n = OfStarted (λ d. (r : Request) → length (step d r .wakes) ≤ 
 abbrev pub RecordsAtMost : ℕ → Type 0
 RecordsAtMost n = OfStarted (λ d. (r : Request) → length (events d r) ≤ n)
 
--- this many jobs, from number so many + 1 down to 2, ask to read cell 5
+-- this many jobs, with numbers from one above the count down to 2, ask to read cell 5
 abbrev pub readInTurn : ℕ → List Request
 readInTurn zero = []
 readInTurn (suc n) = request 114 (suc (suc n)) 5 ∷ readInTurn n

@@ -38,7 +38,7 @@ unfoldable pub wakesAt : ℕ → List Waiter → List Action
 wakesAt c [] = []
 wakesAt c (w ∷ q) = wake c w ∷ wakesAt c q
 
--- the wakes of so many cells from 0 on, cell by cell (01, rule 4)
+-- the wakes of the first n cells, cell by cell from 0 (01, rule 4)
 unfoldable pub wakesOf : (ℕ → Settled) → ℕ → List Action
 wakesOf s zero = []
 wakesOf s (suc c) = wakesOf s c ++ wakesAt c (s c .woken)

@@ -11,7 +11,7 @@ use Rattle.desks.specs.declared.Answer.the-variants.{Go, Wait, Back as s
 use Rattle.desks.specs.Request.{Request, Alike}
 use Rattle.desks.specs.Records.{wentBy, ownRecords}
 
--- requests that are alike to a letter have the same record where they go
+-- requests that are alike for a letter have the same record if they go
 went-alike : (r s : Request) (j : ℕ) (l : Lettered) → Alike l r s → wentBy r j l ≡ wentBy s j l
 unfolding wentBy
 went-alike r s j Unknown e = refl

@@ -23,7 +23,7 @@ module _ {S T : Type 0} {see : S → T} {does : Stepping S} {new : ℕ → S} {t
   seen-started (after {d = d} {h = h} s r) =
       subst (λ o. StartedOn theirs first (o .desk) (h ++ recordsOf r (o .said) (o .wakes))) (sym (f .same d h s r)) (after (seen-started s) r)
 
-  -- after any requests the desk that is seen is the other after them
+  -- the desk that is seen after any requests is the other desk after them
   run-seen : (d : S) (h : History) → StartedOn does new d h → (rs : List Request) → see (through does d rs) ≡ through theirs (see d) rs
   run-seen d h s [] = refl
   run-seen d h s (r ∷ rs) = run-seen (does d r .desk) (h ++ recordsBy does d r) (after s r) rs ∙ ap (λ o. through theirs (o .desk) rs) (f .same d h s r)

@@ -50,7 +50,7 @@ begin-given : (r : Request) (j : ℕ) → letterOf (r .kind) ≡ Known Begin →
 unfolding givenBy numberIn
 begin-given r j l x e = rw (e, l)
 
--- where a number was given, it is the one that was next
+-- if a number was given, it is the one that was next
 gave-next : {m : ℕ} {ns : List ℕ} {n : ℕ} (j : ℕ) → Gives m ns n → ns ≡ j ∷ [] → (j ≡ m) × (n ≡ suc j)
 gave-next j (none-given e f) q = let z : [] ≡ j ∷ [] = sym e ∙ q in let y : _≡_ {A = ℕ} 0 1 = cc in absurd (omega arith)
 gave-next {m} j (one-given e l f) q = let z : m ∷ [] ≡ j ∷ [] = sym e ∙ q in let y : m ≡ j = cc in (sym y, f ∙ ap suc y)

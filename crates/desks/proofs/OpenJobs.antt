@@ -70,7 +70,7 @@ no-more isOpen (k ∷ ks) =
     let h : length (openAmong isOpen ks) ≤ length ks = no-more isOpen ks in
     by-test (isOpen k) (λ t. rw t (omega arith)) (λ f. rw f (omega arith))
 
--- and fewer, where a place is free and 0 is not open
+-- and fewer, if a place is free and 0 is not open
 fewer : (isOpen : ℕ → Bool) (ks : List ℕ) → isOpen 0 ≡ false → member 0 ks ≡ true → length (openAmong isOpen ks) < length ks
 unfolding openAmong member
 fewer isOpen [] z h = not-both h refl
@@ -79,14 +79,14 @@ fewer isOpen (k ∷ ks) z h =
     (λ e. let f : isOpen k ≡ false = rw (eqb-true k 0 e) z in let g : length (openAmong isOpen ks) ≤ length ks = no-more isOpen ks in rw f (omega arith))
     (λ m. let g : length (openAmong isOpen ks) < length ks = fewer isOpen ks z m in by-test (isOpen k) (λ t. rw t (omega arith)) (λ f. rw f (omega arith)))
 
--- as many as there are places, where each names an open job
+-- as many as there are places, if each names an open job
 as-many : (isOpen : ℕ → Bool) (ks : List ℕ) → ((k : ℕ) → member k ks ≡ true → isOpen k ≡ true) → length (openAmong isOpen ks) ≡ length ks
 unfolding openAmong
 as-many isOpen [] h = refl
 as-many isOpen (k ∷ ks) h =
     rw (h k (member-first k ks)) (ap suc (as-many isOpen ks (λ i m. h i (member-more k ks i m))))
 
--- a cell is none of the 64 exactly where it is above 63
+-- a cell is not one of the 64 exactly if it is above 63
 above-is : (c : ℕ) → leb cells c ≡ ltb 63 c
 above-is c = by-test (ltb 63 c) (λ t. le-leb cells c (omega (arith, ltb-true 63 c t)) ∙ sym t) (λ f. lt-leb cells c (omega (arith, ltb-false 63 c f)) ∙ sym f)
 

@@ -117,7 +117,7 @@ seated-set n (k ∷ ks) m =
     by-test (eqb k 0) (λ t. rw t (ap (λ p. set (k ∷ ks) p n) (sym (ap (pos (k ∷ ks)) (sym (eqb-true k 0 t)) ∙ pos-first k ks))))
     (λ f. rw (f, pos-later k ks 0 f) (ap (λ l. k ∷ l) (seated-set n ks (sym (member-later k ks 0 f) ∙ m))))
 
--- where a job has no place, none is freed
+-- if a job has no place, none is freed
 vacated-none : (j : ℕ) (ks : List ℕ) → member j ks ≡ false → vacated j ks ≡ ks
 unfolding vacated
 vacated-none j [] m = refl

@@ -22,7 +22,7 @@ use Rattle.desks.specs.Records.{wentBy, ownRecords, wakeRecords, records
 use Rattle.desks.specs.Course.{course}
 use Rattle.desks.specs.Recorded.{onlyActions, MarkFirst, no-mark, mark, Recorded}
 
--- the records of wakes are actions alone
+-- the records of wakes are only actions
 wakes-actions : (wakes : List Action) → onlyActions (wakeRecords wakes) ≡ true
 unfolding wakeRecords onlyActions
 wakes-actions [] = refl

@@ -49,12 +49,12 @@ module _ {D : Type 0} where
   unfolding refused
   refused-said d why e = ap (λ o. o .said) e
 
-  -- where an outcome that the table means is a refusal, that refusal is due
+  -- if an outcome that the table means is a refusal, that refusal is due
   meant-refuses : (d : D) (j : ℕ) (v : Option Refusal) (o : Stepped D) → Meant d j v o → (why : Refusal) → o .said ≡ No why → v ≡ some why
   meant-refuses d j (some x) o m why e = ap some (same-refusal x why (sym (refused-said d x m) ∙ e))
   meant-refuses d j none o m why e = never why j (subst (λ x. Answers x j) e m)
 
-  -- where it is go, wait or back, none is due, and the job is the one meant
+  -- if it is go, wait or back, none is due, and the job is the one meant
   meant-answers : (d : D) (i : ℕ) (v : Option Refusal) (o : Stepped D) → Meant d i v o → (j : ℕ) → Answers (o .said) j → (v ≡ none) × (j ≡ i)
   meant-answers d i (some x) o m j h = never x j (subst (λ y. Answers y j) (refused-said d x m) h)
   meant-answers d i none o m j h = (refl, one-job h m)
@@ -68,7 +68,7 @@ module _ {D : Type 0} (step : Stepping D) (due : D → Request → Option Refusa
   pub refused-due : (d : D) (r : Request) (why : Refusal) → step d r .said ≡ No why → due d r ≡ some why
   refused-due d r = meant-refuses d (named d r) (due d r) (step d r) (meant d r)
 
-  -- where none is due it is answered with the job that the request names
+  -- if none is due, the answer names the job that the request names
   not-due : (d : D) (r : Request) → due d r ≡ none → Answers (step d r .said) (named d r)
   not-due d r e = subst (λ v. Meant d (named d r) v (step d r)) e (meant d r)
 

@@ -30,7 +30,7 @@ use Rattle.judge_rules.proofs.LineBack.{bare-stands}
 use Rattle.judge_rules.proofs.FewJobs.{at-most-255, committed-within}
 
 module _ (text buffer : List ℕ) (room : judgedJobs ≤ length buffer) (all : AllFaultless (readingsOf text)) (clean : IsDirty (eventsIn (readingsOf text)) → ⊥) where
-  -- an order said of a faultless text is the paper's, and has at most 255 jobs
+  -- an order told for a faultless text is the paper's, and has at most 255 jobs
   order-told : (order : List ℕ) → findingOf (eventsIn (readingsOf text)) ≡ orderly order → InOrder (eventsIn (readingsOf text)) buffer (filled order buffer) (length order)
   order-told order v =
       let h : History = eventsIn (readingsOf text) in
@@ -47,7 +47,7 @@ module _ (text buffer : List ℕ) (room : judgedJobs ≤ length buffer) (all : A
         smallest = order-smallest h order v;
       }
 
-  -- a knot is the paper's where it says so, and has at most 255 jobs
+  -- a knot told is the paper's, and has at most 255 jobs
   knot-by : (js : List ℕ) → findingOf (eventsIn (readingsOf text)) ≡ knotted js → {w : Finding} → Says (edge (committedPart (eventsIn (readingsOf text)))) (jobsOf (eventsIn (readingsOf text))) w → w ≡ knotted js →
       InKnot (eventsIn (readingsOf text)) buffer (filled js buffer) (length js)
   knot-by js v (says-order o) q = let z : _≡_ {A = ℕ} 0 1 = cc in absurd (omega arith)
@@ -75,7 +75,7 @@ module _ (text buffer : List ℕ) (room : judgedJobs ≤ length buffer) (all : A
   told (orderly order) e = in-order room all (order-told order e)
   told (knotted js) e = in-knot room all (knot-by js e (finding-exactly (eventsIn (readingsOf text)) (knotted js) .1 e) refl)
 
--- so is what is said of a faultless text by its first dirty read
+-- so is what is said for a faultless text, given its first dirty read
 history-told : (text buffer : List ℕ) → judgedJobs ≤ length buffer → AllFaultless (readingsOf text) → (o : Option ReadOf) → dirtyOf (eventsIn (readingsOf text)) ≡ o → Answers text buffer (sayHistory buffer (eventsIn (readingsOf text)) o)
 unfolding sayHistory
 history-told text buffer room all none e = told text buffer room all (clean-exactly (eventsIn (readingsOf text)) .1 e) (findingOf (eventsIn (readingsOf text))) refl

@@ -42,7 +42,7 @@ module _ (text : List ℕ) where
   not-4097 : Faultless (readingsOf text) 4_097 → ⊥
   not-4097 f = let z : _≡_ {A = ℕ} 0 1 = not-both refl (clean-line 4_097 (linesBefore (readingsOf text) 4_097) (readingAt (readingsOf text) 4_097) f .few) in omega arith
 
-  -- so faultless lines before one are at most 4,096
+  -- so at most 4,096 faultless lines stand before a line
   few-before : (n : ℕ) → ((m : ℕ) → 1 ≤ m → m < n → Faultless (readingsOf text) m) → n ≤ 4_097
   few-before n all = by-test (leb n 4_097) (λ t. leb-true n 4_097 t) (λ f. absurd (not-4097 (all 4_097 (omega arith) (leb-false n 4_097 f))))
 
@@ -148,7 +148,7 @@ module _ (text buffer : List ℕ) where
     λ p. knot-said-exactly text buffer (p .0) (faultless-exactly text .1 (p .1)) .1 (p .2, p .3),
   )
 
-  -- a refusal is said of a text with faults or of a short buffer alone
+  -- a refusal is said only for a text with faults or for a short buffer
   refused-not-sound : (n : ℕ) (why : Refusal) → judgementOf text buffer .said ≡ No n why → 255 ≤ length buffer → SoundText text → ⊥
   refused-not-sound n why e room s =
       by-test (leb 1 n)
@@ -176,7 +176,7 @@ module _ (text buffer : List ℕ) where
       (λ i j e. let d = dirty-as-worded i j .0 e in inr (inl (d .0, d .1, first-is-dirty says i j (d .2))))
       (λ n e. inr (inr (inl (orderly-as-worded .0 (n, e))))) (λ n e. inr (inr (inr (knot-as-worded .0 (n, e)))))
 
-  -- nothing is refused that has its places and no fault
+  -- a text without a fault is not refused, if the buffer has its places
   unrefused : Refused text buffer → 255 ≤ length buffer → SoundText text → ⊥
   unrefused (inl h) room s = omega arith
   unrefused (inr f) room s = f s

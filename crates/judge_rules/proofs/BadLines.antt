@@ -51,7 +51,7 @@ module _ (text : List ℕ) (n : ℕ) where
   nine-fault (above l job cell h g a b c) q = absurd (omega arith)
   nine-fault (over l job cell h g a b c o) q = absurd (omega arith)
 
-  -- a line that is none of the good ones has a field at fault
+  -- a line that is not a good line has a field at fault
   some-field : ((l : Letter) (job cell : ℕ) → LineIs (linesOf text) n l job cell → ⊥) → (r : Reading) → readingAt (readingsOf text) n ≡ r → (at : Field) × AtFault ofHistories (lineAt (linesOf text) n) at
   some-field other (Bad at) e = (at, bad-at at e)
   some-field other (Good l job cell) e = absurd (other l job cell (good-at text n l job cell e))

@@ -19,12 +19,12 @@ use Rattle.text_rules.specs.declared.Reading.{Reading}
 use Rattle.text_rules.specs.declared.Reading.the-variants.{Good, Bad}
 use Rattle.judge_rules.specs.LineTable.{tooMany, isBad, outside, above, overAlready, holds, order, tableSays}
 
--- a row that is first of those that are left and of which none holds does not hold, and none of the others does
+-- if no row from here on holds, this row does not, and no later one does
 pick-none : (b : Bool) (x : Refusal) (rest : Option Refusal) → pick b (some x) rest ≡ none → (b ≡ false) × (rest ≡ none)
 pick-none true x rest e = let z : _≡_ {A = ℕ} 0 1 = cc in absurd (omega arith)
 pick-none false x rest e = (refl, e)
 
--- a line that is bad at none of the four fields is bad at none
+-- a line that is bad at none of the four fields is not bad
 bad-nowhere : (r : Reading) → isBad First r ≡ false → isBad Second r ≡ false → isBad Third r ≡ false → isBad Fourth r ≡ false → (at : Field) → isBad at r ≡ false
 bad-nowhere r a b c d First = a
 bad-nowhere r a b c d Second = b

@@ -51,7 +51,7 @@ module _ {P : Type 0} (h before : History) (a : Action) (after : History) (later
   line-or-later (Good (Asks x) job cell) o q one =
       first-or-later _ q (λ e. let j : job ≡ a .job = cc in one (subst Judged j (not-outside job o)))
 
--- a job that acts on lines of which none has a job outside is 1 to 255
+-- if no line has a job outside, a job that acts on them is 1 to 255
 acts-within : (rs : List Reading) → ((k : ℕ) → k < length rs → outside (getD rs k (Bad First)) ≡ false) → (before : History) (a : Action) (after : History) → eventsIn rs ≡ before ++ Does a ∷ after → Judged (a .job)
 unfolding eventsIn
 acts-within [] all [] a after q = let z : _≡_ {A = ℕ} 0 1 = cc in absurd (omega arith)

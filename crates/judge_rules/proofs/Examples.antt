@@ -61,7 +61,7 @@ sent-back = r 1 A ∷ w 2 A ∷ k 1 ∷ r 1 A ∷ c 1 ∷ c 2 ∷ c 9 ∷ []
 abbrev off-cycle : History
 off-cycle = w 7 2 ∷ r 1 2 ∷ r 3 A ∷ r 7 A ∷ w 3 A ∷ w 7 A ∷ r 3 4 ∷ w 5 4 ∷ c 7 ∷ c 5 ∷ c 3 ∷ c 1 ∷ []
 
--- 2 gives to 3, 3 to 5 and 5 to 2: the knot runs along the edges
+-- edges from 2 to 3, 3 to 5 and 5 to 2: the knot runs along the edges
 abbrev three-round : History
 three-round = w 3 0 ∷ w 5 0 ∷ w 5 1 ∷ w 2 1 ∷ w 2 2 ∷ w 3 2 ∷ c 5 ∷ c 3 ∷ c 2 ∷ []
 
@@ -69,11 +69,11 @@ three-round = w 3 0 ∷ w 5 0 ∷ w 5 1 ∷ w 2 1 ∷ w 2 2 ∷ w 3 2 ∷ c 5 �
 abbrev two-ahead : History
 two-ahead = w 3 A ∷ r 2 B ∷ w 1 A ∷ w 1 B ∷ r 4 2 ∷ c 4 ∷ c 3 ∷ c 1 ∷ c 2 ∷ []
 
--- 1 and 2 give to each other, and so do 1 and 3: of the two remaining predecessors of 1 the walk takes 2
+-- 1 and 2 have edges both ways, and so do 1 and 3: of the two remaining predecessors of 1 the walk takes 2
 abbrev two-predecessors : History
 two-predecessors = w 1 0 ∷ w 3 0 ∷ w 3 1 ∷ w 1 1 ∷ w 1 2 ∷ w 2 2 ∷ w 2 3 ∷ w 1 3 ∷ c 3 ∷ c 2 ∷ c 1 ∷ []
 
--- 2 and 3 give to each other, and later 1 and 4 do: of the two cycles the walk finds that of the smallest job
+-- 2 and 3 have edges both ways, and later so do 1 and 4: of the two cycles the walk finds the one of the smallest job
 abbrev two-cycles : History
 two-cycles = w 2 0 ∷ w 3 0 ∷ w 3 1 ∷ w 2 1 ∷ c 2 ∷ c 3 ∷ w 1 2 ∷ w 4 2 ∷ w 4 3 ∷ w 1 3 ∷ c 4 ∷ c 1 ∷ []
 

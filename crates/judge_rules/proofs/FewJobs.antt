@@ -32,7 +32,7 @@ countdown : ℕ → List ℕ
 countdown zero = []
 countdown (suc n) = suc n ∷ countdown n
 
--- they are n
+-- there are n of them
 counted-length : (n : ℕ) → length (countdown n) ≡ n
 unfolding countdown
 counted-length zero = refl
@@ -56,7 +56,7 @@ not-outside job e =
     let both : (leb 1 job && leb job judgedJobs) ≡ true = not-false (leb 1 job && leb job judgedJobs) e in
     (leb-true 1 job (and-first (leb 1 job) (leb job judgedJobs) both), leb-true job judgedJobs (and-second (leb 1 job) (leb job judgedJobs) both))
 
--- a job with a c has it on this line, and then is 1 to 255, or after it
+-- a job with a c has it on this line, and then it is 1 to 255, or on a later one
 marked-here : {P : Type 0} (m : Mark) (job j : ℕ) (h : History) → marked isCommit j (Ends m job ∷ h) ≡ true → (job ≡ j → P) → (marked isCommit j h ≡ true → P) → P
 marked-here m job j h e one′ two′ =
     or-either (eqb job j && isCommit m) (marked isCommit j h) (sym (marked-ends isCommit j m job h) ∙ e)
@@ -74,7 +74,7 @@ marked-line (Good Retry job cell) h j o e one′ two′ = two′ e
 marked-line (Good Back job cell) h j o e one′ two′ = marked-here goes-back job j h e (λ q. one′ (subst (λ x. (1 ≤ x) × (x ≤ judgedJobs)) q (not-outside job o))) two′
 marked-line (Good (Asks a) job cell) h j o e one′ two′ = two′ (sym (marked-does isCommit j _ h) ∙ e)
 
--- a job with a c on lines of which none has a job outside is 1 to 255
+-- if no line has a job outside, a job with a c on them is 1 to 255
 marked-within : (rs : List Reading) → ((k : ℕ) → k < length rs → outside (getD rs k (Bad First)) ≡ false) → (j : ℕ) → marked isCommit j (eventsIn rs) ≡ true → (1 ≤ j) × (j ≤ judgedJobs)
 unfolding eventsIn
 marked-within [] all j e = not-both e (marked-none isCommit j)

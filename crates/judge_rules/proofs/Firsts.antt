@@ -22,11 +22,11 @@ pub by-one : {P : Type 0} (o : Option ℕ) → (o ≡ none → P) → ((j : ℕ)
 by-one none no′ one′ = no′ refl
 by-one (some j) no′ one′ = one′ j refl
 
--- two that are found are one where they are equal
+-- two equal findings find the same job
 some-same : {a b : ℕ} → _≡_ {A = Option ℕ} (some a) (some b) → a ≡ b
 some-same e = cc
 
--- one that is found is not none
+-- finding a job is not finding none
 some-none : {P : Type 0} {a : ℕ} → _≡_ {A = Option ℕ} (some a) none → P
 some-none e = let z : _≡_ {A = ℕ} 0 1 = cc in absurd (omega arith)
 

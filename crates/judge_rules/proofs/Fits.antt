@@ -16,7 +16,7 @@ use Rattle.judge_rules.proofs.Without.{left-before, left-other}
 use Rattle.judge_rules.proofs.Preceded.{preceded-by, precedes}
 use Rattle.judge_rules.proofs.Orders.{still}
 
--- a job that is none of a list with one more is not that one
+-- a job that is not in a longer list is not the one added
 member-none : (j k : ℕ) (ks : List ℕ) → member k (j ∷ ks) ≡ false → (eqb j k ≡ false) × (member k ks ≡ false)
 unfolding member
 member-none j k ks h = (nor-first (eqb j k) (member k ks) h, nor-second (eqb j k) (member k ks) h)

@@ -23,13 +23,13 @@ use Rattle.judge_rules.proofs.Walking.{walk-within}
 use Rattle.judge_rules.proofs.Knots.{shown-knot, shown-within, shown-once, knot-shown}
 use Rattle.judge_rules.proofs.OneKnot.{shown-only}
 
--- orderly is said with the order taken, where no job remains
+-- orderly is said with the order taken, if no job remains
 by-none : (e : Edges) (taken rest order : List ℕ) → findingBy e taken rest ≡ orderly order → (taken ≡ order) × (rest ≡ [])
 unfolding findingBy
 by-none e taken [] order h = (cc, refl)
 by-none e taken (j ∷ rest) order h = let z : _≡_ {A = ℕ} 0 1 = cc in absurd (omega arith)
 
--- a knot is said with the knot among those that remain, where some do
+-- a knot is said with the knot among the jobs that remain, if some do
 by-some : (e : Edges) (taken rest js : List ℕ) → findingBy e taken rest ≡ knotted js → (j : ℕ) × (left : List ℕ) × (rest ≡ j ∷ left) × (knotIn e rest ≡ js)
 unfolding findingBy
 by-some e taken [] js h = let z : _≡_ {A = ℕ} 0 1 = cc in absurd (omega arith)
@@ -79,7 +79,7 @@ module _ (e : Edges) (jobs : List ℕ) where
     judged-says (orderly order) h = says-order (says-smallest-first order h)
     judged-says (knotted js) h = says-cycle (order-taken e jobs) (says-shown js h)
 
-    -- a knot is among jobs of which some remain
+    -- if there is a knot, some jobs remain
     knot-judged : (taken rest js : List ℕ) → Takes e jobs taken rest → Shown e rest js → judged e jobs ≡ knotted js
     unfolding judged findingBy member
     knot-judged taken [] js t s = not-both (walk-within e [] (s .closed .walked) (s .closed .job) (member-first (s .closed .job) (s .closed .seen))) refl

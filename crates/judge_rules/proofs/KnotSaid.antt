@@ -21,7 +21,7 @@ use Rattle.judge_rules.proofs.Histories.{knot-refuses, finding-exactly}
 use Rattle.judge_rules.proofs.KnotWorded.{knot-found}
 use Rattle.judge_rules.proofs.JudgedTexts.{knot-said, knot-said-exactly}
 
--- two lists of one length that fill the first places are one
+-- two lists of one length that fill the first places are equal
 same-filled : {js ks before after : List ℕ} → length js ≡ length ks → Fills js before after → Fills ks before after → js ≡ ks
 same-filled {after = after} e f g = sym (f .first) ∙ ap (λ n. take n after) e ∙ g .first
 

@@ -98,7 +98,7 @@ module _ (e : Edges) (jobs : List ℕ) {js : List ℕ} (s : Shown e (stuck e job
   }
 
 module _ (e : Edges) (jobs : List ℕ) (up : ascending jobs ≡ true) where
-  -- where an order is found none remains
+  -- if an order is found, no job remains
   order-none : (order : List ℕ) → judged e jobs ≡ orderly order → (j : ℕ) → Remains e jobs j → ⊥
   unfolding member
   order-none order h j r =

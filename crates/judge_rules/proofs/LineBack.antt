@@ -26,7 +26,7 @@ unfolding joined
 joined-append [] ms = refl
 joined-append (l ∷ ls) ms = ap (λ t. l ++ t) (joined-append ls ms) ∙ sym (append-assoc l (joined ls) (joined ms))
 
--- a line among lines that are one each is one
+-- a line among lines that are each one line is one line
 one-at : (ls : List (List ℕ)) (k : ℕ) → every oneLine ls ≡ true → k < length ls → oneLine (getD ls k []) ≡ true
 unfolding every
 one-at [] k e h = absurd (omega arith)

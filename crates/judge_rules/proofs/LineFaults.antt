@@ -33,13 +33,13 @@ pub none-ended : Keeps [] []
 unfolding member endedIn
 none-ended j = refl
 
--- a line more at the end
+-- one more line at the end
 ended-more : (j : ℕ) (before : List Reading) (r : Reading) → endedIn j (before ++ r ∷ []) ≡ (ends j r || endedIn j before)
 unfolding endedIn
 ended-more j [] r = refl
 ended-more j (b ∷ before) r = ap (λ x. ends j b || x) (ended-more j before r) ∙ or-swap (ends j b) (ends j r) (endedIn j before)
 
--- a line that reads so adds its job where it is a c or an a
+-- a line adds its job if it reads as a c or an a
 keeps-reading : (ended : List ℕ) (j : ℕ) (r : Reading) → member j (endedAfter ended r) ≡ (ends j r || member j ended)
 unfolding endedAfter ends member
 keeps-reading ended j (Bad at) = refl
@@ -54,7 +54,7 @@ keeps-reading ended j (Good (Asks a) job cell) = refl
 pub keeps-more : (ended : List ℕ) (before : List Reading) (r : Reading) → Keeps ended before → Keeps (endedAfter ended r) (before ++ r ∷ [])
 keeps-more ended before r k j = keeps-reading ended j r ∙ ap (λ x. ends j r || x) (k j) ∙ sym (ended-more j before r)
 
--- a job is outside 1 to 255 where it is 0 or above 255
+-- a job is outside 1 to 255 if it is 0 or above 255
 outside-is : (job : ℕ) → (eqb job 0 || ltb judgedJobs job) ≡ not (leb 1 job && leb job judgedJobs)
 outside-is job =
     by-test (eqb job 0)
@@ -106,13 +106,13 @@ module _ (whole before : List Reading) (l : Reading) (ls : List Reading) (n : �
   fault-at : lineFault n ended l ≡ tableSays n (linesBefore whole n) (readingAt whole n)
   fault-at = line-fault n ended before l h k ∙ sym (rw (w, e) (said-of before l ls))
 
-  -- where line n has no fault, the lines up to it are faultless
+  -- if line n has no fault, the lines up to it are faultless
   good-more : lineFault n ended l ≡ none → (m : ℕ) → 1 ≤ m → m < suc n → Faultless whole m
   good-more q m a b =
       by-test (eqb m n) (λ t. subst (Faultless whole) (sym (eqb-true m n t)) (sym fault-at ∙ q))
       (λ f. let other′ : m ≢ n = eqb-false m n f in good m a (omega arith))
 
-  -- line n decides where it has a fault, and else the lines after it
+  -- line n decides if it has a fault, else the lines after it
   line-tells : (o : Option Refusal) (later : Option Faulty) → lineFault n ended l ≡ o → (lineFault n ended l ≡ none → Tells whole later) → Tells whole (orLater o n later)
   unfolding orLater
   line-tells none later q next = next q
@@ -120,7 +120,7 @@ module _ (whole before : List Reading) (l : Reading) (ls : List Reading) (n : �
       let size : length whole ≡ length before + suc (length ls) = ap length w ∙ length-append before (l ∷ ls) in
       record { from = omega arith; to = omega arith; before = good; due = sym fault-at ∙ q }
 
--- from line n on, where the lines before it are faultless
+-- from line n on, if the lines before it are faultless
 walks : (whole before ls : List Reading) (n : ℕ) (ended : List ℕ) → whole ≡ before ++ ls → n ≡ suc (length before) → n ≤ suc judgedLines → Keeps ended before →
     ((m : ℕ) → 1 ≤ m → m < n → Faultless whole m) → Tells whole (firstFaulty n ended ls)
 unfolding firstFaulty

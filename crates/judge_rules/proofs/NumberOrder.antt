@@ -35,19 +35,19 @@ use Rattle.judge_rules.proofs.Histories.{jobs-ascending, order-smallest
 use Rattle.judge_rules.proofs.JudgedTexts.{orderly-said, orderly-said-exactly, knot-said, knot-said-exactly}
 use Rattle.judge_rules.proofs.Printed.{printed-orderly}
 
--- the jobs but for one that is not there are all of them
+-- leaving out a job that is not there leaves all jobs
 without-none : (j : ℕ) (ks : List ℕ) → member j ks ≡ false → without j ks ≡ ks
 unfolding without member
 without-none j [] f = refl
 without-none j (k ∷ ks) f = rw (nor-first (eqb k j) (member j ks) f) (ap (λ l. k ∷ l) (without-none j ks (nor-second (eqb k j) (member j ks) f)))
 
--- the jobs but for the first, where it does not come again, are the rest
+-- leaving out the first, if it does not come again, leaves the rest
 without-first : (j : ℕ) (js : List ℕ) → member j js ≡ false → without j (j ∷ js) ≡ js
 unfolding without
 without-first j js f = rw (same-refl j) (without-none j js f)
 
 module _ (e : Edges) (rises : (i j : ℕ) → e i j ≡ true → i < j) where
-  -- where edges only rise, the smallest of the jobs left is ready
+  -- if edges only rise, the smallest of the jobs left is ready
   smallest-ready : (j : ℕ) (js : List ℕ) → ascending (j ∷ js) ≡ true → ready e (j ∷ js) ≡ some j
   unfolding ready first
   smallest-ready j js up =
@@ -56,7 +56,7 @@ module _ (e : Edges) (rises : (i j : ℕ) → e i j ≡ true → i < j) where
       (λ p. let by = preceded-by e (j ∷ js) j p in absurd (omega (arith, rises (by .0) j (by .2), head-least j js up (by .0) (by .1)))) (λ f. f) in
       rw free
 
-  -- so the jobs are taken away as they ascend, and none remains
+  -- so the jobs are taken away in ascending order, and none remains
   taken-ascending : (jobs : List ℕ) → ascending jobs ≡ true → taken e (length jobs) jobs ≡ record { order = jobs; remaining = [] }
   unfolding taken ends leads ascending
   taken-ascending [] up = refl

@@ -53,12 +53,12 @@ one-fault ls m n x y f g =
 pub no-fault : {P : Type 0} (ls : List Reading) (n : ℕ) (why : Refusal) → AllFaultless ls → FirstFault ls n why → P
 no-fault ls n why all f = never-both ls n why (all n (f .from) (f .to)) (f .due)
 
--- two answers that say the same and leave and hand back the same are one
+-- two answers that say, leave and hand back the same are equal
 same-answer : {j k : Judgement} → j .said ≡ k .said → j .order ≡ k .order → j .line ≡ k .line → j ≡ k
 same-answer e f g = λ i. record { said = e i; order = f i; line = g i }
 
 module _ (text buffer : List ℕ) where
-  -- where the buffer is too short, 14 is the answer
+  -- if the buffer is too short, 14 is the answer
   short-is : length buffer < judgedJobs → judgementOf text buffer ≡ record { said = No 0 ShortOrder; order = buffer; line = [] }
   unfolding judgementOf
   short-is h = rw (lt-ltb (length buffer) judgedJobs h)
@@ -69,7 +69,7 @@ module _ (text buffer : List ℕ) where
     unfolding judgementOf
     lines-decide = rw (le-ltb (length buffer) judgedJobs room)
 
-    -- where a line is the first faulty one, its refusal is the answer
+    -- if a line is the first faulty one, its refusal is the answer
     fault-by : (n : ℕ) (why : Refusal) → FirstFault (readingsOf text) n why → (o : Option Faulty) → Tells (readingsOf text) o →
         sayLines buffer text o ≡ record { said = No n why; order = buffer; line = bare (lineAt (linesOf text) n) }
     unfolding sayLines
@@ -78,7 +78,7 @@ module _ (text buffer : List ℕ) where
         let s = one-fault (readingsOf text) (g .number) n (g .why) why t f in
         same-answer (ap₂ No (s .0) (s .1)) refl (ap (λ m. bare (lineAt (linesOf text) m)) (s .0))
 
-    -- where every line is faultless, the verdict is
+    -- if every line is faultless, the verdict is the answer
     verdict-by : AllFaultless (readingsOf text) → (o : Option Faulty) → Tells (readingsOf text) o → sayLines buffer text o ≡ sayHistory buffer (eventsIn (readingsOf text)) (dirtyOf (eventsIn (readingsOf text)))
     unfolding sayLines
     verdict-by all none t = refl
@@ -88,16 +88,16 @@ module _ (text buffer : List ℕ) where
     fault-is : (n : ℕ) (why : Refusal) → FirstFault (readingsOf text) n why → judgementOf text buffer ≡ record { said = No n why; order = buffer; line = bare (lineAt (linesOf text) n) }
     fault-is n why f = lines-decide ∙ fault-by n why f (firstFaulty 1 [] (readingsOf text)) (finds-fault (readingsOf text))
 
-    -- and of a faultless text the verdict is given
+    -- and a faultless text gets the verdict
     verdict-is : AllFaultless (readingsOf text) → judgementOf text buffer ≡ sayHistory buffer (eventsIn (readingsOf text)) (dirtyOf (eventsIn (readingsOf text)))
     verdict-is all = lines-decide ∙ verdict-by all (firstFaulty 1 [] (readingsOf text)) (finds-fault (readingsOf text))
 
-    -- where it is dirty, reader and writer are told
+    -- if it is dirty, reader and writer are told
     dirt-is : AllFaultless (readingsOf text) → (i j : ℕ) → FirstDirty (eventsIn (readingsOf text)) i j → judgementOf text buffer ≡ record { said = Dirty i j; order = filled (i ∷ j ∷ []) buffer; line = [] }
     unfolding sayHistory
     dirt-is all i j f = verdict-is all ∙ ap (sayHistory buffer (eventsIn (readingsOf text))) (dirty-exactly (eventsIn (readingsOf text)) i j .0 f)
 
-    -- and where it is not, the order or the knot
+    -- and if it is not, the order or the knot
     clean-is : AllFaultless (readingsOf text) → (IsDirty (eventsIn (readingsOf text)) → ⊥) → judgementOf text buffer ≡ sayFinding buffer (findingOf (eventsIn (readingsOf text)))
     unfolding sayHistory
     clean-is all c = verdict-is all ∙ ap (sayHistory buffer (eventsIn (readingsOf text))) (clean-exactly (eventsIn (readingsOf text)) .0 c)

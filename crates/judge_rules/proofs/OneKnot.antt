@@ -21,12 +21,12 @@ use Rattle.judge_rules.proofs.Turns.{upTo-mid, from-mid, least-is, leas
 use Rattle.judge_rules.proofs.Walking.{no-more, walk-within, walk-once, cycle-once, walk-closes}
 use Rattle.judge_rules.proofs.Knots.{start-smallest}
 
--- a job in the midst of a list that names none twice does not stand before that
+-- a job inside a list that names none twice is not before its place
 mid-once : (js : List ℕ) (k : ℕ) (ks : List ℕ) → distinct (js ++ k ∷ ks) ≡ true → member k js ≡ false
 mid-once js k ks d =
     nor-second (member k ks) (member k js) (sym (member-append k ks js) ∙ once-first k (ks ++ js) (turned-once js (k ∷ ks) d))
 
--- a cycle that names none twice has one listing from its smallest number on
+-- a cycle that names none twice has one listing from its smallest number
 turn-only : (round js ahead : List ℕ) (leader : ℕ) (rest : List ℕ) → distinct round ≡ true → round ≡ ahead ++ leader ∷ rest → js ≡ (leader ∷ rest) ++ ahead → ((k : ℕ) → member k js ≡ true → leader ≤ k) → js ≡ turn round
 unfolding turn turnTo
 turn-only [] js ahead leader rest d p q s = not-empty-mid ahead leader rest p
@@ -49,7 +49,7 @@ module _ (e : Edges) (s : ℕ) (left : List ℕ) (up : ascending (s ∷ left) �
       let below : j ≤ s = m .least s (member-first s left) refl in
       omega arith
 
-  -- each walk of the paper's is a part of the one that is gone
+  -- every walk of the paper's is a part of the one taken
   walk-reaches : {j : ℕ} {seen : List ℕ} → Walk e (s ∷ left) (j ∷ seen) → (n whole : ℕ) → whole ≡ length seen + n → walk e (s ∷ left) whole [] s ≡ walk e (s ∷ left) n seen j
   unfolding walk predecessor
   walk-reaches (starts {j = j} m) n whole q =

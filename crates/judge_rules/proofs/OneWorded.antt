@@ -17,19 +17,19 @@ use Rattle.judge_rules.specs.KnotWorded.{Remains, SmallestOf, ComesAgain
 pub smallest-one : {these : ℕ → Type 0} {i j : ℕ} → SmallestOf these i → SmallestOf these j → i ≡ j
 smallest-one {i = i} {j = j} a b = omega (arith, a .below j (b .among), b .below i (a .among))
 
--- neither of two numbers is below the other
+-- two numbers are equal if neither is below the other
 neither : (m n : ℕ) → (m < n → ⊥) → (n < m → ⊥) → m ≡ n
 neither m n h g = by-test (ltb m n) (λ t. absurd (h (ltb-true m n t))) (λ a. by-test (ltb n m) (λ t. absurd (g (ltb-true n m t))) (λ b. omega (arith, ltb-false m n a, ltb-false n m b)))
 
 module _ {e : Edges} {jobs : List ℕ} where
-  -- two lists of jobs come to agree in every place of both
+  -- two lists of visited jobs agree in every place of both
   same-place : {w v : List ℕ} {f g m n : ℕ} → ComesAgain e jobs w f m → ComesAgain e jobs v g n → (k : ℕ) → k ≤ m → k ≤ n → getD w k 0 ≡ getD v k 0
   same-place a b zero p q = smallest-one (a .start) (b .start)
   same-place {v = v} a b (suc k) p q =
       smallest-one (a .next k (omega arith))
       (subst (λ j. SmallestOf (λ i. Remains e jobs i × (e i j ≡ true)) (getD v (suc k) 0)) (sym (same-place a b k (omega arith) (omega arith))) (b .next k (omega arith)))
 
-  -- in neither does one come again before one does in the other
+  -- in neither list does a job come again before one does in the other
   not-sooner : {w v : List ℕ} {f g m n : ℕ} → ComesAgain e jobs w f m → ComesAgain e jobs v g n → m < n → ⊥
   not-sooner {f = f} {m = m} a b l =
       b .once f m (a .earlier) l

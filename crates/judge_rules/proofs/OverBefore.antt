@@ -42,7 +42,7 @@ ended-at j (suc k) [] e = not-both e refl
 ended-at j (suc k) (r ∷ rs) e =
     or-either (ends j r) (endedIn j (take k rs)) e (λ t. (0, omega arith, t)) (λ t. let p = ended-at j k rs t in (suc (p .0), omega (arith, p .1), p .2))
 
--- and one of them is enough
+-- and one such line is enough
 at-ended : (j k i : ℕ) (rs : List Reading) → i < k → ends j (getD rs i (Bad First)) ≡ true → endedIn j (take k rs) ≡ true
 unfolding endedIn ends
 at-ended j zero i rs h e = absurd (omega arith)
@@ -82,12 +82,12 @@ module _ (text : List ℕ) where
       less-one : (k : ℕ) → k ≡ suc k - 1
       less-one k = omega arith
 
-  -- a c of a job ends it, and so does an a
+  -- a c of a job ends it
   commit-ends : (m job : ℕ) → LineIs (linesOf text) m Commit job 0 → ends job (readingAt (readingsOf text) m) ≡ true
   unfolding ends
   commit-ends m job g = rw (at-good m Commit job 0 g) (eq-eqb job job refl)
 
-  -- an a
+  -- and so does an a of it
   give-up-ends : (m job : ℕ) → LineIs (linesOf text) m GiveUp job 0 → ends job (readingAt (readingsOf text) m) ≡ true
   unfolding ends
   give-up-ends m job g = rw (at-good m GiveUp job 0 g) (eq-eqb job job refl)

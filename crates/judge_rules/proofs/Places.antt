@@ -50,7 +50,7 @@ upTo-at j (i ∷ js) (suc k) h =
     by-test (eqb i j) (λ t. let z : suc k < 0 = rw t at h in absurd (omega arith))
     (λ f. let z : suc k < suc (length (upTo j js)) = rw f at h in rw f (upTo-at j js k (omega arith)))
 
--- a list put the other way round before another: past it the other stands
+-- a list reversed in front of another: past it the other begins
 past-round : (js ks : List ℕ) (k n : ℕ) → k ≡ length js + n → getD (reverseAux js ks) k 0 ≡ getD ks n 0
 past-round [] ks k n h = let e : k ≡ n = omega arith in rw e
 past-round (j ∷ js) ks k n h = past-round js (j ∷ ks) k (suc n) (omega arith)

@@ -45,7 +45,7 @@ parts-within last (e ∷ h) k w =
     let p = parts-within last h k (and-second (within last e) (allWithin last (h ++ k)) w) in
     (rw (and-first (within last e) (allWithin last (h ++ k)) w, p .0), p .1)
 
--- where jobs end for good, no line of a job follows the line of its c or a
+-- if jobs end for good, no line of a job follows the line of its c or a
 mark-alone : (m : Mark) (i j : ℕ) (h : History) → endsForGood (Ends m i ∷ h) ≡ true → ends j (Good (markLetter m) i 0) ≡ true → lineOf j h ≡ false
 unfolding ends markLetter
 mark-alone commits i j h g t = rw (← eqb-true i j t) (ended-alone commits i h g commit-not-back)

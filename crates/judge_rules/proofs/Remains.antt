@@ -22,13 +22,13 @@ passing : (ℕ → Bool) → List ℕ → List ℕ
 passing f [] = []
 passing f (k ∷ ks) = pick (f k) (k ∷ passing f ks) (passing f ks)
 
--- where all pass, that is the list
+-- if all pass, that is the list
 passing-all : (f : ℕ → Bool) (ks : List ℕ) → ((k : ℕ) → member k ks ≡ true → f k ≡ true) → passing f ks ≡ ks
 unfolding passing
 passing-all f [] h = refl
 passing-all f (k ∷ ks) h = rw (h k (member-first k ks)) (ap (λ js. k ∷ js) (passing-all f ks (λ j m. h j (member-more k ks j m))))
 
--- a job that does not pass may go
+-- a job that does not pass may be left out
 passing-without : (f : ℕ → Bool) (j : ℕ) (ks : List ℕ) → f j ≡ false → passing f (without j ks) ≡ passing f ks
 unfolding passing without
 passing-without f j [] h = refl

@@ -23,7 +23,7 @@ use Rattle.laws.proofs.Joined.{head-same, tail-same, not-empty-mid, nobody}
 use Rattle.judge_rules.proofs.Fits.{fits-first, first-fits, fits-more, fits-less}
 
 module _ (e : Edges) where
-  -- where no job is left, no job stands
+  -- if no job is left, the order is empty
   none-placed : SmallestFirst e [] []
   unfolding member
   none-placed =
@@ -72,7 +72,7 @@ module _ (e : Edges) where
   unfolding orderOf stuck
   order-smallest-first jobs a q = taken-smallest-first (length jobs) jobs a q
 
-  -- an order does not end where another goes on
+  -- of two such orders, one does not end before the other
   no-end : {P : Type 0} (jobs one two : List ℕ) → SmallestFirst e jobs one → SmallestFirst e jobs two → (placed : List ℕ) (k : ℕ) (rest : List ℕ) → one ≡ placed ++ [] → two ≡ placed ++ k ∷ rest → P
   no-end jobs one two s t placed k rest p q =
       let f : Fits e jobs placed k = t .fits placed k rest q in

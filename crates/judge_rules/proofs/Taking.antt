@@ -16,7 +16,7 @@ use Rattle.judge_rules.proofs.Without.{shorter}
 use Rattle.judge_rules.proofs.Firsts.{by-one}
 use Rattle.judge_rules.proofs.Preceded.{ready-is, ready-none}
 
--- a list of no length names no job
+-- a list of length 0 names no job
 empty-list : (js : List ℕ) → length js ≤ 0 → (j : ℕ) → member j js ≡ true → ⊥
 unfolding member
 empty-list [] h j m = not-both m refl
@@ -38,7 +38,7 @@ pub order-taken : (e : Edges) (jobs : List ℕ) → Takes e jobs (orderOf e jobs
 unfolding orderOf stuck
 order-taken e jobs = taken-takes e (length jobs) jobs (omega arith)
 
--- of no jobs none is ready
+-- without jobs none is ready
 none-ready : (e : Edges) (left : List ℕ) → length left ≤ 0 → ready e left ≡ none
 none-ready e left h = by-one (ready e left) (λ q. q) (λ j q. absurd (empty-list left h j (ready-is e left j q .0)))
 

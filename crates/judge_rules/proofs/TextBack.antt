@@ -26,7 +26,7 @@ use Rattle.judge_rules.specs.AsWorded.{SoundText}
 use Rattle.text_rules.specs.EventRecords.{askBy, markLetter, eventLine, textOf}
 use Rattle.text_rules.proofs.RecordLines.{text-append}
 
--- a letter that asks, of the kind that it asks for: r, w and i, which histories have; u is recorded as r (02, No. 1)
+-- in a history, what a letter asks is the kind that is recorded: r, w and i, which histories have; u is recorded as r (02, No. 1)
 ask-back : (a : Ask) → ofHistories (Asks a) ≡ true → askBy (recorded a) ≡ a
 unfolding askBy
 ask-back Read h = rw records-read
@@ -57,7 +57,7 @@ line-back : (bytes : List ℕ) → IsGood bytes → textOf (eventOf (readLine of
 line-back bytes g =
     ap (λ r. textOf (eventOf r)) (good-exactly ofHistories bytes (g .letter) (g .job) (g .cell) .1 (g .good)) ∙ good-back bytes (g .letter) (g .job) (g .cell) (g .good)
 
--- so are those of good lines
+-- so are those of several good lines
 lines-back : (ls : List (List ℕ)) → ((k : ℕ) → k < length ls → IsGood (getD ls k [])) → textOf (eventsIn (map (readLine ofHistories) ls)) ≡ joined ls
 unfolding eventsIn joined textOf
 lines-back [] all = refl

@@ -104,7 +104,7 @@ turned-keeps P step (k ∷ js) ks h =
 pub turned-member : (i : ℕ) (js ks : List ℕ) → member i (js ++ ks) ≡ member i (ks ++ js)
 turned-member i js ks = member-append i js ks ∙ or-comm (member i js) (member i ks) ∙ sym (member-append i ks js)
 
--- one more job at the end, which is not there yet, is there once
+-- one more job at the end, not there before, is there once
 once-end : (k : ℕ) (ks : List ℕ) → member k ks ≡ false → distinct ks ≡ true → distinct (ks ++ k ∷ []) ≡ true
 unfolding distinct member
 once-end k [] f d = refl

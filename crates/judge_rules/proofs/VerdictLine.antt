@@ -42,7 +42,7 @@ word-plain Orderly = refl
 word-plain Knot = refl
 word-plain Dirty = refl
 
--- nor have numbers with a tab before each
+-- nor do numbers with a tab before each
 tabbed-plain : (ns : List ℕ) → noNewline (tabbed ns) ≡ true
 unfolding tabbed noNewline
 tabbed-plain [] = refl
@@ -79,7 +79,7 @@ printed-line-0 n m more e =
     zero-alone n (decimal n) (decimal m ++ tabbed more) (newline ∷ []) refl
     (ap (λ t. getD t 3 0) e ∙ ap (λ ds. getD ((ds ++ tab ∷ (decimal 16 ++ [])) ++ newline ∷ []) 0 0) decimal-0)
 
--- another word is printed otherwise
+-- another word is printed in another way
 other-word : (w : Word) (ns : List ℕ) → wordLine w ns ≡ wordLine No (0 ∷ 16 ∷ []) → eqb (getD (wordLine w ns) 0 0) 110 ≡ false → ⊥
 unfolding wordLine
 other-word w ns e n = eqb-false (getD (wordLine w ns) 0 0) 110 n (ap (λ t. getD t 0 0) e)

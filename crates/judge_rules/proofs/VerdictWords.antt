@@ -61,7 +61,7 @@ line-begins (Knot n) order = refl
 line-begins (Dirty i j) order = refl
 line-begins (No n why) order = refl
 
--- and by its first byte it is known
+-- and its first byte tells it
 first-byte : (v : Verdict) (order : List ℕ) (b : ℕ) → getD (sayLine v order) 0 0 ≡ b → getD (wordBytes v) 0 0 ≡ b
 unfolding sayLine wordLine wordBytes
 first-byte (Orderly n) order b e = e
@@ -120,7 +120,7 @@ module _ (text : List ℕ) where
   unfolding verdictOf wordLine
   long-line h = rw (lt-ltb judgedBytes (length text) h)
 
-  -- what the line begins with is the word of what is said
+  -- the line begins with the word of what is said
   begins-said : length text ≤ 65_536 → (v : Verdict) → said ≡ v → BeginsWith (verdictOf text) (wordBytes v)
   begins-said h v e = rw (short-line h, ← e) (line-begins said (judgementOf text (replicate 255 0) .order))
 

@@ -45,15 +45,15 @@ which-side job e =
     (λ f. let some-job : job ≢ 0 = eqb-false job 0 f in
     by-test (leb job 255) (λ t. not-both e (inside job (omega arith) (leb-true job 255 t))) (λ g. inr (leb-false job 255 g)))
 
--- a cell that is not above 63, where there is one
+-- if row 2 does not hold for a good line, its cell is at most 63
 cell-low : (l : Letter) (cell : ℕ) → (hasCell l ≡ false → cell ≡ 0) → (hasCell l && leb 64 cell) ≡ false → cell ≤ 63
 cell-low l cell z e = by-test (hasCell l) (λ t. let h : cell < 64 = leb-false 64 cell (rw t at e) in omega arith) (λ f. let q : cell ≡ 0 = z f in omega arith)
 
--- is not above 63
+-- if the cell is at most 63, row 2 does not hold
 low-cell : (l : Letter) (cell : ℕ) → cell ≤ 63 → (hasCell l && leb 64 cell) ≡ false
 low-cell l cell h = by-test (hasCell l) (λ t. rw (t, lt-leb 64 cell (omega arith))) (λ f. rw f)
 
--- a cell above 63 is there
+-- if the cell is above 63, row 2 holds
 high-cell : (l : Letter) (cell : ℕ) → (hasCell l ≡ false → cell ≡ 0) → 63 < cell → (hasCell l && leb 64 cell) ≡ true
 high-cell l cell z h = by-test (hasCell l) (λ t. rw (t, le-leb 64 cell (omega arith))) (λ f. let q : cell ≡ 0 = z f in absurd (omega arith))
 
@@ -61,7 +61,7 @@ high-cell l cell z h = by-test (hasCell l) (λ t. rw (t, le-leb 64 cell (omega a
 rowsOf : Bool → Bool → Bool → Option Refusal
 rowsOf a b c = pick a (some JobOutside) (pick b (some CellAbove) (pick c (some Ended) none))
 
--- by the first that holds
+-- the refusal is that of the first row that holds
 by-rows : {P : Type 0} (a b c : Bool) (why : Refusal) → rowsOf a b c ≡ some why → (a ≡ true → why ≡ JobOutside → P) → (a ≡ false → b ≡ true → why ≡ CellAbove → P) →
     (a ≡ false → b ≡ false → c ≡ true → why ≡ Ended → P) → P
 unfolding rowsOf

@@ -41,7 +41,7 @@ lines-inside h w n from to =
     let l = line-of h n from to in
     row-of h n l JobOutside ∙ record-inside (l .event) (event-within judgedJobs h n l w) (event-within lastNumber h n l (within-more judgedJobs lastNumber (omega arith) h w))
 
--- nor is a line up to 4,096 line 4,097
+-- nor is a line up to 4,096 a line 4,097
 few-lines : (ls : List Reading) (n : ℕ) → n ≤ judgedLines → holdsAt ls n TooManyLines ≡ false
 unfolding holds
 few-lines ls n h = ne-eqb n (suc judgedLines) (omega arith)

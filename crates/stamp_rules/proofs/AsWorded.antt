@@ -35,7 +35,7 @@ use Rattle.stamp_rules.specs.AsWorded.{RefusedAs, alike, no-retry}
 use Rattle.stamp_rules.proofs.Refusing.{refuses}
 use Rattle.stamp_rules.proofs.NumberLimits.{limits}
 
--- 1 is due for another kind, whatever else
+-- 1 is due for a request of another kind, whatever else it says
 other-due : (d : Desk) (x : Lettered) (o : Bool) (c : ℕ) → otherKind x ≡ true → dueBy d x o c ≡ some UnknownKind
 unfolding dueBy holds order firstOf
 other-due d Unknown o c t = refl
@@ -76,7 +76,7 @@ module _ (d : Desk) (r : Request) (why : Refusal) where
       (λ u. is-due CellAbove (alike (above (ask-listed r a e) q (leb-true cells (r .cell) u))) (rw u at t))
       (λ f. some-not-none (rw f at t))
 
-  -- whatever its letter
+  -- for every letter
   due-worded : DeskLimits (d .next) (d .jobs) (isOpen d) → (x : Lettered) → letterOf (r .kind) ≡ x → dueBy d x (isOpen d (r .job)) (r .cell) ≡ some why → RefusedAs d r (numberOf why)
   unfolding dueBy holds order firstOf member
   due-worded l Unknown e t = is-due UnknownKind (alike (other-kind (other-kind-listed (r .kind) (ap otherKind e)))) t
@@ -93,7 +93,7 @@ module _ (d : Desk) (r : Request) (l : DeskLimits (d .next) (d .jobs) (isOpen d)
   unfolding dueOf
   begin-due b = ap (λ k. dueBy d (letterOf k) (isOpen d (r .job)) (r .cell)) b
 
-  -- what every desk refuses is due
+  -- a refusal that every desk gives is due
   alike-due : {n : ℕ} → RefusedAlike (isOpen d) (d .next) (isOpen d (r .job) ≡ true) r n → (why : Refusal) × Due d r why × (numberOf why ≡ n)
   unfolding dueOf dueBy holds order firstOf
   alike-due (other-kind f) = (UnknownKind, other-due d (letterOf (r .kind)) (isOpen d (r .job)) (r .cell) (none-of-eight (r .kind) f), refl)
@@ -103,7 +103,7 @@ module _ (d : Desk) (r : Request) (l : DeskLimits (d .next) (d .jobs) (isOpen d)
   alike-due (all-open b p o) = (AllOpen, begin-due b ∙ six-due (d .next) (d .jobs) p (none-free l o), refl)
   alike-due (no-number-left b p) = (NoNumberLeft, begin-due b ∙ seven-due (d .next) (d .jobs) p, refl)
 
-  -- and so is what this desk refuses
+  -- and so is a refusal of this desk
   worded-due : {n : ℕ} → RefusedAs d r n → (why : Refusal) × Due d r why × (numberOf why ≡ n)
   unfolding dueOf dueBy holds order firstOf
   worded-due (alike w) = alike-due w

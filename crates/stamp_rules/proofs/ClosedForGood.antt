@@ -19,11 +19,11 @@ use Rattle.stamp_rules.proofs.Seats.{done-open, new-others, gone-others
 use Rattle.stamp_rules.proofs.Numbers.{next-rises}
 
 module _ (d : Desk) (j : ℕ) (l : j < d .next) (e : isOpen d j ≡ false) where
-  -- a closed job is not one that is open
+  -- a closed job is not an open one
   other-job : (i : ℕ) → isOpen d i ≡ true → j ≢ i
   other-job i o q = not-both (ap (isOpen d) q ∙ o) e
 
-  -- nor the next one
+  -- nor the next one to be begun
   not-next : j ≢ d .next
   not-next q = omega arith
 

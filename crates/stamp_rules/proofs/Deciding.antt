@@ -32,14 +32,14 @@ module _ (d : Desk) (r : Request) (a : Ask) (k : Asking d r a) where
   went-back : step d r .said ≡ Back (r .job) → late d (r .job) (r .cell) a ≡ true
   went-back g = by-test (late d (r .job) (r .cell) a) (λ t. t) (λ f. let e : Go (r .job) ≡ Back (r .job) = rw f at (sym said-by ∙ g) in other-answer e refl)
 
-  -- so it goes where it is not late, in the words that say so, and is sent back where it is
+  -- so it goes if it is not late, in the words that say so, and is sent back if it is
   goes-where : {this that : Type 0} → Decided (late d (r .job) (r .cell) a) this that → GoesWhere (from d) r this that
   goes-where t = record {
     goes = (λ g. t .in-time (went g), λ p. said-by ∙ rw (t .so-in-time p));
     goes-back = (λ g. t .too-late (went-back g), λ p. said-by ∙ rw (t .so-too-late p));
   }
 
-  -- and nothing else
+  -- and there is no other answer
   one-of-two : (step d r .said ≡ Go (r .job)) ⊎ (step d r .said ≡ Back (r .job))
   one-of-two = by-test (late d (r .job) (r .cell) a) (λ t. inr (said-by ∙ rw t)) (λ f. inl (said-by ∙ rw f))
 

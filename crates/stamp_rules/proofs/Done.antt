@@ -20,14 +20,14 @@ module _ (d : Desk) (j c : ℕ) where
   done-jobs Increment = record { places = refl; next = refl }
   done-jobs Update = record { places = refl; next = refl }
 
-  -- the cell's reader number is changed there alone
+  -- only the cell's reader number changes
   read-by : (e : Desk) → e .reader ≡ at (d .reader) c (larger (d .reader c) j) → ReadBy d e j c
   read-by e q = record {
     there = ap (λ f. f c) q ∙ at-same (d .reader) c _;
     elsewhere = λ b n. ap (λ f. f b) q ∙ at-other (d .reader) c _ b n;
   }
 
-  -- and so its writer number
+  -- and only its writer number
   written-by : (e : Desk) → e .writer ≡ at (d .writer) c j → WrittenBy d e j c
   written-by e q = record {
     there = ap (λ f. f c) q ∙ at-same (d .writer) c j;

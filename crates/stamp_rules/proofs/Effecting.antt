@@ -34,7 +34,7 @@ use Rattle.stamp_rules.proofs.Numbers.{next-bounds, next-rises-on, numb
 use Rattle.stamp_rules.proofs.Kept.{Seats, started-seats, next-not-open}
 use Rattle.stamp_rules.proofs.ClosedForGood.{closed-through}
 
--- a go tells one job
+-- two equal goes name one job
 same-go : {i j : ℕ} → Go i ≡ Go j → i ≡ j
 same-go e = cc
 

@@ -36,7 +36,7 @@ neither {a} {b} x y = record {
   so-too-late = ⊎-elim (λ t. or-first a b (x .so-too-late t)) (λ t. or-second a b (y .so-too-late t));
 }
 
--- a test that is said before another and again after it
+-- a test that is repeated after another one
 said-twice : (a b : Bool) → (a || (b || a)) ≡ (b || a)
 said-twice true true = refl
 said-twice true false = refl
@@ -58,7 +58,7 @@ module _ (d : Desk) (j c : ℕ) where
   unfolding late lateToWrite
   write-late = neither (smaller j (d .reader c)) (smaller j (d .writer c))
 
-  -- an increment is late where a write is
+  -- an increment is late if a write is
   as-write : late d j c Increment ≡ late d j c Write
   unfolding late lateToRead lateToWrite
   as-write = said-twice (ltb j (d .writer c)) (ltb j (d .reader c))

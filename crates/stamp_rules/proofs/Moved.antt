@@ -30,7 +30,7 @@ either : {d : Desk} {r : Request} (b : Bool) {x y : Outcome} → (b ≡ true →
 either true f g = f refl
 either false f g = g refl
 
--- a refusal that is due by the request's letter and whether its job is open
+-- a refusal that is due, given the request's letter and whether its job is open
 due-by : {d : Desk} {r : Request} {l : Lettered} {b : Bool} (why : Refusal) → letterOf (r .kind) ≡ l → isOpen d (r .job) ≡ b → dueBy d l b (r .cell) ≡ some why → Moved d r (refused d why)
 unfolding dueOf
 due-by why e q h = refuses why (rw (e, q) h)

@@ -34,7 +34,7 @@ module _ {d : Desk} {r : Request} where
   unfolding step stepBy stepAsk
   asking-step a k = rw (k .letter, k .open-job, lt-ltb (r .cell) cells (k .within))
 
-  -- where a refusal is due every move is that refusal
+  -- if a refusal is due, every move is that refusal
   due-moves : {o : Outcome} (why : Refusal) → Due d r why → Moved d r o → o ≡ refused d why
   unfolding dueOf dueBy holds order firstOf
   due-moves why x (refuses w y) = ap (refused d) (one-due y x)

@@ -18,7 +18,7 @@ use Rattle.stamp_rules.proofs.Moved.{step-moved}
 use Rattle.stamp_rules.proofs.Refusing.{only-these}
 
 module _ (d : Desk) (r : Request) where
-  -- no move has a job wait
+  -- no move makes a job wait
   moved-no-wait : {o : Outcome} (j : ℕ) → Moved d r o → o .said ≢ Wait j
   unfolding refused
   moved-no-wait j (refuses why _) e = other-answer e refl
@@ -27,7 +27,7 @@ module _ (d : Desk) (r : Request) where
   moved-no-wait j (goes a k f) e = other-answer e refl
   moved-no-wait j (goes-back a k t) e = other-answer e refl
 
-  -- none wakes anybody
+  -- no move wakes a job
   moved-no-wakes : {o : Outcome} → Moved d r o → o .wakes ≡ []
   unfolding refused
   moved-no-wakes (refuses why _) = refl

@@ -71,7 +71,7 @@ no-nine : (d : Desk) (r : Request) (why : Refusal) → Due d r why → numberOf 
 unfolding member
 no-nine d r why e n = not-both (sym (ap (λ m. member m (1 ∷ 2 ∷ 3 ∷ 6 ∷ 7 ∷ 19 ∷ [])) n) ∙ due-number d r why e) refl
 
--- a back is an answer to requests for a cell alone, and nothing is answered wait
+-- only requests for a cell are answered back, and no request is answered wait
 only-cells : (d : Desk) (r : Request) → letterIs asksNoCell (letterOf (r .kind)) ≡ true → goesOrRefuses (step d r .said) ≡ true
 only-cells d r k = by-move (step-moved d r)
   where
@@ -82,7 +82,7 @@ only-cells d r k = by-move (step-moved d r)
     by-move (moves.goes a q f) = refl
     by-move (moves.goes-back a q t) = not-both k (ap (letterIs asksNoCell) (q .letter))
 
--- requests that are alike to a letter have the same outcome under it
+-- requests that are alike for a letter have the same outcome
 by-alike : (d : Desk) (r s : Request) (l : Lettered) → Alike l r s → stepBy d r l ≡ stepBy d s l
 unfolding stepBy
 by-alike d r s Unknown e = refl
@@ -93,7 +93,7 @@ by-alike d r s (Known GiveUp) e = ap (stepClose d) (e .job refl)
 by-alike d r s (Known Retry) e = ap (stepRetry d) (e .job refl)
 by-alike d r s (Known (Asks a)) e = ap₂ (λ j c. stepAsk d j c a) (e .job refl) (e .cell refl)
 
--- requests of one kind that are alike to its letter make the same step
+-- requests of one kind that are alike for its letter make the same step
 step-alike : (d : Desk) (r s : Request) → r .kind ≡ s .kind → Alike (letterOf (r .kind)) r s → step d r ≡ step d s
 unfolding step
 step-alike d r s k e = by-alike d r s (letterOf (r .kind)) e ∙ ap (λ b. stepBy d s (letterOf b)) k

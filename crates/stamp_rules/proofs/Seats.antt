@@ -40,7 +40,7 @@ pub zero-not-open : (d : Desk) → isOpen d 0 ≡ false
 unfolding isOpen
 zero-not-open d = refl
 
--- a job is open on one desk where it is on another, if it has a place there where it has one here
+-- a job is open on both of two desks or on neither, if it has a place on both or on neither
 same-open : (d e : Desk) (i : ℕ) → (i ≢ 0 → member i (e .jobs) ≡ member i (d .jobs)) → isOpen e i ≡ isOpen d i
 unfolding isOpen
 same-open d e i h = by-test (eqb i 0) (λ t. rw t) (λ f. ap (λ b. not (eqb i 0) && b) (h (eqb-false i 0 f)))

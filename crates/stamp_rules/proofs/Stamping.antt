@@ -38,7 +38,7 @@ use Rattle.stamp_rules.proofs.Done.{read-done, update-done, write-done,
 use Rattle.stamp_rules.proofs.Late.{over-writer}
 use Rattle.stamp_rules.proofs.Written.{asking, Wrote, nothing, action, mark, step-wrote}
 
--- these numbers are the largest, cell by cell, with an action of such a kind
+-- these numbers are, cell by cell, the largest with an action of such a kind
 abbrev Largest : (Kind → Bool) → (ℕ → ℕ) → History → Type 0
 Largest f stamp h = (c : ℕ) → stamp c ≡ largest f c h
 
@@ -48,7 +48,7 @@ pub record Matches (d : Desk) (h : History) : Type 0 where
   pub writers : Largest changes (d .writer) h
 
 module _ (f : Kind → Bool) (stamp : ℕ → ℕ) (h : History) (x : Action) (k : Largest f stamp h) where
-  -- an action of another kind leaves them so
+  -- an action of another kind does not change this
   unacted : f (x .kind) ≡ false → Largest f stamp (h ++ Does x ∷ [])
   unacted n c = k c ∙ sym (largest-then-other f c h x (rw n (and-false (eqb (x .cell) c))))
 

@@ -27,17 +27,17 @@ ask-answered : (d : Desk) (j c : ℕ) (a : Ask) → Answers (ask d j c a .said) 
 unfolding ask close
 ask-answered d j c a = answered (late d j c a) _ _ j (goes-back j) (goes j)
 
--- a commit and a give-up: 3 where the job is not open
+-- a commit and a give-up: 3 if the job is not open
 close-meant : (d : Desk) (j : ℕ) → Meant d j (pick (not (isOpen d j)) (some NotOpen) none) (stepClose d j)
 unfolding stepClose close
 close-meant d j = by-test (isOpen d j) (λ t. rw t (goes j)) (λ f. rw f refl)
 
--- a retry: 3 where the job is not open, and otherwise 19
+-- a retry: 3 if the job is not open, otherwise 19
 retry-meant : (d : Desk) (j c : ℕ) → Meant d j (dueBy d (Known Retry) (isOpen d j) c) (stepRetry d j)
 unfolding stepRetry dueBy holds order firstOf
 retry-meant d j c = by-test (isOpen d j) (λ t. rw t refl) (λ f. rw f refl)
 
--- a request for a cell: 3 where the job is not open, then 2 where the cell is above 63
+-- a request for a cell: 3 if the job is not open, then 2 if the cell is above 63
 ask-meant : (d : Desk) (j c : ℕ) (a : Ask) → Meant d j (dueBy d (Known (Asks a)) (isOpen d j) c) (stepAsk d j c a)
 unfolding stepAsk dueBy holds order firstOf
 ask-meant d j c a =

@@ -32,7 +32,7 @@ pub data Wrote (d : Desk) (r : Request) : Desk → History → Type 0 where
   mark : (m : Mark) → isOpen d (r .job) ≡ true → Wrote d r (without d (r .job)) (Ends m (r .job) ∷ [])
 
 module _ {d : Desk} {r : Request} where
-  -- every move writes so
+  -- every move writes in one of these ways
   moved-wrote : {o : Outcome} → Moved d r o → Wrote d r (o .desk) (recordsOf r (o .said) (o .wakes))
   unfolding refused recordsOf ownRecords wakeRecords wentBy
   moved-wrote (refuses why _) = nothing (record { readers = λ c. refl; writers = λ c. refl })

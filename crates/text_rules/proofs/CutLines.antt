@@ -24,7 +24,7 @@ use Rattle.text_rules.proofs.DigitLaws.{digits-at-most}
 use Rattle.text_rules.proofs.FieldParts.{field-then}
 use Rattle.text_rules.proofs.WrittenFields.{is-number}
 
--- a byte in front is not nothing
+-- a list with a byte in front is not empty
 not-nil : {P : Type 0} {b : ℕ} {t : List ℕ} → b ∷ t ≡ [] → P
 not-nil e = absurd (omega (arith, ap length e))
 
@@ -44,7 +44,7 @@ field-same (b ∷ t) q x v e =
     by-test (parts b) (λ p. (rw p, rw p (ap (λ u. u ++ q) (rw p at e))))
     (λ p. let g = field-same t q x v (rw p at e) in (rw p (ap (λ u. b ∷ u) (g .0)), rw p (g .1)))
 
--- what follows a field has no newline where the text has none
+-- what follows a field has no newline if the text has none
 plain-after : (t : List ℕ) → noNewline t ≡ true → noNewline (afterField t) ≡ true
 unfolding noNewline afterField
 plain-after [] h = refl
@@ -75,9 +75,9 @@ ending-decided good (b ∷ []) [] h l = refl
 ending-decided good (b ∷ []) (c ∷ q) h l = by-test (eqb b newline) (λ e. not-both (rw e at h) refl) (λ e. rw e)
 ending-decided good (b ∷ c ∷ t) q h l = refl
 
--- the number field of a text, where its field ends within the text or goes on to its end
+-- the number field of a text, whether its field ends within the text or goes on to its end
 module _ (d most n : ℕ) (at : Field) (few : most < 10 ^ suc d) (rest : ℕ → List ℕ → Reading) (goes-on : (v : ℕ) → Decided (suc n) (rest v)) (t q : List ℕ) (plain : noNewline t ≡ true) (long : n + d + 2 ≤ length t) where
-  -- it goes on: it is too long
+  -- the field goes on: it is too long
   number-long : afterField t ≡ [] → numberThen most at (tab ∷ t ++ q) rest ≡ numberThen most at (tab ∷ t) rest
   unfolding numberThen
   number-long e =
@@ -86,7 +86,7 @@ module _ (d most n : ℕ) (at : Field) (few : most < 10 ^ suc d) (rest : ℕ →
       let b : isNumber most t ≡ false = long-no-number d most t few (omega arith) in
       rw (g .0, g .1, a, b)
 
-  -- it ends: it is the same, and what follows is long enough where it is a number
+  -- the field ends: it is the same, and what follows is long enough if it is a number
   number-same : (x : ℕ) (v : List ℕ) → afterField t ≡ x ∷ v → numberThen most at (tab ∷ t ++ q) rest ≡ numberThen most at (tab ∷ t) rest
   unfolding numberThen
   number-same x v e =
@@ -100,12 +100,12 @@ module _ (d most n : ℕ) (at : Field) (few : most < 10 ^ suc d) (rest : ℕ →
       rw (g .0, g .1, e, k) (goes-on (valueFrom 0 (fieldAhead t)) (x ∷ v) q (rw e at (plain-after t plain)) left))
       (λ k. rw (g .0, k))
 
-  -- either way
+  -- in both cases
   number-tabbed : (u : List ℕ) → afterField t ≡ u → numberThen most at (tab ∷ t ++ q) rest ≡ numberThen most at (tab ∷ t) rest
   number-tabbed [] e = number-long e
   number-tabbed (x ∷ v) e = number-same x v e
 
--- a number field of at most so many digits, its tab, and what the rest needs
+-- a number field of at most this many digits, its tab, and what the rest needs
 number-decided : (d most n : ℕ) (at : Field) → most < 10 ^ suc d → (rest : ℕ → List ℕ → Reading) → ((v : ℕ) → Decided (suc n) (rest v)) → Decided (n + d + 3) (λ t. numberThen most at t rest)
 unfolding numberThen noNewline
 number-decided d most n at few rest goes-on [] q h l = absurd (omega arith)

@@ -39,7 +39,7 @@ unfolding used through
 through-line s [] = refl
 through-line s (b ∷ t) = by-test (eqb b newline) (λ e. simp e) (λ e. simp (e, through-line (taken s b) t))
 
--- where no byte is left the splitter stays
+-- if no byte is left, the splitter stays as it is
 through-none : (s : Splitter) (t : List ℕ) → used t ≡ 0 → through s t ≡ s
 through-none s t h = sym (through-line s t) ∙ rw h (unfold through in refl)
 
@@ -48,7 +48,7 @@ first-byte : (s : Splitter) (b : ℕ) → s .ended ≡ true → taken (underWay 
 unfolding taken underWay
 first-byte s b e = rw e
 
--- so a new line goes as such a line does
+-- so a new line goes on like a line under way
 begun : (s : Splitter) (t : List ℕ) → s .ended ≡ true → 0 < length t → through (underWay (s .kept) 0 (following (s .line))) t ≡ through s t
 unfolding through
 begun s [] e h = absurd (omega arith)

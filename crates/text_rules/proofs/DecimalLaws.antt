@@ -62,14 +62,14 @@ unfolding leads
 leads-append [] es h = not-both h refl
 leads-append (d ∷ ds) es h = h
 
--- with another first digit than zero, digits are shortest
+-- digits that begin with one other than zero are shortest
 leads-shortest : (ds : List ℕ) → leads ds ≡ true → shortest ds ≡ true
 unfolding leads shortest
 leads-shortest [] h = h
 leads-shortest (d ∷ []) h = refl
 leads-shortest (d ∷ e ∷ ds) h = h
 
--- a number above 0 begins with another digit than zero
+-- a number above 0 begins with a digit other than zero
 leads-in : (places n : ℕ) → 0 < n → n < tens places → leads (digitsIn places n) ≡ true
 unfolding digitsIn leads
 leads-in zero n z h = absurd (omega arith)

@@ -24,7 +24,7 @@ pub decimal-long : decimal (10 ^ 20) ≡ 49 ∷ replicate 20 48
 unfolding decimal digitsIn
 decimal-long = refl
 
--- a number below a power of ten has at most as many digits as the power says
+-- a number below a power of ten has at most as many digits as the exponent
 below-power : (p k n : ℕ) → n < 10 ^ suc k → length (digitsIn p n) ≤ suc k
 unfolding digitsIn
 below-power zero k n h = zero-le
@@ -100,7 +100,7 @@ unfoldable pub lastDigits : ℕ → ℕ → List ℕ
 lastDigits zero n = []
 lastDigits (suc k) n = lastDigits k (n / 10) ++ digit (n % 10) ∷ []
 
--- n in shortest decimal is the last so many digits of n, as many as there are
+-- n in shortest decimal is its last digits, as many as it has
 digits-are-last : (p n : ℕ) → digitsIn p n ≡ lastDigits (length (digitsIn p n)) n
 unfolding digitsIn lastDigits
 digits-are-last zero n = refl
@@ -108,7 +108,7 @@ digits-are-last (suc p) n =
     by-test (ltb n 10) (λ t. rw t (rw (mod-eq-of-lt (ltb-true n 10 t))))
     (λ f. rw f (rw (length-append, add-one) (ap (λ l. l ++ digit (n % 10) ∷ []) (digits-are-last p (n / 10)))))
 
--- a list from the place of a write on: what was written, and then the rest of the list
+-- a list from the place of a write: what was written, and then the rest of the list
 drop-written : (l : List ℕ) (i v : ℕ) → i < length l → drop i (set l i v) ≡ v ∷ drop (suc i) l
 drop-written l i v h =
     drop-cons (set l i v) i 0 (rw length-set h)

@@ -29,7 +29,7 @@ more-digits : (places n : ℕ) → 10 ≤ n → digitsIn (suc places) n ≡ digi
 unfolding digitsIn
 more-digits p n h = rw (le-ltb n 10 h)
 
--- with places enough, it does not matter how many there are
+-- with enough places, it does not matter how many there are
 enough-places : (p q n : ℕ) → n < tens (suc p) → n < tens (suc q) → digitsIn (suc p) n ≡ digitsIn (suc q) n
 unfolding digitsIn
 enough-places zero q n h g = rw (lt-ltb n 10 (omega arith))

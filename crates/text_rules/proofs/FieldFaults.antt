@@ -21,7 +21,7 @@ use Rattle.text_rules.proofs.WrittenFields.{not-bad}
 abbrev AllRight : (Letter → Bool) → List ℕ → Letter → Type 0
 AllRight which bytes l = LetterRight which bytes l × JobRight bytes l × CellRight bytes l × EndRight bytes l
 
--- some field is at fault, or all is right for a letter
+-- some field is at fault, or all fields are right for a letter
 by-fault : {P : Type 0} (which : Letter → Bool) (bytes : List ℕ) → ((at : Field) → AtFault which bytes at → P) → ((l : Letter) → AllRight which bytes l → P) → P
 by-fault which bytes fault right =
     by-letter which bytes

@@ -37,7 +37,7 @@ unfolding fieldAhead afterField endAhead
 field-none [] h = (refl, refl)
 field-none (b ∷ t) h = (rw h, rw h)
 
--- no letter parts fields
+-- a letter does not end a field
 letter-no-part : (l : Letter) → parts (byteOf l) ≡ false
 unfolding parts
 letter-no-part Begin = refl

@@ -39,7 +39,7 @@ pub record Past (there : Bool) (most : ℕ) (at : Field) (t : List ℕ) (rest : 
   pub count : length (more t) ≡ pick there 1 0 + length (more left)
   pub ends : ended t ≡ ended left
 
--- a number behind its tab
+-- a number after its tab
 past-tab : (most : ℕ) (at : Field) (t : List ℕ) (rest : ℕ → List ℕ → Reading) → Number most (fieldAt 1 (more (tab ∷ t))) → Past true most at (tab ∷ t) rest
 unfolding more numberThen fieldAt
 past-tab most at t rest k =
@@ -54,7 +54,7 @@ past-tab most at t rest k =
       ends = ended-tab t ∙ ended-after t;
     }
 
--- a number where there should be one
+-- a number, if there should be one
 past-there : (most : ℕ) (at : Field) (t : List ℕ) (rest : ℕ → List ℕ → Reading) → Number most (fieldAt 1 (more t)) → Past true most at t rest
 unfolding more fieldAt
 past-there most at [] rest k = absurd (none-no-number most k)

@@ -59,7 +59,7 @@ onto-first b (l ∷ ls) = refl
 rest : Splitter → List ℕ → List Found
 rest s t = foundIn s t ++ foundLast (afterAll s t)
 
--- they are the lines found over one chunk
+-- these are the lines found over one chunk
 over : (t : List ℕ) → foundOver fresh (t ∷ []) ≡ rest fresh t
 unfolding foundOver rest
 over t = refl
@@ -69,7 +69,7 @@ rest-newline : (s : Splitter) (b : ℕ) (t : List ℕ) → eqb b newline ≡ tru
 unfolding rest foundIn afterAll foundNow
 rest-newline s b t e = rw (taken-ended s b, e)
 
--- at any other byte none is
+-- at any other byte no line is found
 rest-other : (s : Splitter) (b : ℕ) (t : List ℕ) → eqb b newline ≡ false → rest s (b ∷ t) ≡ rest (taken s b) t
 unfolding rest foundIn afterAll foundNow
 rest-other s b t e = rw (taken-ended s b, e)
@@ -79,11 +79,11 @@ found-held : (s : Splitter) (p : List ℕ) (n : ℕ) → s .line ≡ n → Holds
 unfolding foundAt
 found-held s p n e h = λ i. record { number = e i; bytes = h .bytes i }
 
--- between lines, the lines of the rest are found, numbered on from the lines that have come
+-- between lines: the lines of the rest are found, numbered on from the lines that have come
 abbrev FromBetween : List ℕ → Type 0
 FromBetween t = (s : Splitter) (n : ℕ) → Between s n → rest s t ≡ numberedOn (following n) (linesOf t)
 
--- within a line, the same with the bytes that have come in front
+-- within a line: the same, with the bytes that have come in front
 abbrev FromWithin : List ℕ → Type 0
 FromWithin t = (s : Splitter) (p : List ℕ) (n : ℕ) → Within s p n → rest s t ≡ numberedOn n (onto p (linesOf t))
 

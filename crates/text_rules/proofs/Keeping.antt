@@ -50,7 +50,7 @@ begins : (b c : ℕ) (t : List ℕ) → used (b ∷ c ∷ t) ≡ suc (suc (lengt
 unfolding used
 begins b c t h = by-test (eqb b newline) (λ e. absurd (omega (arith, rw e at h))) (λ e. e)
 
--- the rest of such a part is one too
+-- the rest of such a part is such a part too
 goes-on : (b c : ℕ) (t : List ℕ) → eqb b newline ≡ false → used (b ∷ c ∷ t) ≡ suc (suc (length t)) → used (c ∷ t) ≡ suc (length t)
 unfolding used
 goes-on b c t e h = let g : suc (used (c ∷ t)) ≡ suc (suc (length t)) = rw e at h in omega arith
@@ -60,14 +60,14 @@ through-on : (s : Splitter) (b : ℕ) (t : List ℕ) → eqb b newline ≡ false
 unfolding through
 through-on s b t e = rw e
 
--- where there is room the first byte is one more store, and there is room for one less
+-- if there is room, the first byte is one more store, and there is room for one less
 after-room : (bytes : List ℕ) (n line b c : ℕ) (t : List ℕ) → n < kept →
     after (set bytes n b) (n + 1) line (c ∷ t) (min (suc (length t)) (kept - (n + 1))) ≡ after bytes n line (b ∷ c ∷ t) (min (suc (suc (length t))) (kept - n))
 after-room bytes n line b c t h =
     let m : min (suc (suc (length t))) (kept - n) ≡ suc (min (suc (length t)) (kept - (n + 1))) = omega arith in
     rw (m, add-one n, suc-add, add-suc) (simp sub-one)
 
--- where there is none nothing is stored
+-- if there is no room, nothing is stored
 after-full : (bytes : List ℕ) (n line b c : ℕ) (t : List ℕ) → kept ≤ n →
     after bytes n line (c ∷ t) (min (suc (length t)) (kept - n)) ≡ after bytes n line (b ∷ c ∷ t) (min (suc (suc (length t))) (kept - n))
 after-full bytes n line b c t h =
@@ -75,14 +75,14 @@ after-full bytes n line b c t h =
     let f : min (suc (suc (length t))) (kept - n) ≡ 0 = omega arith in
     rw (e, f) (simp sub-one)
 
--- where one byte comes and there is room it is stored
+-- if one byte comes and there is room, it is stored
 one-room : (bytes : List ℕ) (n line b : ℕ) → ltb n kept ≡ true → taken (underWay bytes n line) b ≡ after bytes n line (b ∷ []) (min 1 (kept - n))
 unfolding taken underWay
 one-room bytes n line b h =
     let m : min 1 (kept - n) ≡ 1 = omega (arith, ltb-true n kept h) in
     rw (h, m)
 
--- and where there is none it is not
+-- and if there is no room, it is not
 one-full : (bytes : List ℕ) (n line b : ℕ) → ltb n kept ≡ false → taken (underWay bytes n line) b ≡ after bytes n line (b ∷ []) (min 1 (kept - n))
 unfolding taken underWay
 one-full bytes n line b h =

@@ -72,7 +72,7 @@ requests =
     ∷ record { line = 99 ∷ 9 ∷ 10 ∷ []; says = Bad Second }
     -- a last line without its newline: c, 1
     ∷ record { line = 99 ∷ 9 ∷ 49 ∷ []; says = Bad Fourth }
-    -- a blank is of the first field: b with one after it
+    -- a blank belongs to the first field: b with one after it
     ∷ record { line = 98 ∷ 32 ∷ 10 ∷ []; says = Bad First }
     -- an empty field is a field too many: b and nothing after its tab
     ∷ record { line = 98 ∷ 9 ∷ 10 ∷ []; says = Bad Fourth }
@@ -94,7 +94,7 @@ histories =
     -- w, 1, 99 and i, 1, 0
     ∷ record { line = 119 ∷ 9 ∷ 49 ∷ 9 ∷ 57 ∷ 57 ∷ 10 ∷ []; says = Good (Asks Write) 1 99 }
     ∷ record { line = 105 ∷ 9 ∷ 49 ∷ 9 ∷ 48 ∷ 10 ∷ []; says = Good (Asks Increment) 1 0 }
-    -- c, a and k are of a history, and t, b and u are not
+    -- c, a and k belong to a history, and t, b and u do not
     ∷ record { line = 99 ∷ 9 ∷ 49 ∷ 10 ∷ []; says = Good Commit 1 0 }
     ∷ record { line = 97 ∷ 9 ∷ 49 ∷ 10 ∷ []; says = Good GiveUp 1 0 }
     ∷ record { line = 107 ∷ 9 ∷ 49 ∷ 10 ∷ []; says = Good Back 1 0 }

@@ -30,7 +30,7 @@ unfolding letterIn
 letter-known which bytes l r =
     rw (same-field (fieldAhead bytes) (byteOf l ∷ []) (sym (first-is bytes) ∙ r .1)) (letter-of-byte l)
 
--- behind it the reader goes on
+-- after it the reader goes on
 past-letter : (which : Letter → Bool) (bytes : List ℕ) (l : Letter) → LetterRight which bytes l → readLine which bytes ≡ jobPart l (afterField bytes)
 unfolding readLine letterPart
 past-letter which bytes l r = rw (letter-known which bytes l r, r .0)
@@ -56,7 +56,7 @@ cell-job Retry h = refl
 cell-job Back h = refl
 cell-job (Asks a) h = refl
 
--- a line that begins with a letter that it may have
+-- a line that begins with a letter that it may begin with
 module _ (which : Letter → Bool) (bytes : List ℕ) (l : Letter) (known : LetterRight which bytes l) where
   -- the reading of a line whose job is not right
   pub job-bad : (JobRight bytes l → ⊥) → readLine which bytes ≡ Bad Second
@@ -67,7 +67,7 @@ module _ (which : Letter → Bool) (bytes : List ℕ) (l : Letter) (known : Lett
 
   -- a job that is right
   module _ (job : JobRight bytes l) where
-    -- what is left behind it
+    -- what is left after it
     behind-job : Past (hasJob l) lastNumber Second (afterField bytes) (cellPart l)
     behind-job = past (hasJob l) lastNumber Second (afterField bytes) (cellPart l) (after-ends bytes) (λ h. rw (second-is bytes) at (job h))
 
@@ -88,7 +88,7 @@ module _ (which : Letter → Bool) (bytes : List ℕ) (l : Letter) (known : Lett
 
     -- a cell that is right
     module _ (cell : CellRight bytes l) where
-      -- what is left behind it
+      -- what is left after it
       behind-cell : Past (hasCell l) lastCell Third (behind-job .left) (λ n t. ending t (Good l (behind-job .number) n))
       behind-cell = past (hasCell l) lastCell Third (behind-job .left) _ (behind-job .stops) (λ h. rw (cell-is h) at (cell h))
 
@@ -97,11 +97,11 @@ module _ (which : Letter → Bool) (bytes : List ℕ) (l : Letter) (known : Lett
       unfolding cellPart
       past-cell = past-job ∙ behind-cell .reads
 
-      -- all fields are those of the letter and what is left
+      -- the fields of the line are those of the letter and of what is left
       all-fields : length (fieldsOf bytes) ≡ 1 + pick (hasJob l) 1 0 + pick (hasCell l) 1 0 + length (more (behind-cell .left))
       all-fields = omega (arith, ap length (fields-are bytes), behind-job .count, behind-cell .count)
 
-      -- the newline of the line is that of what is left
+      -- the line ends with its newline exactly if what is left does
       all-ended : ended bytes ≡ ended (behind-cell .left)
       all-ended = ended-after bytes ∙ behind-job .ends ∙ behind-cell .ends
 

@@ -18,7 +18,7 @@ use Rattle.text_rules.specs.Split.{joined}
 
 -- an answer record: the line number, a tab, the word, a tab, the number, a newline (01, Lines)
 module _ (line number : ℕ) where
-  -- what follows the word, where there is no fourth field
+  -- what follows the word, if there is no fourth field
   three-fields : (word : List ℕ) → decimal line ++ 9 ∷ (word ++ (9 ∷ decimal number ++ []) ++ 10 ∷ []) ≡ decimal line ++ 9 ∷ word ++ 9 ∷ decimal number ++ 10 ∷ []
   three-fields word = rw append-nil (simp append-assoc)
 

@@ -68,7 +68,7 @@ plain-one (b ∷ c ∷ l) h =
     and-both (not (eqb b newline)) (oneLine ((c ∷ l) ++ newline ∷ [])) (and-first (not (eqb b newline)) (noNewline (c ∷ l)) h)
     (plain-one (c ∷ l) (and-second (not (eqb b newline)) (noNewline (c ∷ l)) h))
 
--- and have their newline
+-- and end with their newline
 plain-ends : (l : List ℕ) → hasNewline (l ++ newline ∷ []) ≡ true
 unfolding hasNewline
 plain-ends [] = refl
@@ -82,7 +82,7 @@ record-line l job cell =
     let bytes : List ℕ = byteOf l ∷ (field (hasJob l) job ++ field (hasCell l) cell) in
     (plain-one bytes (rw (letter-plain l) (plain-append (field (hasJob l) job) (field (hasCell l) cell) (field-plain (hasJob l) job) (field-plain (hasCell l) cell))), plain-ends bytes)
 
--- so is an event's
+-- so is an event's record
 event-line : (e : Event) → (oneLine (eventLine e) ≡ true) × (hasNewline (eventLine e) ≡ true)
 unfolding eventLine
 event-line (Does a) = record-line (Asks (askBy (a .kind))) (a .job) (a .cell)

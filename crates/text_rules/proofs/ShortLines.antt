@@ -15,7 +15,7 @@ use Rattle.text_rules.specs.Split.{kept, linesOf, oneLine, noNewline, ev
 use Rattle.text_rules.proofs.CutLines.{line-decided}
 use Rattle.text_rules.proofs.TextLines.{lines-one}
 
--- in one line no newline stands before a further byte
+-- one line has no newline before its last byte
 plain-before : (p : List ℕ) (c : ℕ) (q : List ℕ) → oneLine (p ++ c ∷ q) ≡ true → noNewline p ≡ true
 unfolding oneLine noNewline
 plain-before [] c q h = refl

@@ -73,7 +73,7 @@ wrote-then {at} {a} {c} {bs} {cs} {b} {m} {p} w v =
       holds = v .holds ∙ rw (wrote-take w, f, ← drop-drop (length cs) a m, wrote-drop w, drop-drop) (simp append-assoc);
     }
 
--- the part that is lent from the place that was reached
+-- the part that is lent from the place reached
 lent-part : {at a : ℕ} {bs b m : List ℕ} → Wrote at a bs b m → midOf a (length m - a) m ≡ drop a b
 lent-part {at} {a} {bs} {b} {m} w = part-to-end m a ∙ wrote-drop w
 

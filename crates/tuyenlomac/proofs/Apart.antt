@@ -25,7 +25,7 @@ use Rattle.tuyenlomac.specs.declared.lines.Line.{Line}
 use Rattle.tuyenlomac.specs.Numbers.{wordNumber, wordAt, inThree}
 use Rattle.tuyenlomac.specs.Texts.{lineIn}
 
--- the word of a number, of the eight
+-- the word of a number, among the eight
 abbrev wordBy : ℕ → Word
 wordBy n = getD (Go ∷ Wait ∷ Back ∷ No ∷ Wake ∷ Orderly ∷ Knot ∷ []) n Dirty
 

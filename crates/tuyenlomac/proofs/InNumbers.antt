@@ -49,7 +49,7 @@ pub no-told : {c : Chained} {m k : ℕ} (why : Refusal) → c ≡ No why → m �
 unfolding chainNumbers
 no-told why e h g = rw (e, h, g)
 
--- bytes that there are go the way of any record, and where there are none nothing is written
+-- bytes that exist are written like any record; if there are none, nothing is written
 module _ (buffer : List ℕ) (at : ℕ) where
   pub written-some : {bytes : Option (List ℕ)} (bs : List ℕ) {after ns : List ℕ} {w : Written} → bytes ≡ some bs → (w ≡ told buffer at bs) × (after ≡ left buffer at bs) → ns ≡ writtenNumbers w →
       (ns ≡ writtenNumbers (toldOf buffer at bytes)) × (after ≡ leftOf buffer at bytes)

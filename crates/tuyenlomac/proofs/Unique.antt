@@ -62,7 +62,7 @@ tuyenlomac-locks-step-on-unique κs a x y e f p q =
 pub tuyenlomac-stamps-step-on-unique : UniqueLent stamps-stepK.ps stamps-stepK.r stamps-step.Post (λ κs e. stampsOf (now (e .0)) (now (e .1 .0)) (now (e .1 .1 .0)) (now (e .1 .1 .1 .0)))
 tuyenlomac-stamps-step-on-unique κs a x y e f p q = (p .answer ∙ sym (q .answer), p .desk ∙ sym (q .desk))
 
--- two lists of two numbers that are the same have the same first and the same second
+-- equal lists of two numbers have equal first and equal second numbers
 same-first : {a b c d : ℕ} → (a ∷ b ∷ []) ≡ (c ∷ d ∷ []) → a ≡ c
 same-first = ap (λ l. getD l 0 0)
 

@@ -21,7 +21,7 @@ wordNumber Orderly = 5
 wordNumber Knot = 6
 wordNumber Dirty = 7
 
--- this word if it has the number, else the given one
+-- this word if n is its number, else what the rest gives
 abbrev orElse : Word → ℕ → Worded → Worded
 orElse w n rest = pick (eqb n (wordNumber w)) (Known w) rest
 

@@ -36,7 +36,7 @@ pub all-kept : (text : List ℕ) (before : ℕ) (chunk : List ℕ) (i : ℕ) {le
 unfolding kept
 all-kept text before chunk i e l p = (l ∙ ap (λ n. before + n) e, p ∙ ap (paste text before chunk) e)
 
--- some bytes put at a buffer's start and others behind them are all of them put there
+-- putting bytes at a buffer's start and then others after them puts all of them there
 paste-on : (d r s : List ℕ) (k : ℕ) → length r + k ≤ length d → paste (paste d 0 r (length r)) (length r) s k ≡ paste d 0 (r ++ s) (length r + k)
 paste-on d r s k h = ap₂ (λ a b. a ++ take k s ++ b) front rest ∙ sym (ap₂ (λ a b. a ++ b) (take-append-add r s k) (ap (λ n. drop n d) (zero-add (length r + k))))
   where
