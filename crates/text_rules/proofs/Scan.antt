@@ -31,6 +31,6 @@ end-at-end t at h = rw (drop-of-length-le t h) (sym (add-zero at))
 pub end-at-newline : (t : List ℕ) (at : ℕ) → at < length t → getD t at 0 ≡ newline → at + 1 ≡ at + used (drop at t)
 end-at-newline t at h e = rw (drop-cons t at 0 h, used-newline (getD t at 0) (drop (suc at) t) e)
 
--- at any other byte the line ends where it ends from the next place on
+-- at any other byte the line's end is the one found from the next place
 pub end-past : (t : List ℕ) (at : ℕ) → at < length t → (getD t at 0 ≡ newline → ⊥) → (at + 1) + used (drop (at + 1) t) ≡ at + used (drop at t)
 end-past t at h e = rw (drop-cons t at 0 h, used-other (getD t at 0) (drop (suc at) t) e, add-one) (omega arith)

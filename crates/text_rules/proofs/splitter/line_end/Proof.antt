@@ -1,4 +1,4 @@
--- `text_rules::splitter::line_end` meets its contract. The loop's invariant: the line ends where it ends from the place reached on.
+-- `text_rules::splitter::line_end` meets its contract. The loop's invariant: the line's end is the one found from the place reached.
 -- The measure is what is left of the text. Assumes nothing.
 use Prim.Native.Nat.{_+_, _-_}
 use mathlib.Core.Path.{_≡_, refl, _∙_}
