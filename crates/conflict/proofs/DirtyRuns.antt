@@ -8,17 +8,16 @@ use mathlib.Core.List.{_∷_, _++_, append-assoc}
 use native.Mathlib.Omega.{arith}
 use lib.Dec.{leb}
 use lib.ListN.{length, getD, take, drop, length-append, length-drop, List·getD-append}
-use lib.Seq.{split-at, length-take-le, getD-drop, getD-at}
+use lib.Seq.{split-at, length-take-le, getD-drop}
 use borrow.Author.Tests.{leb-true, leb-false}
 use Rattle.laws.specs.Choice.{by-test, not-both}
 use Rattle.conflict.specs.declared.action.Kind.{Kind}
 use Rattle.conflict.specs.declared.action.Kind.the-variants.{Read, Write, Increment}
-use Rattle.conflict.specs.declared.action.Event.{Event}
 use Rattle.conflict.specs.declared.action.Event.the-variants.{Does, Ends}
 use Rattle.conflict.specs.History.{History, commits}
 use Rattle.conflict.specs.Dirty.{changes, DirtyRead, FirstDirty}
 use Rattle.conflict.specs.DirtyRuns.{LineAt, DirtyByRuns, FirstByRuns}
-use Rattle.conflict.proofs.RunLines.{shifted, in-run}
+use Rattle.conflict.proofs.RunLines.{shifted, mid-line, first-part, in-run}
 use Rattle.conflict.proofs.RunEnds.{ended-none, none-ended, end-behind, run-commits}
 
 -- a write or an increment changes a cell, and nothing else does
@@ -31,14 +30,6 @@ unfolding changes
 changes-writes Read e = not-both e refl
 changes-writes Write e = inl refl
 changes-writes Increment e = inr refl
-
--- the event between two parts is the line at that place
-mid-line : (h u : History) (x : Event) (l : History) (p : ℕ) → h ≡ u ++ x ∷ l → length u ≡ p → LineAt h p x
-mid-line h u x l p q s = (omega (arith, s, ap length q, length-append u (x ∷ l)), ap (λ g. getD g p x) q ∙ getD-at u x l x p s)
-
--- a line of the first part of two
-first-part : (u l : History) (k : ℕ) (e : Event) → k < length u → LineAt (u ++ l) k e → LineAt u k e
-first-part u l k e g a = (g, sym (List·getD-append u l e k g) ∙ a .1)
 
 module _ (h : History) (p q i j : ℕ) where
   -- from the request's words to runs

@@ -6,8 +6,8 @@ use mathlib.Core.Logic.{_⊎_, inl, inr}
 use mathlib.Core.List.{[], _∷_, _++_}
 use native.Mathlib.Omega.{arith}
 use lib.Dec.{eqb, ltb}
-use lib.ListN.{length, getD, length-append}
-use lib.Seq.{getD-append-add}
+use lib.ListN.{length, getD, length-append, List·getD-append}
+use lib.Seq.{getD-append-add, getD-at}
 use borrow.Author.Tests.{eqb-true, eqb-false, ltb-true, ltb-false}
 use Rattle.laws.specs.Choice.{by-test}
 use Rattle.conflict.specs.declared.action.Action.{Action}
@@ -54,6 +54,14 @@ shifted-back h u x l p q s k e a =
     let n : suc (p + k) ≡ length u + suc k = omega arith in
     let size : length h ≡ length u + suc (length l) = ap length q ∙ length-append u (x ∷ l) in
     (omega (arith, a .0), sym (getD-append-add u (x ∷ l) (suc k) e) ∙ sym (ap (λ g. getD g (length u + suc k) e) q) ∙ ap (λ m. getD h m e) (sym n) ∙ a .1)
+
+-- the event between two parts is the line at that place
+pub mid-line : (h u : History) (x : Event) (l : History) (p : ℕ) → h ≡ u ++ x ∷ l → length u ≡ p → LineAt h p x
+mid-line h u x l p q s = (omega (arith, s, ap length q, length-append u (x ∷ l)), ap (λ g. getD g p x) q ∙ getD-at u x l x p s)
+
+-- a line of the first part of two
+pub first-part : (u l : History) (k : ℕ) (e : Event) → k < length u → LineAt (u ++ l) k e → LineAt u k e
+first-part u l k e g a = (g, sym (List·getD-append u l e k g) ∙ a .1)
 
 -- equal marks belong to one job
 same-job : {m n : Mark} {i j : ℕ} → Ends m i ≡ Ends n j → i ≡ j
