@@ -1,5 +1,7 @@
-# tables under a heading that names a program: lines in backticks, a tab as an arrow, a carriage return as its sign, the last without its newline
-# where it says so; or '(nothing)', '(an empty line)', so many bytes
+# The examples of two pages, against the built programs.
+
+# docs/FORMATS.md: tables under a heading that names a program. Lines stand in backticks, with an arrow for a tab and a sign for a carriage return; the
+# last one lacks its newline where the row says so. Or '(nothing)', '(an empty line)', or so many bytes.
 formats() {
     awk '
         /^## / { program = ""; if (match($0, /\(`[a-z_]+`\)/)) program = substr($0, RSTART + 2, RLENGTH - 4) }
@@ -17,4 +19,24 @@ formats() {
             lines <<<"$wanted" >"$log/wanted"
             if [ -s "$log/wanted" ]; then writes "$program" "$log/in" "$log/wanted" "docs/FORMATS.md,$input"; else echo "docs/FORMATS.md,$input: no output stands there"; fi
         done
+    shown
+}
+
+# docs/PROGRAMS.md: in an indented block a line '$ COMMAND', which ends in the name of the section's program, and under it the lines that this program
+# writes. Every section has one.
+shown() {
+    local n=0 section command program
+    awk -v OFS='\t' -v to="$log/shown" '
+        /^## / { if (bare) print section, ""; section = $2; bare = 1 }
+        !/^    / { wanted = "" }
+        /^    \$ / { print section, substr($0, 7); bare = 0; wanted = to (++n); printf "" >wanted; next }
+        wanted != "" { print substr($0, 5) >wanted }
+        END { if (bare) print section, "" }' docs/PROGRAMS.md >"$log/shown"
+    while IFS=$'\t' read -r section command; do
+        [ -n "$command" ] || { echo "docs/PROGRAMS.md, $section: no example"; continue; }
+        n=$((n + 1)) program=${command##*| }
+        if [ "$program" != "$section" ]; then echo "docs/PROGRAMS.md, $section: the example runs $program"
+        elif ! eval "${command% | *}" >"$log/in"; then echo "docs/PROGRAMS.md, $section: '${command% | *}' makes no text"
+        else writes "$program" "$log/in" "$log/shown$n" "docs/PROGRAMS.md, '$command'"; fi
+    done <"$log/shown"
 }

@@ -186,7 +186,7 @@ refusals() {
     local page
     refusal_rows >"$log/tables"
     defined_refusals >"$log/defined"
-    grep -q '^README.md' "$log/tables" || echo "README.md has no table of refusals"
+    grep -q '^docs/FORMATS.md' "$log/tables" || echo "docs/FORMATS.md has no table of refusals"
     for page in $(cut -f 1 "$log/tables" | sort -u); do
         grep "^$page	" "$log/tables" >"$log/rows"
         : >"$log/given"
@@ -195,7 +195,7 @@ refusals() {
         judge_refusals
         refusal_givers "$page"
     done
-    grep '^README.md	' "$log/tables" >"$log/rows"
+    grep '^docs/FORMATS.md	' "$log/tables" >"$log/rows"
     refusals_promised
     refusals_printed
 }
