@@ -1,42 +1,42 @@
 //! The lock desk, the timestamp desk, the judge and their lines, for programs in Rust: a safe face
-//! over the archive libtuyenlomac.a, which is for x86-64 Linux.
+//! (wrapper) over the archive libtuyenlomac.a, which is for x86-64 Linux.
 //!
-//! Put this file beside your own, write `mod tuyenlomac;`, and tell rustc where the archive is (`-L`);
-//! docs/LIBRARY.md has the commands, and include/tuyenlomac.h says of every function what it answers.
-//! What the header asks of a caller the types ask here: `start` alone makes a desk, nobody can write or
-//! copy its fields, and a step borrows it as `&mut`, so that there is one caller at a time. A program
-//! with threads keeps a desk in a `Mutex`. The types do not see what the program does with the cells'
-//! own data, and for that there is a rule.
+//! Put this file beside your own, write `mod tuyenlomac;`, and tell rustc where the archive is (`-L`).
+//! docs/LIBRARY.md has the commands, and include/tuyenlomac.h says for every function what it answers.
+//! The types enforce what the header asks of a caller: only `start` makes a desk, nobody can write or
+//! copy its fields, and a step borrows it as `&mut`, so there is one caller at a time. A program with
+//! threads keeps a desk in a `Mutex`. The types do not see what the program does with the cells' data.
+//! For that there are rules:
 //!
-//! At the lock desk a job that is sent back has lost its locks, and others may have been granted its
-//! cells, before its caller hears `Back`. So
+//! At the lock desk a job that is sent back (aborted) has lost its locks, and others may have been granted
+//! its cells, before its caller sees `Back`. So
 //! - after `Back`: first take back (undo) what the job did, then tell the jobs that were woken, then free
 //!   the mutex;
 //! - before a give-up (abort): first take back what the job did, then make the call;
 //! - or change cells only between the job's last `Go` (or wake) and its commit: then a job that is sent
 //!   back has nothing to take back.
 //!
-//! An increment is one atomic operation where the cell is kept, since increment locks are shared; it is
-//! taken back by the opposite increment, and not by the value that stood there before. library/count.rs is
-//! a program with threads that does so.
+//! An increment is one atomic operation on the cell's data, since increment locks are shared. Take it back
+//! by the opposite increment, not by restoring the old value. library/count.rs is a program with threads
+//! that does all this.
 //!
 //! At the timestamp desk nothing is held between `Go` and the act: the act belongs inside the mutex, and
-//! so does taking back. The header says more of it.
+//! so does taking back. The header says more about it.
 //!
-//! Nothing here allocates, or keeps anything between calls. A panic can come only from an answer that
-//! the archive never gives; beside each stands what rules it out.
-#![allow(dead_code)] // a program uses of it what it needs
+//! Nothing here allocates, or keeps anything between calls. A panic could come only from an answer that
+//! the archive never gives; the comment beside each says what rules it out.
+#![allow(dead_code)] // a program may use only a part of it
 
 use std::fmt;
 use std::mem::{align_of, size_of};
 
-/// So many jobs may be open at once, and so many wakes and jobs of a chain there are at most.
+/// The most jobs that may be open at once; no step has more wakes, and no chain more jobs.
 pub const PLACES: usize = 32;
 /// Cells are 0 to 63.
 pub const CELLS: u32 = 64;
 /// Places of an order buffer for the judge; fewer are refused.
 pub const ORDER: usize = 255;
-/// No answer record of a request line up to 1,000,000 has more bytes.
+/// No answer record to a request line up to 1,000,000 has more bytes.
 pub const RECORD: usize = 24;
 
 /// The kind of a request that begins a job.
@@ -45,7 +45,7 @@ pub const BEGIN: u8 = b'b';
 pub const COMMIT: u8 = b'c';
 /// The kind of a request by which a job gives up.
 pub const GIVE_UP: u8 = b'a';
-/// The kind of a request that runs a job again that was sent back.
+/// The kind of a request that retries a job that was sent back.
 pub const RETRY: u8 = b't';
 /// The kind of a request to read a cell.
 pub const READ: u8 = b'r';
@@ -55,10 +55,10 @@ pub const WRITE: u8 = b'w';
 pub const INCREMENT: u8 = b'i';
 /// The kind of a request to read a cell with intent to write it.
 pub const UPDATE: u8 = b'u';
-/// The letter of a job that was sent back, in histories alone; as a request it is refused.
+/// The letter of a job that was sent back, only in histories; as a request it is refused.
 pub const SENT_BACK: u8 = b'k';
 
-/// The archive's own functions and what they hand back, as include/tuyenlomac.h has them.
+/// The archive's own functions and what they return, as include/tuyenlomac.h declares them.
 mod raw {
     #[repr(C)]
     pub struct Answer {
@@ -94,7 +94,7 @@ mod raw {
         pub next: usize,
     }
 
-    // A reference to an array is a pointer to its first element, not null and aligned.
+    // A reference to an array is passed as a pointer to its first element, not null and aligned.
     #[link(name = "tuyenlomac", kind = "static")]
     unsafe extern "C" {
         pub fn tuyenlomac_locks_start_on(
@@ -185,23 +185,23 @@ const _: () = assert!(size_of::<Wakes>() == 288 + 8 && align_of::<Wakes>() == 8)
 #[derive(Clone, Copy, Debug, PartialEq, Eq, Hash)]
 #[repr(u32)]
 pub enum Refusal {
-    /// No letter of requests; also a record whose letter there is not.
+    /// Not a letter of requests; or, for a record, an unknown letter.
     UnknownKind = 1,
     /// A cell above 63.
     CellAbove = 2,
     /// The job is not open; 0 never is.
     NotOpen = 3,
-    /// The job waits, and this is no give-up.
+    /// The job waits, and the request is not a give-up.
     Waiting = 4,
-    /// The job was sent back, and this is no retry and no give-up; or its chain is asked for.
+    /// The job was sent back, and the request is neither a retry nor a give-up; or its chain is asked for.
     WasSentBack = 5,
-    /// Begin with 32 open jobs.
+    /// Begin while 32 jobs are open.
     AllOpen = 6,
     /// Begin after 4,294,967,295 was given.
     NoNumberLeft = 7,
     /// Retry of a running job.
     Running = 8,
-    /// A bad line; a `Field` beside it is the one at fault.
+    /// A bad line; the `Field` beside it is the one at fault.
     BadLine = 9,
     /// A desk started at number 0.
     StartedAtZero = 10,
@@ -250,8 +250,8 @@ impl Refusal {
     fn of(number: u32) -> Refusal {
         match Refusal::ALL.iter().find(|refusal| refusal.number() == number) {
             Some(&refusal) => refusal,
-            // Every contract of the archive tells the number of one of its refusals, those above; 16 is
-            // of the program verdict alone.
+            // By its contract every function of the archive returns the number of a refusal above; only the
+            // program verdict gives 16.
             None => unreachable!("no refusal has the number {}", number),
         }
     }
@@ -265,7 +265,7 @@ impl fmt::Display for Refusal {
 
 impl std::error::Error for Refusal {}
 
-/// The field of a line that is at fault, the lowest where there are several.
+/// The field of a line that is at fault; the lowest if there are several.
 #[derive(Clone, Copy, Debug, PartialEq, Eq, Hash)]
 #[repr(u8)]
 pub enum Field {
@@ -289,7 +289,7 @@ impl Field {
 
     fn of(number: u32) -> Option<Field> {
         let found = Field::ALL.iter().find(|field| u32::from(field.number()) == number).copied();
-        // The contracts of the readers and of the judge tell 0, or the number of one of four fields.
+        // By their contracts the readers and the judge return 0, or the number of one of four fields.
         assert!(found.is_some() || number == 0, "no field has the number {}", number);
         found
     }
@@ -307,7 +307,7 @@ impl std::error::Error for Field {}
 #[derive(Clone, Copy, Debug, PartialEq, Eq, Hash)]
 #[repr(u32)]
 pub enum Word {
-    /// It is done, or granted.
+    /// The request is done, or granted.
     Go = 0,
     /// The job waits.
     Wait = 1,
@@ -319,19 +319,19 @@ pub enum Word {
     Wake = 4,
 }
 
-/// What a desk answers to one request. The number is the job's, of a begin the new one.
+/// What a desk answers to one request. The number is the job's, for a begin the new one.
 #[derive(Clone, Copy, Debug, PartialEq, Eq, Hash)]
 #[must_use = "a request may have been told to wait, sent back or refused"]
 pub enum Answer {
-    /// It is done.
+    /// The request is done.
     Go(u32),
-    /// The job waits: it asks nothing more, but may give up, until a wake of a later step names it. The
-    /// timestamp desk never says so.
+    /// The job waits: it may only give up until a wake of a later step names it. The timestamp desk never
+    /// gives this answer.
     Wait(u32),
     /// The job was sent back and holds nothing. At the lock desk it may retry or give up; at the
-    /// timestamp desk it is closed. Take back what it did before the wakes are told and the mutex is free.
+    /// timestamp desk it is closed. Take back what it did, then tell the woken jobs, then free the mutex.
     Back(u32),
-    /// Nothing was done, and the desk is what it was.
+    /// Nothing was done, and the desk did not change.
     No(Refusal),
 }
 
@@ -364,14 +364,14 @@ impl Answer {
             WAIT => Answer::Wait(told.number),
             BACK => Answer::Back(told.number),
             NO => Answer::No(Refusal::of(told.number)),
-            // The contract of each step tells the number of one of these four words.
+            // By its contract each step returns the number of one of these four words.
             _ => unreachable!("no answer has the word {}", told.word),
         }
     }
 }
 
-/// A job that goes on now: the cell that it was granted, and what it does there, `READ` (also where it
-/// asked `UPDATE`), `WRITE` or `INCREMENT`.
+/// A job that goes on now: the cell that it was granted, and what it does there, `READ` (also if it asked
+/// `UPDATE`), `WRITE` or `INCREMENT`.
 #[derive(Clone, Copy, Debug, PartialEq, Eq, Hash)]
 pub struct Wake {
     pub kind: u8,
@@ -379,16 +379,16 @@ pub struct Wake {
     pub cell: u32,
 }
 
-/// The wakes of one step, in their order. It is kept from step to step, and each step puts its own wakes
-/// there; it is no part of the desk. After `Back` the wakes are told when what the job did is taken back,
-/// and before the mutex is freed; after a commit or a give-up they may be told once it is free.
+/// The wakes of one step, in order. Keep one such list for all steps: each step replaces the wakes in it.
+/// It is not a part of the desk. After `Back`, tell the woken jobs when what the job did is taken back, and
+/// before the mutex is freed; after a commit or a give-up you may free the mutex first.
 #[repr(C)]
 #[derive(Clone)]
 pub struct Wakes {
     job: [u32; PLACES],
     cell: [u32; PLACES],
     kind: [u8; PLACES],
-    // how many of the first places the last step told; what stands behind them is never shown
+    // how many of the first places the last step filled; the others are never shown
     len: usize,
 }
 
@@ -403,21 +403,21 @@ impl Wakes {
         self.len
     }
 
-    /// Whether the last step woke nobody.
+    /// Whether the last step woke no job.
     pub fn is_empty(&self) -> bool {
         self.len == 0
     }
 
-    /// The wake at a place, if the last step had so many.
+    /// The wake at a place, if the last step had that many.
     pub fn get(&self, place: usize) -> Option<Wake> {
         if place >= self.len {
             return None;
         }
-        // A step tells at most as many wakes as there are places, so none is missed here.
+        // A step has at most as many wakes as there are places, so none is missed here.
         Some(Wake { kind: self.kind[place], job: self.job[place], cell: self.cell[place] })
     }
 
-    /// The wakes of the last step, in their order; `for wake in &wakes` goes through them too.
+    /// The wakes of the last step, in order; `for wake in &wakes` goes through them too.
     pub fn iter(&self) -> Iter<'_> {
         Iter { wakes: self, place: 0 }
     }
@@ -468,7 +468,7 @@ impl fmt::Debug for Wakes {
     }
 }
 
-/// A lock desk. There is no second one of the same jobs: it cannot be copied, only moved and lent.
+/// A lock desk. It cannot be copied, only moved and lent: there is no second desk for the same jobs.
 #[repr(C)]
 #[derive(Debug)]
 pub struct Locks {
@@ -485,7 +485,7 @@ impl Locks {
     pub fn start(first: u32) -> Result<Locks, Refusal> {
         let mut d =
             Locks { next: 0, number: [0; 32], status: [0; 32], cell: [0; 32], ask: [0; 32], held: [0; 2048] };
-        // Sound: six fields of one value, which nobody else has yet.
+        // Sound: six fields of one value that nobody else has yet.
         let refusal = unsafe {
             raw::tuyenlomac_locks_start_on(
                 &mut d.next,
@@ -504,12 +504,12 @@ impl Locks {
         }
     }
 
-    /// One request, its kind a letter as `BEGIN`. A begin reads neither job nor cell; commit, give-up and
-    /// retry read no cell. The step's wakes, which only a commit, a give-up and a sending back have, stand
-    /// in `wakes`, and those that stood there are forgotten. Before a give-up take back what the job did;
-    /// after `Back` do so before anything else.
+    /// One request; its kind is a letter such as `BEGIN`. A begin reads neither job nor cell; commit, give-up
+    /// and retry read no cell. The step's wakes replace those in `wakes`; only a commit, a give-up and a
+    /// `Back` wake other jobs. Before a give-up take back what the job did; after `Back` do so before
+    /// anything else.
     pub fn step(&mut self, kind: u8, job: u32, cell: u32, wakes: &mut Wakes) -> Answer {
-        // Sound: the fields of two values, each borrowed for this call by nobody else.
+        // Sound: the fields of two values that nobody else borrows during this call.
         let told = unsafe {
             raw::tuyenlomac_locks_step_on(
                 &mut self.next,
@@ -530,15 +530,15 @@ impl Locks {
         Answer::of(&told)
     }
 
-    /// The jobs that wait now, in no order that means anything.
+    /// The jobs that wait now, in no particular order.
     pub fn waiting(&self) -> impl Iterator<Item = u32> + '_ {
         const WAITING: u8 = 2; // as the header has it
         (0..PLACES).filter(move |&place| self.status[place] == WAITING).map(move |place| self.number[place])
     }
 
-    /// Who holds a job up: the job, the youngest in its way, the youngest in that one's way, and so on to
-    /// a job that runs; of a running job itself alone. `NotOpen`, then `WasSentBack`, then `ShortList` for
-    /// a list of fewer than 32 places. What stands in the list behind the chain stays.
+    /// Why a job waits: the job, the youngest in its way, the youngest in that one's way, and so on to a job
+    /// that runs; for a running job, itself alone. It refuses with `NotOpen`, then `WasSentBack`, then
+    /// `ShortList` for a list of fewer than 32 places. The places after the chain stay as they were.
     pub fn chain<'a>(&self, job: u32, list: &'a mut [u32]) -> Result<&'a [u32], Refusal> {
         // Sound: the desk is only read, and a slice's pointer and length go together.
         let told = unsafe {
@@ -555,7 +555,7 @@ impl Locks {
             )
         };
         if told.refusal == 0 {
-            // By its contract a chain has at most 32 jobs, and is told only in a list of at least 32 places.
+            // By its contract a chain has at most 32 jobs, and the list has at least 32 places.
             Ok(&list[..told.jobs])
         } else {
             Err(Refusal::of(told.refusal))
@@ -563,7 +563,8 @@ impl Locks {
     }
 }
 
-/// A timestamp desk: nobody waits, and who comes too late is sent back and closed. It cannot be copied.
+/// A timestamp desk: no job waits, and a job that comes too late is sent back (aborted) and closed. The
+/// desk cannot be copied.
 #[repr(C)]
 #[derive(Debug)]
 pub struct Stamps {
@@ -577,7 +578,7 @@ impl Stamps {
     /// A timestamp desk whose first begin gets this number; `StartedAtZero` for 0.
     pub fn start(first: u32) -> Result<Stamps, Refusal> {
         let mut d = Stamps { next: 0, number: [0; 32], reader: [0; 64], writer: [0; 64] };
-        // Sound: four fields of one value, which nobody else has yet.
+        // Sound: four fields of one value that nobody else has yet.
         let refusal = unsafe {
             raw::tuyenlomac_stamps_start_on(&mut d.next, &mut d.number, &mut d.reader, &mut d.writer, first)
         };
@@ -588,10 +589,10 @@ impl Stamps {
         }
     }
 
-    /// One request, as to a lock desk; but nobody waits, so nobody wakes. After `Go` the act comes before
-    /// the mutex is freed, since nothing is held.
+    /// One request, as to a lock desk, but no job waits or wakes. After `Go`, act before the mutex is freed,
+    /// since nothing is held.
     pub fn step(&mut self, kind: u8, job: u32, cell: u32) -> Answer {
-        // Sound: four fields of a value that is borrowed for this call by nobody else.
+        // Sound: four fields of a value that nobody else borrows during this call.
         let told = unsafe {
             raw::tuyenlomac_stamps_step_on(
                 &mut self.next,
@@ -607,7 +608,7 @@ impl Stamps {
     }
 }
 
-/// What the judge says of a history: parts of the order buffer, or of the text.
+/// What the judge says about a history, in parts of the order buffer or of the text.
 #[derive(Clone, Copy, Debug, PartialEq, Eq)]
 #[must_use]
 pub enum Verdict<'a, 'b> {
@@ -615,21 +616,22 @@ pub enum Verdict<'a, 'b> {
     Orderly(&'b [u8]),
     /// There is a cycle of conflicts: through these jobs, and from the last to the first.
     Knot(&'b [u8]),
-    /// Somebody read what was then taken back: who read it first, and who had written it.
+    /// A committed run read from a run that had not ended then and never commits: reader and writer of the
+    /// first such read.
     Dirty { reader: u8, writer: u8 },
-    /// The history is not judged: the refusal; the number of the faulty line, 0 where none is at fault;
-    /// that line, as it stands in the text, without its newline; and of `BadLine` its field at fault.
+    /// The history is not judged: the refusal; the number of the faulty line, 0 if none is at fault; that
+    /// line, as it is in the text, without its newline; and for `BadLine` its field at fault.
     No { refusal: Refusal, line: u32, faulty: &'a [u8], field: Option<Field> },
 }
 
-/// The verdict on the text of a history. The order buffer has 255 places or more, else the verdict is
-/// `ShortOrder`; what stands in it behind what is told stays.
+/// The verdict on the text of a history. The order buffer has 255 places or more, otherwise the verdict is
+/// `ShortOrder`; the places that the verdict does not fill stay as they were.
 pub fn judge<'a, 'b>(text: &'a [u8], order: &'b mut [u8]) -> Verdict<'a, 'b> {
-    // Sound: two slices, each pointer with its length; one of them is borrowed by nobody else.
+    // Sound: two slices, each pointer with its length; nobody else borrows the one that is written.
     let told = unsafe { raw::tuyenlomac_judge(text.as_ptr(), text.len(), order.as_mut_ptr(), order.len()) };
     let [word, second, third, fourth] = told.said;
-    // By the judge's contract an order or a knot fills so many places of a buffer that has 255 at least,
-    // and the faulty line stands in the text from that place on, so long.
+    // By the judge's contract an order or a knot fills that many places of a buffer that has at least 255,
+    // and the faulty line is in the text, from that place on, with that length.
     match word {
         0 => Verdict::Orderly(&order[..second as usize]),
         1 => Verdict::Knot(&order[..second as usize]),
@@ -639,14 +641,14 @@ pub fn judge<'a, 'b>(text: &'a [u8], order: &'b mut [u8]) -> Verdict<'a, 'b> {
             faulty: &text[told.from..][..told.length],
             field: Field::of(fourth),
         },
-        // A judged history has jobs 1 to 255 alone, so no bit of the two is lost.
+        // A judged history has only jobs 1 to 255, so no bit of the two is lost.
         3 => Verdict::Dirty { reader: second as u8, writer: third as u8 },
-        // The judge's contract tells the number of one of these four cases.
+        // By its contract the judge returns the number of one of these four cases.
         _ => unreachable!("no verdict has the word {}", word),
     }
 }
 
-/// What a good line says: its letter, and its job and cell, 0 where the letter has none.
+/// What a good line says: its letter, and its job and cell, 0 if the letter has none.
 #[derive(Clone, Copy, Debug, PartialEq, Eq, Hash)]
 pub struct Line {
     pub kind: u8,
@@ -683,9 +685,9 @@ fn place(told: raw::Written) -> Result<usize, Refusal> {
     }
 }
 
-/// Puts an answer record into a buffer from a place on: the number of the request's line, the word, a
-/// number, and of a `BadLine` the field at fault. Tells the place behind it; or `NoRoom`, and then every
-/// byte stays.
+/// Writes an answer record into a buffer from a place on: the number of the request's line, the word, a
+/// number, and for a `BadLine` the field at fault. Returns the place after it; or `NoRoom`, and then no
+/// byte changes.
 pub fn write_answer(
     buffer: &mut [u8],
     at: usize,
@@ -695,16 +697,16 @@ pub fn write_answer(
     field: Option<Field>,
 ) -> Result<usize, Refusal> {
     let fault = field.map_or(0, |field| u64::from(field.number()));
-    // Sound: a slice's pointer and length; the place may be any.
+    // Sound: a slice's pointer and length; any place will do.
     place(unsafe {
         raw::tuyenlomac_write_answer(buffer.as_mut_ptr(), buffer.len(), at, line, word as u32, number, fault)
     })
 }
 
-/// Puts the line of a letter, with the job and cell that the letter has, into a buffer from a place on: a
-/// request or a history record. Tells the place behind it; or `NoRoom`, or `UnknownKind` for a letter that
-/// there is not, and then every byte stays.
+/// Writes the line of a letter, with the job and cell that the letter has, into a buffer from a place on: a
+/// request or a history record. Returns the place after it; or `NoRoom`, or `UnknownKind` for an unknown
+/// letter, and then no byte changes.
 pub fn write_line(buffer: &mut [u8], at: usize, kind: u8, job: u64, cell: u64) -> Result<usize, Refusal> {
-    // Sound: a slice's pointer and length; the place may be any.
+    // Sound: a slice's pointer and length; any place will do.
     place(unsafe { raw::tuyenlomac_write_line(buffer.as_mut_ptr(), buffer.len(), at, kind, job, cell) })
 }
