@@ -1,11 +1,11 @@
-/* Threads that count in cells under one lock desk, in C: what a program with threads does with the data (docs/LIBRARY.md has the rule).
+/* Threads that count in cells under one lock desk, in C: what a program with threads does with the data (docs/LIBRARY.md has the rules).
 
        cc -O2 -pthread -Iinclude library/count.c target/staticlib/libtuyenlomac.a -o target/count
        target/count
 
-   Each job counts in two of four cells, each of which it reads and then writes one larger; and once in a fifth cell, by an increment. A job that is
-   sent back takes back what it did, and tries again. Every fifth job gives up at its end. At the end the four cells hold 2 for each job that
-   committed, and the fifth 1; else the status is 1. */
+   Each job counts in two of four cells: it reads each of the two, and writes it one larger. It also counts once in a fifth cell, by an increment.
+   A job that is sent back takes back what it did, and tries again. Every fifth job gives up at its end. At the end the four cells hold 2 for each
+   job that committed, and the fifth holds 1; otherwise the status is 1. */
 #define _POSIX_C_SOURCE 200809L
 #include <pthread.h>
 #include <sched.h>
@@ -21,14 +21,14 @@ static pthread_mutex_t mutex = PTHREAD_MUTEX_INITIALIZER; /* around the desk */
 static pthread_cond_t woken = PTHREAD_COND_INITIALIZER;
 static struct tuyenlomac_locks desk;
 
-/* What the cells hold. The first four need no more than the desk, by whose locks only one job at a time writes. An increment lock is shared, so
-   the fifth is incremented by one atomic operation. */
+/* What the cells hold. For the first four the desk's locks are enough: only one job at a time writes. An increment lock is shared, so the fifth
+   is incremented by one atomic operation. */
 static uint64_t held[COUNTED];
 static atomic_ullong tally;
 
 static atomic_ullong committed, undone; /* jobs that committed, and writes and increments that were taken back */
 
-/* A job, and what it would have to take back: the cells that it wrote, with what stood there, and whether it incremented the fifth. */
+/* A job, and what it would have to take back: the cells that it wrote, with their old values, and whether it incremented the fifth. */
 struct job {
     uint32_t number;
     size_t writes;
@@ -55,7 +55,7 @@ static int waits(uint32_t job) {
     return 0;
 }
 
-/* One request of a job, which waits here where it has to. 1 where it goes on; 0 where it was sent back, and has taken back what it did. */
+/* One request of a job. If the job has to wait, it waits here. Returns 1 if it goes on; 0 if it was sent back, and what it did is taken back. */
 static int ask(struct job *job, uint8_t kind, uint32_t cell) {
     struct tuyenlomac_wakes wakes = {0};
     pthread_mutex_lock(&mutex);
@@ -67,11 +67,11 @@ static int ask(struct job *job, uint8_t kind, uint32_t cell) {
     if (said.word == TUYENLOMAC_BACK)
         take_back(job); /* first, since its locks are free already; */
     if (said.wakes > 0)
-        pthread_cond_broadcast(&woken); /* then those who were woken are told, and look at the desk; */
+        pthread_cond_broadcast(&woken); /* then the woken jobs are told, and look at the desk; */
     while (said.word == TUYENLOMAC_WAIT && waits(job->number))
         pthread_cond_wait(&woken, &mutex);
-    pthread_mutex_unlock(&mutex); /* and then the mutex is free. */
-    job->number = said.number;    /* of a begin the new one, else what it was */
+    pthread_mutex_unlock(&mutex); /* and then the mutex is freed. */
+    job->number = said.number;    /* for a begin the new one, otherwise unchanged */
     return said.word != TUYENLOMAC_BACK;
 }
 
@@ -80,7 +80,7 @@ static int count(struct job *job, uint32_t cell) {
     if (!ask(job, TUYENLOMAC_READ, cell))
         return 0;
     uint64_t found = held[cell];
-    sched_yield(); /* so that the threads meet here */
+    sched_yield(); /* so that the threads collide here */
     if (!ask(job, TUYENLOMAC_WRITE, cell))
         return 0;
     job->cell[job->writes] = cell;
@@ -105,7 +105,7 @@ static void *run(void *which) {
         ask(&job, TUYENLOMAC_BEGIN, 0);
         while (!(increment(&job) && count(&job, n % COUNTED) && count(&job, (n + thread) % COUNTED))) {
             sched_yield();
-            ask(&job, TUYENLOMAC_RETRY, 0); /* under its own number, by which it becomes the oldest at last, and is not sent back any more */
+            ask(&job, TUYENLOMAC_RETRY, 0); /* under its own number: so it becomes the oldest in the end, and is not sent back any more */
         }
         if (n % 5 == 4) {
             take_back(&job); /* before the give-up, while it still has its locks */
@@ -122,7 +122,7 @@ int main(void) {
     pthread_t threads[THREADS];
     uint32_t which[THREADS];
     unsigned long long sum = 0;
-    tuyenlomac_locks_start(&desk, 1); /* refused for 0 alone */
+    tuyenlomac_locks_start(&desk, 1); /* only 0 is refused */
     for (uint32_t i = 0; i < THREADS; i++) {
         which[i] = i;
         if (pthread_create(&threads[i], NULL, run, &which[i]) != 0)

@@ -1,13 +1,13 @@
 //! Threads that count in cells under one lock desk, in Rust: what a program with threads does with the data
-//! (docs/LIBRARY.md has the rule).
+//! (docs/LIBRARY.md has the rules).
 //!
 //!     rustc -O --edition 2021 -L target/staticlib -o target/count library/count.rs
 //!     target/count
 //!
-//! Each job counts in two of four cells, each of which it reads and then writes one larger; and once in a
-//! fifth cell, by an increment. A job that is sent back takes back what it did, and tries again. Every fifth
-//! job gives up at its end. At the end the four cells hold 2 for each job that committed, and the fifth 1;
-//! else the program panics.
+//! Each job counts in two of four cells: it reads each of the two, and writes it one larger. It also counts
+//! once in a fifth cell, by an increment. A job that is sent back takes back what it did, and tries again.
+//! Every fifth job gives up at its end. At the end the four cells hold 2 for each job that committed, and the
+//! fifth holds 1; otherwise the program panics.
 mod tuyenlomac;
 
 use std::sync::atomic::{AtomicU64, Ordering::Relaxed};
@@ -20,9 +20,9 @@ const JOBS: u32 = 2000;
 const COUNTED: u32 = 4;
 const TALLY: u32 = COUNTED;
 
-/// The desk, and what the cells hold. The four cells are only loaded and stored, and never added to in one
-/// operation: it is the desk by whose locks only one job at a time writes. An increment lock is shared, so
-/// the fifth is incremented by one atomic operation. The mutex orders what the threads see, so that
+/// The desk, and what the cells hold. The four cells are only loaded and stored, never added to in one
+/// operation: the desk's locks let only one job at a time write. An increment lock is shared, so the fifth
+/// is incremented by one atomic operation. The mutex orders what the threads see, so that
 /// `Relaxed` is enough.
 struct Shared {
     desk: Mutex<Locks>,
@@ -33,7 +33,7 @@ struct Shared {
     undone: AtomicU64,
 }
 
-/// A job, and what it would have to take back: the cells that it wrote, with what stood there, and whether
+/// A job, and what it would have to take back: the cells that it wrote, with their old values, and whether
 /// it incremented the fifth.
 struct Job<'a> {
     shared: &'a Shared,
@@ -58,7 +58,7 @@ impl Job<'_> {
         }
     }
 
-    /// One request of the job, which waits here where it has to.
+    /// One request of the job. If it has to wait, it waits here.
     fn ask(&mut self, kind: u8, cell: u32) -> Result<(), Back> {
         let mut wakes = Wakes::new();
         let mut desk = self.shared.desk.lock().unwrap();
@@ -67,15 +67,15 @@ impl Job<'_> {
             self.take_back(); // first, since its locks are free already;
         }
         if !wakes.is_empty() {
-            self.shared.woken.notify_all(); // then those who were woken are told, and look at the desk;
+            self.shared.woken.notify_all(); // then the woken jobs are told, and look at the desk;
         }
         if let Answer::Wait(job) = said {
             let waits = |desk: &mut Locks| desk.waiting().any(|other| other == job);
             desk = self.shared.woken.wait_while(desk, waits).unwrap();
         }
-        drop(desk); // and then the mutex is free.
+        drop(desk); // and then the mutex is freed.
         match said {
-            Answer::Go(job) | Answer::Wait(job) => self.number = job, // of a begin the new one
+            Answer::Go(job) | Answer::Wait(job) => self.number = job, // for a begin the new one
             Answer::Back(_) => return Err(Back),
             Answer::No(refusal) => panic!("{}", refusal),
         }
@@ -87,14 +87,14 @@ impl Job<'_> {
         let held = &self.shared.held[cell as usize];
         self.ask(READ, cell)?;
         let found = held.load(Relaxed);
-        thread::yield_now(); // so that the threads meet here
+        thread::yield_now(); // so that the threads collide here
         self.ask(WRITE, cell)?;
         self.writes.push((cell, found));
         held.store(found + 1, Relaxed);
         Ok(())
     }
 
-    /// All that a job does but its end.
+    /// All that a job does before its end.
     fn work(&mut self, first: u32, second: u32) -> Result<(), Back> {
         self.ask(INCREMENT, TALLY)?;
         self.tallied = true;
@@ -103,12 +103,12 @@ impl Job<'_> {
         self.count(second)
     }
 
-    /// A whole job, which tries again as often as it is sent back.
+    /// A whole job; it tries again as often as it is sent back.
     fn run(&mut self, first: u32, second: u32, gives_up: bool) -> Result<(), Back> {
         self.ask(BEGIN, 0)?;
         while let Err(Back) = self.work(first, second) {
             thread::yield_now();
-            self.ask(RETRY, 0)?; // under its own number, by which it becomes the oldest at last
+            self.ask(RETRY, 0)?; // under its own number: so it becomes the oldest in the end
         }
         if gives_up {
             self.take_back(); // before the give-up, while it still has its locks

@@ -1,5 +1,5 @@
-/* mix.h: the steps that crates/time_desk draws, for try.c and time.c. Twenty-four hands have a job each; every step takes three draws, the hand,
-   the kind and the cell, whatever the desk has answered. */
+/* mix.h: the random steps of crates/time_desk, for try.c and time.c. Twenty-four hands have one job each. Every step draws three random numbers,
+   for the hand, the kind and the cell, whatever the desk has answered. */
 #ifndef MIX_H
 #define MIX_H
 
@@ -8,24 +8,24 @@
 enum { HANDS = 24 };
 
 struct mix {
-    uint32_t x;           /* where the sequence stands */
-    uint32_t jobs[HANDS]; /* the job of each hand, 0 where it has none */
-    uint8_t backs[HANDS]; /* 1 where it was sent back, and is to retry */
-    uint32_t hand;        /* the step that was drawn last: whose it is, and what is asked */
+    uint32_t x;           /* the state of the random sequence */
+    uint32_t jobs[HANDS]; /* the job of each hand, 0 if it has none */
+    uint8_t backs[HANDS]; /* 1 if it was sent back and is to retry */
+    uint32_t hand;        /* the step that was drawn last: its hand, job, cell and kind */
     uint32_t job;
     uint32_t cell;
     uint8_t kind;
-    uint64_t tally[5]; /* how many steps went, waited, went back and were refused, and how many jobs woke */
+    uint64_t tally[5]; /* how many steps went, waited, were sent back and were refused, and how many jobs woke */
 };
 
-/* The next draw below a limit. */
+/* The next random number below a limit. */
 static inline uint32_t mix_next(struct mix *m, uint32_t limit) {
     uint32_t drawn = (m->x >> 16) % limit;
     m->x = m->x * 1103515245u + 12345u;
     return drawn;
 }
 
-/* The next step. A hand without a job begins, one whose job was sent back retries; of 32 other steps 15 read, 6 write, 4 increment, 5 commit,
+/* The next step. A hand without a job begins one; a hand whose job was sent back retries; of 32 other steps 15 read, 6 write, 4 increment, 5 commit,
    1 gives up and 1 retries. */
 static inline void mix_draw(struct mix *m) {
     static const char kinds[] = "rrrrrrrrrrrrrrrwwwwwwiiiicccccat";
@@ -39,7 +39,7 @@ static inline void mix_draw(struct mix *m) {
     m->cell = mix_next(m, TUYENLOMAC_CELLS);
 }
 
-/* The step was answered. Who is sent back retries where the desk keeps the job, and has none where it is closed. */
+/* The step was answered. If the job was sent back, the hand retries if the desk keeps the job, and has no job if it is closed. */
 static inline void mix_answered(struct mix *m, struct tuyenlomac_answer said, int kept) {
     uint32_t job = m->job;
     if (said.word == TUYENLOMAC_GO)

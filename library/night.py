@@ -10,7 +10,7 @@ import os
 import sys
 from ctypes import POINTER, Structure, c_char_p, c_size_t, c_uint8, c_uint32, c_uint64, c_void_p
 
-LINES = 1000000  # so many lines are answered, and what follows is not looked at
+LINES = 1000000  # the first so many lines are answered, the rest is ignored
 NO, WAKE, BAD_LINE, PLACES = 3, 4, 9, 32  # as the header has them
 
 
@@ -38,7 +38,7 @@ library = ctypes.CDLL(os.path.join(os.path.dirname(__file__), "../target/shared/
 
 
 def function(name, result, *arguments):
-    """A function of the library, which hands back a result of this type and takes arguments of these."""
+    """A function of the library, with its result type and its argument types."""
     found = getattr(library, "tuyenlomac_" + name)
     found.restype, found.argtypes = result, arguments
     return found
@@ -67,7 +67,7 @@ class Desk:
         return locks_step(self.bytes, line.kind, line.job, line.cell, self.wakes)
 
     def chain(self, job):
-        """The chain of a job that waits; none of one that runs, was sent back or is not open."""
+        """The chain of a waiting job; an empty list for a job that runs, was sent back or is not open."""
         jobs = (c_uint32 * PLACES)()
         told = locks_chain(self.bytes, job, jobs, PLACES)
         return jobs[: told.jobs] if told.jobs > 1 else []
@@ -80,7 +80,7 @@ def put(line, word, number, field=0):
 
 
 def night(desk, shown):
-    """Answers all lines, and prints the answers or not. The jobs that were begun are 1 to the last number told for a begin."""
+    """Answers all lines, and prints the answers if shown. Returns the number of the last job that was begun; the first is 1."""
     last = 0
     for number, text in zip(range(1, LINES + 1), sys.stdin.buffer):
         line = read_request(text, len(text))
@@ -88,7 +88,7 @@ def night(desk, shown):
         if line.field == 0:
             said = desk.step(line)
             last = said.number if line.kind == ord("b") and said.word != NO else last
-            # After a BACK a program that keeps what the cells hold takes back here what the job did, and only then tells who goes on.
+            # After a BACK, a program that keeps what the cells hold takes back here what the job did, and only then tells the woken jobs.
             answers = [(said.word, said.number, 0)] + [(WAKE, job, 0) for job in desk.wakes.job[: said.wakes]]
         for answer in answers if shown else []:
             put(number, *answer)

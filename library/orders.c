@@ -1,15 +1,15 @@
-/* What comes out of each order in which a caller can do the three things that follow BACK: take back (b), tell the wakes (t) and free the mutex (f).
+/* The outcome of each order in which a caller can do the three things that follow BACK: take back (b), tell the woken jobs (t), free the mutex (f).
 
        orders btf
        orders batf
 
-   prints what two cells hold at the end, each of which one committed job has counted in once. With an a the job gives up there, in place of being
-   sent back. With b before t and f each cell holds 1. In all other orders one of them or both hold 0, and the status is 1: the job has put its old
-   values over what another job had written meanwhile.
+   prints what two cells hold at the end. In each of them one committed job has counted once. With an a, the job gives up at that point, instead of
+   being sent back. With b before t and f each cell holds 1. In all other orders one of them or both hold 0, and the status is 1: the job has put
+   its old values over what another job had written meanwhile.
 
-   Two threads take turns at a barrier, so that each order comes out the same in every run. The one thread's job is sent back or gives up, and the
-   thread does the things in turn. After each of them the other thread does all that it may by then: a job that waited goes on as soon as it is told,
-   and a new job asks as soon as the mutex is free. */
+   Two threads take turns at a barrier, so each order has the same outcome in every run. The first thread's job is sent back or gives up, and the
+   thread does the three things in turn. After each of them the other thread does all that it may by then: a job that waited goes on as soon as it
+   is told, and a new job asks as soon as the mutex is free. */
 #define _POSIX_C_SOURCE 200809L
 #include <pthread.h>
 #include <stdio.h>
@@ -19,16 +19,16 @@
 #include "tuyenlomac.h"
 
 enum { WAITER = 1, UNDONE = 2, ASKER = 3 };   /* the jobs, by their numbers */
-enum { WAITED_FOR = 0, ASKED = 1, KEPT = 2 }; /* the cells: the job that is undone has counted in the first two */
+enum { WAITED_FOR = 0, ASKED = 1, KEPT = 2 }; /* the cells: the job UNDONE has counted in the first two */
 
 static pthread_mutex_t mutex = PTHREAD_MUTEX_INITIALIZER; /* around the desk */
 static pthread_barrier_t turn;
 static struct tuyenlomac_locks desk;
 static struct tuyenlomac_wakes wakes;
 static uint64_t held[2]; /* what the first two cells hold */
-static int told;         /* whether the waiter has been told of its wake */
+static int told;         /* whether the waiting job has been told of its wake */
 
-/* One request, which has to get this answer. */
+/* One request, which must get this answer. */
 static struct tuyenlomac_answer ask(uint8_t kind, uint32_t job, uint32_t cell, uint32_t word) {
     struct tuyenlomac_answer said = tuyenlomac_locks_step(&desk, kind, job, cell, &wakes);
     if (said.word != word) {
@@ -38,12 +38,12 @@ static struct tuyenlomac_answer ask(uint8_t kind, uint32_t job, uint32_t cell, u
     return said;
 }
 
-/* The other thread: in each turn it does what it may by then, and once. */
+/* The other thread: in each turn it does what it may by then, each thing once. */
 static void *other(void *order) {
     int told_done = 0, asked_done = 0;
     for (size_t i = 0; i < strlen((const char *)order); i++) {
-        pthread_barrier_wait(&turn); /* the one thread has done one of its things, and waits */
-        if (told && !told_done) {    /* it has been granted the cell, and needs no mutex to count */
+        pthread_barrier_wait(&turn); /* the first thread has done one of its things, and waits */
+        if (told && !told_done) {    /* its job has been granted the cell, and needs no mutex to count */
             held[WAITED_FOR]++;
             told_done = 1;
         }
@@ -61,7 +61,7 @@ static void *other(void *order) {
     return NULL;
 }
 
-/* Two jobs, of which the younger counts in two cells, and the older waits for the first of them. */
+/* Two jobs: the younger counts in two cells, and the older waits for the first of these. */
 static void prepare(void) {
     tuyenlomac_locks_start(&desk, 1);
     ask(TUYENLOMAC_BEGIN, 0, 0, TUYENLOMAC_GO);
@@ -69,11 +69,11 @@ static void prepare(void) {
     ask(TUYENLOMAC_WRITE, WAITER, KEPT, TUYENLOMAC_GO);
     ask(TUYENLOMAC_WRITE, UNDONE, WAITED_FOR, TUYENLOMAC_GO);
     ask(TUYENLOMAC_WRITE, UNDONE, ASKED, TUYENLOMAC_GO);
-    held[WAITED_FOR] = held[ASKED] = 1; /* 0 stood there before */
+    held[WAITED_FOR] = held[ASKED] = 1; /* they held 0 before */
     ask(TUYENLOMAC_WRITE, WAITER, WAITED_FOR, TUYENLOMAC_WAIT);
 }
 
-/* The one thread: its job asks for what the older one keeps, and is sent back, or it gives up where the order says so; the other things follow. */
+/* The first thread: its job asks for what the older one holds and is sent back, or gives up where the order says so; the other things follow. */
 static void run(const char *order) {
     struct tuyenlomac_answer said = {0, 0, 0};
     pthread_mutex_lock(&mutex);
@@ -93,7 +93,7 @@ static void run(const char *order) {
     }
 }
 
-/* Whether each of b, t and f is there once, and with an a, before t and f, nothing else. */
+/* Whether the order has each of b, t and f once, and nothing else but one a before t and f. */
 static int is_order(const char *order) {
     int all = strchr(order, 'b') != NULL && strchr(order, 't') != NULL && strchr(order, 'f') != NULL;
     int early = order[0] == 'a' || (order[0] == 'b' && order[1] == 'a');

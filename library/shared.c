@@ -1,9 +1,9 @@
-/* For callers who load libtuyenlomac.so and cannot include a header, as from Python: the functions that are inline in the header, under names of
-   their own, and how large each struct is that a caller lends. library/shared links this file into the shared library, and nothing else needs it.
-   The archive's own functions are there too under the names that they have in the header, where each is described. */
+/* For callers that load libtuyenlomac.so and cannot include a header, such as Python: the functions that are inline in the header, under names of
+   their own, and the size of each struct that a caller lends. library/shared links this file into the shared library, and nothing else needs it.
+   The shared library also has the archive's own functions, under their names in the header, which describes each. */
 #include "tuyenlomac.h"
 
-/* A desk lent whole, as tuyenlomac_locks_start and its like in the header. */
+/* A desk lent whole, as to tuyenlomac_locks_start and the other inline functions of the header. */
 
 uint32_t tuyenlomac_shared_locks_start(struct tuyenlomac_locks *desk, uint32_t first) { return tuyenlomac_locks_start(desk, first); }
 
@@ -22,7 +22,7 @@ struct tuyenlomac_answer tuyenlomac_shared_stamps_step(struct tuyenlomac_stamps 
     return tuyenlomac_stamps_step(desk, kind, job, cell);
 }
 
-/* So many bytes a caller lends for each struct, zeroed, at an address that is a multiple of its alignment. */
+/* How many bytes a caller lends for each struct, zeroed, at an address that is a multiple of its alignment. */
 
 size_t tuyenlomac_shared_locks_size(void) { return sizeof(struct tuyenlomac_locks); }
 size_t tuyenlomac_shared_locks_alignment(void) { return _Alignof(struct tuyenlomac_locks); }

@@ -1,12 +1,12 @@
-/* What comes out of the two orders in which a caller of the timestamp desk can act (a) and free the mutex (f) after GO.
+/* The outcome of the two orders in which a caller of the timestamp desk can act (a) and free the mutex (f) after GO.
 
        stamp_orders af
 
-   prints what a job finds in a cell that a later job then writes: 0, since by the desk's order it reads before that write. With f first it finds 1,
-   which no history of the desk says, and the status is 1: at that desk nothing is held between GO and the act, so the act belongs inside the mutex.
+   prints what a job finds in a cell that a later job then writes: 0, since in the desk's order it reads before that write. With f first it finds 1,
+   against the desk's history, and the status is 1: at that desk nothing is held between GO and the act, so the act belongs inside the mutex.
 
-   Two threads take turns at a barrier, so that each order comes out the same in every run. The one thread's job reads, and does the two things in
-   turn; after each of them the other thread's job asks and writes as soon as the mutex is free. */
+   Two threads take turns at a barrier, so each order has the same outcome in every run. The first thread's job reads, and the thread does the two
+   things in turn; after each of them the other thread's job asks and writes as soon as the mutex is free. */
 #define _POSIX_C_SOURCE 200809L
 #include <pthread.h>
 #include <stdio.h>
@@ -22,7 +22,7 @@ static pthread_barrier_t turn;
 static struct tuyenlomac_stamps desk;
 static int held; /* what the cell holds */
 
-/* One request, which has to go. */
+/* One request, which must go. */
 static void ask(uint8_t kind, uint32_t job) {
     if (tuyenlomac_stamps_step(&desk, kind, job, CELL).word != TUYENLOMAC_GO) {
         fputs("stamp_orders: the desk answers otherwise\n", stderr);
@@ -33,7 +33,7 @@ static void ask(uint8_t kind, uint32_t job) {
 /* The other thread: it writes once, in the first turn in which it can. */
 static void *other(void *unused) {
     for (int i = 0, done = 0; i < 2; i++) {
-        pthread_barrier_wait(&turn); /* the one thread has done one of its two things, and waits */
+        pthread_barrier_wait(&turn); /* the first thread has done one of its two things, and waits */
         if (!done && pthread_mutex_trylock(&mutex) == 0) {
             ask(TUYENLOMAC_WRITE, WRITER);
             held = 1; /* the act, inside the mutex */
@@ -45,7 +45,7 @@ static void *other(void *unused) {
     return unused;
 }
 
-/* The one thread: what its job finds in the cell. */
+/* The first thread: returns what its job finds in the cell. */
 static int run(const char *order) {
     int found = -1;
     pthread_mutex_lock(&mutex);

@@ -1,5 +1,5 @@
-/* What a step by numbers costs through the library: the steps that crates/time_desk draws, on either desk, with nothing read or written meanwhile.
-   time [RUNS [STEPS]] prints for each desk the nanoseconds of a step, in the best of so many runs (9) of so many steps (1000000) each.
+/* How long a step takes through the library: the random steps of crates/time_desk, on either desk, with no input or output meanwhile.
+   time [RUNS [STEPS]] prints for each desk the nanoseconds of a step, in the best of RUNS runs (9) of STEPS steps (1000000) each.
 
        cc -O2 -Iinclude library/time.c target/staticlib/libtuyenlomac.a -o target/time && target/time
 

@@ -3,13 +3,12 @@
        try answers | stamp_answers | chain | verdict    prints what those programs print
        try lines | steps | cases                        prints what try_text, try_desk and try_judge print
        try judge                                        prints the verdict on a text of any length, and the faulty line, as try_judge prints them
-       try mix [STEPS], try stamp_mix [STEPS]           prints what time_desk prints, of the lock desk and of the timestamp desk
-       try rubbish                                      steps, chains and records over random bytes, and counts of them
-       try empty                                        every call that takes a length, lent NULL and 0
+       try mix [STEPS], try stamp_mix [STEPS]           prints what time_desk prints, for the lock desk and for the timestamp desk
+       try rubbish                                      runs steps, chains and records over random bytes, and prints counts
+       try empty                                        makes every call that takes a length with NULL and 0
 
-   What is lent holds FILL, or numbers that are known again, before each call, and is looked at after it: what the header says stays has to stay,
-   and the fields of a desk have to hold what it says of them.
-   Where it does not, a message and status 1. It compiles as C11 and as C++11. */
+   What is lent holds FILL, or known numbers, before each call, and is checked after it: what the header says stays must stay, and the fields of a
+   desk must hold what the header says. If they do not, there is a message and status 1. It compiles as C11 and as C++11. */
 #include <stdio.h>
 #include <stdlib.h>
 #include <string.h>
@@ -18,14 +17,14 @@
 
 enum {
     FILL = 0xA5,          /* what every byte holds before it is lent */
-    LINES = 1000000,      /* so many request lines are answered */
-    JUDGED = 65536,       /* so many bytes of a history are judged, and TOO_LONG said of more */
-    TOO_LONG = 16,        /* a refusal of the program verdict, and of no function */
+    LINES = 1000000,      /* the number of request lines that are answered */
+    JUDGED = 65536,       /* a history of more bytes gets TOO_LONG */
+    TOO_LONG = 16,        /* a refusal that only the program verdict gives */
     ORDER_PLACES = 300,   /* places that a case can lend */
-    ASKS = 256,           /* in steps, who asks for a chain */
-    LIST_PLACES = 64      /* places that such a one can lend */
+    ASKS = 256,           /* in steps, the kind of a question for a chain */
+    LIST_PLACES = 64      /* places that a question can lend */
 };
-static const uint32_t BEFORE = 4000000000u; /* a list's first place before it is lent, and each further one a number more */
+static const uint32_t BEFORE = 4000000000u; /* a list's first place before it is lent; each further place is one larger */
 
 static void hold(int fact, const char *what) {
     if (fact)
@@ -35,7 +34,7 @@ static void hold(int fact, const char *what) {
     exit(1);
 }
 
-/* Whether so many bytes all hold FILL. */
+/* Whether all these bytes hold FILL. */
 static int untouched(const void *from, size_t length) {
     static uint8_t filled[4096];
     if (filled[0] != FILL)
@@ -53,7 +52,7 @@ struct desk {
     struct tuyenlomac_wakes wakes; /* of the last step */
 };
 
-/* Starts a desk: 0, or the refusal, and then what was there stays. */
+/* Starts a desk. Returns 0; or the refusal, and then what was there stays. */
 static uint32_t start(struct desk *d, int by_stamps, uint32_t first) {
     memset(d, FILL, sizeof *d);
     d->by_stamps = by_stamps;
@@ -63,7 +62,7 @@ static uint32_t start(struct desk *d, int by_stamps, uint32_t first) {
     return refusal;
 }
 
-/* The wakes that a step tells of stand in the first places, and the others stay. */
+/* The wakes of a step are in the first places, and the other places stay. */
 static void look_at_wakes(const uint32_t *jobs, const uint32_t *cells, const uint8_t *kinds, size_t told) {
     hold(told <= TUYENLOMAC_PLACES, "more wakes are told than there are places");
     size_t rest = TUYENLOMAC_PLACES - told;
@@ -71,7 +70,7 @@ static void look_at_wakes(const uint32_t *jobs, const uint32_t *cells, const uin
          "a place of the wakes behind those that are told has changed");
 }
 
-/* The place of a job on a desk; all PLACES are passed where it has none. */
+/* The place of a job on a desk; PLACES if it has none. */
 static size_t place_of(const uint32_t *number, uint32_t job) {
     size_t place = 0;
     while (place < TUYENLOMAC_PLACES && number[place] != job)
@@ -79,12 +78,12 @@ static size_t place_of(const uint32_t *number, uint32_t job) {
     return place;
 }
 
-/* Whether a job runs and, where it asked for a cell, holds a lock on it under which it may do that, by the header's numbers of locks. */
+/* Whether a job runs and, if it asked for a cell, holds a lock there that allows it, by the header's numbers of locks. */
 static int granted(const struct tuyenlomac_locks *d, uint32_t job, uint32_t cell, uint8_t kind) {
     size_t place = place_of(d->number, job);
     if (place == TUYENLOMAC_PLACES || d->status[place] != 1)
         return 0;
-    uint8_t lock = d->held[32 * (cell % TUYENLOMAC_CELLS) + place]; /* of other kinds the cell may be any */
+    uint8_t lock = d->held[32 * (cell % TUYENLOMAC_CELLS) + place]; /* for other kinds the cell may have any value */
     switch (kind) {
     case TUYENLOMAC_READ: return lock == 1 || lock == 2 || lock == 4;
     case TUYENLOMAC_WRITE: return lock == 2;
@@ -102,7 +101,7 @@ static int holds_nothing(const struct tuyenlomac_locks *d, size_t place) {
     return 1;
 }
 
-/* After a step that was not refused the fields of a lock desk say what the header says of them. */
+/* After a step that was not refused, the fields of a lock desk hold what the header says. */
 static void look_at_locks(const struct tuyenlomac_locks *d, uint8_t kind, uint32_t cell, struct tuyenlomac_answer said,
                           const struct tuyenlomac_wakes *wakes) {
     static const uint8_t asks[] = {TUYENLOMAC_READ, TUYENLOMAC_WRITE, TUYENLOMAC_INCREMENT, TUYENLOMAC_UPDATE};
@@ -123,7 +122,7 @@ static void look_at_locks(const struct tuyenlomac_locks *d, uint8_t kind, uint32
         hold(granted(d, wakes->job[i], wakes->cell[i], wakes->kind[i]), "a job that was woken does not run, or not under its lock");
 }
 
-/* The same of a timestamp desk: the numbers of the cell are those before, or the job's where it has read or written. */
+/* The same for a timestamp desk: the cell's numbers are as before, or the job's number if it has read or written. */
 static void look_at_stamps(const struct tuyenlomac_stamps *before, const struct tuyenlomac_stamps *d, uint8_t kind, uint32_t cell,
                            struct tuyenlomac_answer said) {
     int goes = said.word == TUYENLOMAC_GO, ends = !goes || kind == TUYENLOMAC_COMMIT || kind == TUYENLOMAC_GIVE_UP;
@@ -138,14 +137,14 @@ static void look_at_stamps(const struct tuyenlomac_stamps *before, const struct 
     hold(d->writer[cell] == (goes && writes ? said.number : writer), "a cell has another writer's number");
 }
 
-/* One step; after a refusal the desk and the lists have to be what they were, and else the fields what they should be. */
+/* One step. After a refusal the desk and the lists must be as before; otherwise the fields must be what they should be. */
 static struct tuyenlomac_answer step(struct desk *d, uint8_t kind, uint32_t job, uint32_t cell) {
     static struct desk before;
     memset(&d->wakes, FILL, sizeof d->wakes);
     memcpy(&before, d, sizeof before);
     struct tuyenlomac_answer said =
         d->by_stamps ? tuyenlomac_stamps_step(&d->stamps, kind, job, cell) : tuyenlomac_locks_step(&d->locks, kind, job, cell, &d->wakes);
-    hold(said.word <= TUYENLOMAC_NO, "an answer has a word that there is not");
+    hold(said.word <= TUYENLOMAC_NO, "an answer has an unknown word");
     hold(!d->by_stamps || (said.word != TUYENLOMAC_WAIT && said.wakes == 0), "somebody waits or wakes at the timestamp desk");
     look_at_wakes(d->wakes.job, d->wakes.cell, d->wakes.kind, said.wakes);
     if (said.word == TUYENLOMAC_NO)
@@ -157,7 +156,7 @@ static struct tuyenlomac_answer step(struct desk *d, uint8_t kind, uint32_t job,
     return said;
 }
 
-/* The chain of a job, over a list of so many places, at most LIST_PLACES; those behind the chain stay. */
+/* The chain of a job, over a list of that many places, at most LIST_PLACES; the places after the chain stay. */
 static struct tuyenlomac_chain chain_of(const struct tuyenlomac_locks *d, uint32_t job, uint32_t *list, size_t length) {
     for (uint32_t i = 0; i < LIST_PLACES; i++)
         list[i] = BEFORE + i;
@@ -173,7 +172,7 @@ static struct tuyenlomac_chain chain_of(const struct tuyenlomac_locks *d, uint32
 struct text {
     uint8_t *bytes;
     size_t length;
-    size_t at; /* what stands before it is read */
+    size_t at; /* the place up to which it is read */
 };
 
 static struct text read_all(void) {
@@ -191,7 +190,7 @@ static struct text read_all(void) {
     return in;
 }
 
-/* The next line with its newline, which the last may lack, and its length; 0 at the end. */
+/* The next line with its newline, which the last line may lack, and its length; 0 at the end. */
 static size_t next_line(struct text *in, const uint8_t **line) {
     const uint8_t *from = in->bytes + in->at;
     size_t left = in->length - in->at;
@@ -202,7 +201,7 @@ static size_t next_line(struct text *in, const uint8_t **line) {
     return length;
 }
 
-/* The next number, its digits up to the first byte that is none, which is put into end; one that is too large is the largest. */
+/* The next number: its digits up to the first other byte, which is put into end; a number that is too large becomes the largest. */
 static uint32_t next_number(struct text *in, int *end) {
     uint64_t value = 0;
     for (;;) {
@@ -215,7 +214,7 @@ static uint32_t next_number(struct text *in, int *end) {
     }
 }
 
-/* A record: of a request's line the word and what stands behind it; or, with a letter, that letter's line with its job and cell. */
+/* A record: an answer to a request line, with its word and numbers; or, with a letter, that letter's line with its job and cell. */
 struct record {
     uint8_t letter;
     uint32_t word;
@@ -230,7 +229,7 @@ static struct tuyenlomac_written write_record(const struct record *r, uint8_t *b
     return tuyenlomac_write_answer(buffer, length, at, r->line, r->word, r->number, r->last);
 }
 
-/* Prints a record. It fits in so much room as it takes, and with a byte less it is refused; all other bytes stay. */
+/* Prints a record. It fits into exactly its own length, and with one byte less it is refused; all other bytes stay. */
 static void put_record(const struct record *r) {
     enum { ROOM = 128, AT = 16 };
     uint8_t buffer[ROOM];
@@ -269,7 +268,7 @@ static void answer_line(struct desk *d, uint64_t number, const uint8_t *line, si
         put_answer(number, TUYENLOMAC_WAKE, d->wakes.job[i], 0);
 }
 
-/* All request lines on a desk started at 1, with the answers shown or not. */
+/* All request lines on a desk started at 1; prints the answers if they are to be shown. */
 static void serve(struct desk *d, int by_stamps, int shown) {
     struct text in = read_all();
     const uint8_t *line;
@@ -290,7 +289,7 @@ static int by_number(const void *a, const void *b) {
     return (one > other) - (one < other);
 }
 
-/* The chains of all who wait at the end, in ascending order. */
+/* The chains of all jobs that wait at the end, in ascending order. */
 static void chain(void) {
     static struct desk d;
     uint32_t waiting[TUYENLOMAC_PLACES], list[LIST_PLACES];
@@ -370,7 +369,7 @@ static void put_question(const struct desk *d, uint32_t job, uint32_t places) {
     putchar('\n');
 }
 
-/* The first number, with a blank behind it where the timestamp desk is meant, and then steps up to a line that is none. */
+/* The first number, followed by a blank for the timestamp desk; then steps, up to a line that is no step. */
 static void steps(void) {
     static struct desk d;
     struct text in = read_all();
@@ -398,7 +397,7 @@ static void steps(void) {
 
 /* ---- verdict, judge, cases */
 
-/* How many places of the order buffer a verdict fills; those of a dirty read it names too, and of numbers that it has not it says 0. */
+/* How many places of the order buffer a verdict fills; for a dirty read they hold reader and writer. Numbers that a verdict does not use are 0. */
 static size_t told_places(const struct tuyenlomac_judgement *j, const uint8_t *order) {
     const uint32_t *said = j->said;
     hold(said[0] == TUYENLOMAC_REFUSED || (said[3] == 0 && j->from == 0 && j->length == 0), "a verdict has a field or a faulty line");
@@ -411,12 +410,12 @@ static size_t told_places(const struct tuyenlomac_judgement *j, const uint8_t *o
         hold(order[0] == said[1] && order[1] == said[2], "reader and writer do not stand in the order buffer");
         return 2;
     default:
-        hold(said[0] == TUYENLOMAC_REFUSED && (said[3] != 0) == (said[1] == TUYENLOMAC_BAD_LINE), "a verdict that there is not");
+        hold(said[0] == TUYENLOMAC_REFUSED && (said[3] != 0) == (said[1] == TUYENLOMAC_BAD_LINE), "an unknown verdict");
         return 0;
     }
 }
 
-/* The faulty line is a whole line of the text, without its newline; where none is at fault, there is none. */
+/* The faulty line is a whole line of the text, without its newline; if no line is at fault, there is none. */
 static void look_at_line(const struct tuyenlomac_judgement *j, const uint8_t *text, size_t length) {
     size_t from = j->from, end = j->from + j->length;
     hold(from <= length && j->length <= length - from, "the faulty line stands outside of the text");
@@ -426,7 +425,7 @@ static void look_at_line(const struct tuyenlomac_judgement *j, const uint8_t *te
     hold(j->said[0] != TUYENLOMAC_REFUSED || j->said[2] != 0 || end == 0, "a line is handed back where none is at fault");
 }
 
-/* The verdict on a text, over an order buffer of so many places, at most ORDER_PLACES; what stands behind what is told stays. */
+/* The verdict on a text, over an order buffer of that many places, at most ORDER_PLACES; the places that it does not fill stay. */
 static struct tuyenlomac_judgement judged(const uint8_t *text, size_t length, uint8_t *order, size_t places) {
     memset(order, FILL, ORDER_PLACES);
     struct tuyenlomac_judgement j = tuyenlomac_judge(text, length, order, places);
@@ -451,7 +450,7 @@ static void put_verdict(const uint32_t *said, const uint8_t *order) {
     putchar('\n');
 }
 
-/* The verdict's line on a text of any length, and where it is wanted the line that is handed back. */
+/* The verdict's line on a text of any length and, if wanted, the faulty line that is handed back. */
 static void put_judged(const uint8_t *text, size_t length, size_t places, int wanted) {
     uint8_t order[ORDER_PLACES];
     struct tuyenlomac_judgement j = judged(text, length, order, places);
@@ -463,7 +462,7 @@ static void put_judged(const uint8_t *text, size_t length, size_t places, int wa
     }
 }
 
-/* The same of a text that the programs take, and what they say of a longer one. */
+/* The same for a text that the programs take, and what they say about a longer one. */
 static void put_case(const uint8_t *text, size_t length, size_t places, int wanted) {
     if (length > JUDGED)
         printf("no\t0\t%u\n", (unsigned)TOO_LONG);
@@ -530,7 +529,7 @@ static void mix(int by_stamps, long count) {
         printf("%llu%c", (unsigned long long)m.tally[i], i < 4 ? '\t' : '\n');
 }
 
-/* ---- rubbish: the same draws as in try.rs, so that the two print the same line */
+/* ---- rubbish: the same random numbers as in try.rs, so the two print the same line */
 
 enum { DESKS = 10000, STEPS = 24, RECORDS = 50000, CANARY = 64, OBJECTS = 10 };
 
@@ -542,7 +541,7 @@ static uint32_t draw(void) {
     return (uint32_t)(x >> 32);
 }
 
-/* What is lent in a call stands in one block, with a canary before and behind each object. */
+/* What is lent in a call is in one block, with a canary before and after each object. */
 struct block {
     uint8_t *bytes;
     int count;
@@ -565,22 +564,22 @@ static void look_at_canaries(const struct block *b) {
         hold(untouched(b->bytes + b->from[i] - CANARY, CANARY) && untouched(b->bytes + b->to[i], CANARY), "a byte was written that was not lent");
 }
 
-/* Fills the first objects, those of a desk, with any bytes or with small ones, of which more mean something. */
+/* Fills the first objects, those of a desk, with any bytes, or with small ones, which more often mean something. */
 static void fill(const struct block *b, int objects) {
     static const uint32_t masks[] = {255, 7, 3, 3};
     uint32_t mask = masks[draw() % 4], low = draw() % 2;
     for (int i = 0; i < objects; i++)
         for (size_t p = b->from[i]; p < b->to[i]; p++)
             b->bytes[p] = (uint8_t)(draw() & mask);
-    if (low) /* a number for the next begin that can still be given */
+    if (low) /* a next number that can still be given */
         memset(b->bytes + b->from[0] + 4, 0, 4);
-    if (objects == 6 && draw() % 2 != 0) /* a lock desk on which little is held, so that more is granted */
+    if (objects == 6 && draw() % 2 != 0) /* a lock desk with few locks held, so that more is granted */
         for (size_t p = b->from[5]; p < b->to[5]; p++)
             if ((p - b->from[5]) % 37 != 0)
                 b->bytes[p] = 0;
 }
 
-/* Every byte of the first objects goes into a sum by which two runs are compared. */
+/* Every byte of the first objects goes into a checksum, by which two runs are compared. */
 static uint64_t summed(uint64_t sum, const struct block *b, int objects) {
     for (int i = 0; i < objects; i++)
         for (size_t p = b->from[i]; p < b->to[i]; p++)
@@ -594,7 +593,7 @@ struct asked {
     uint32_t cell;
 };
 
-/* A request, mostly by one of the numbers that stand on the desk. */
+/* A request, usually of one of the jobs on the desk. */
 static struct asked draw_request(const uint32_t *number) {
     uint32_t letter = draw() % 10, any = draw(), place = draw() % 32, cell = draw();
     struct asked a;
@@ -605,20 +604,20 @@ static struct asked draw_request(const uint32_t *number) {
 }
 
 struct counts {
-    uint64_t told[5]; /* answers by their words, and wakes */
-    uint64_t chained; /* jobs of chains, and chains that are refused */
+    uint64_t told[5]; /* counts of answers by word, and of wakes */
+    uint64_t chained; /* counts of jobs in chains, and of refused chains */
     uint64_t refused;
     uint64_t sum;
 };
 
 static void count_answer(struct counts *c, struct tuyenlomac_answer said) {
-    hold(said.word <= TUYENLOMAC_NO, "an answer has a word that there is not");
+    hold(said.word <= TUYENLOMAC_NO, "an answer has an unknown word");
     c->told[said.word]++;
     c->told[4] += said.wakes;
     c->sum = (c->sum ^ said.number) * 1099511628211u;
 }
 
-/* A lock desk of rubbish: each of its fields, and each list, is an object of its own. */
+/* A lock desk of random bytes: each of its fields, and each list, is an object of its own. */
 struct loose {
     struct block block;
     uint64_t *next;
@@ -715,7 +714,7 @@ static struct counts rubbish_stamps(void) {
     return c;
 }
 
-/* What a record is to be, by the C library; -1 for a word or letter that there is not. */
+/* What a record must be, by the C library; -1 for an unknown word or letter. */
 static int record_text(const struct record *r, char *text, size_t room) {
     static const char *const words[] = {"go", "wait", "back", "no", "wake"};
     unsigned long long line = r->line, number = r->number, last = r->last;
@@ -740,7 +739,7 @@ static uint64_t draw_wide(void) {
     return (high << 32 | low) >> (draw() % 64);
 }
 
-/* Any letter, word and numbers; the field at fault is one that there is. */
+/* Any letter, word and numbers; the field at fault is a valid one. */
 static struct record draw_record(void) {
     uint32_t letter = draw(), any = draw();
     struct record r = {0, any % 6, 0, 0, (any >> 8) % 5};
@@ -753,7 +752,8 @@ static struct record draw_record(void) {
     return r;
 }
 
-/* Writes a record from a place on into so many bytes, at most 128: it is there, or is refused as it should be. Tells whether it was written. */
+/* Writes a record from a place on into a buffer of that many bytes, at most 128: it is there, or is refused as it should be. Returns whether it
+   was written. */
 static int try_record(const struct record *r, size_t length, size_t at) {
     static struct block b;
     char text[128];
@@ -773,7 +773,7 @@ static int try_record(const struct record *r, size_t length, size_t at) {
     return fits;
 }
 
-/* Records of any numbers, words and letters, at any place of a buffer of any length; and the longest that there is. */
+/* Records of any numbers, words and letters, at any place of a buffer of any length; and the longest possible one. */
 static uint64_t rubbish_records(void) {
     uint64_t written = 0;
     for (int n = 0; n < RECORDS; n++) {
@@ -816,20 +816,20 @@ static void put_empty_lines(void) {
     printf("%u\n%u\n", (unsigned)request.field, (unsigned)history.field);
 }
 
-/* The chain of a job on a desk on which 1 runs, 2 was sent back and 3 is not open, over a list of no places. */
+/* The chain of a job over a list of no places; on this desk job 1 runs, 2 was sent back and 3 is not open. */
 static void put_empty_chain(const struct tuyenlomac_locks *d, uint32_t job) {
     struct tuyenlomac_chain told = tuyenlomac_locks_chain(d, job, NULL, 0);
     hold(told.jobs == 0, "a chain stands in a list of no places");
     printf("%u\n", (unsigned)told.refusal);
 }
 
-/* Both records, from a place on of a buffer of no bytes, and a letter that there is not. */
+/* Both records, from a place on of a buffer of no bytes; and an unknown letter and an unknown word. */
 static void put_empty_records(size_t at) {
     struct tuyenlomac_written answer = tuyenlomac_write_answer(NULL, 0, at, 1, TUYENLOMAC_GO, 1, 0);
     struct tuyenlomac_written line = tuyenlomac_write_line(NULL, 0, at, TUYENLOMAC_BEGIN, 0, 0);
     struct tuyenlomac_written none = tuyenlomac_write_line(NULL, 0, at, 'x', 0, 0);
     hold(answer.next == 0 && line.next == 0 && none.next == 0, "a record stands in a buffer of no bytes");
-    hold(tuyenlomac_write_answer(NULL, 0, at, 1, 5, 1, 0).refusal == TUYENLOMAC_UNKNOWN_KIND, "a word that there is not is written");
+    hold(tuyenlomac_write_answer(NULL, 0, at, 1, 5, 1, 0).refusal == TUYENLOMAC_UNKNOWN_KIND, "an unknown word is written");
     printf("%u\n%u\n%u\n", (unsigned)answer.refusal, (unsigned)line.refusal, (unsigned)none.refusal);
 }
 
@@ -852,7 +852,7 @@ static void empty(void) {
     put_empty_records(SIZE_MAX);
 }
 
-/* Runs a mode that there is. */
+/* Runs a valid mode. */
 static int run(const char *mode, long count) {
     if (strcmp(mode, "answers") == 0) answers(0);
     else if (strcmp(mode, "stamp_answers") == 0) answers(1);

@@ -6,11 +6,11 @@
 //!     try judge                                        prints the verdict on a text of any length, and the
 //!                                                      faulty line, as try_judge prints them
 //!     try mix [STEPS], try stamp_mix [STEPS]           prints what time_desk prints
-//!     try rubbish                                      steps, chains and records over random bytes, counted
-//!     try empty                                        every call that takes a slice, lent an empty one
+//!     try rubbish                                      runs steps, chains and records over random bytes
+//!     try empty                                        makes every call that takes a slice with an empty one
 //!
-//! What is lent holds FILL, or numbers that are known again, before each call, and is looked at after it:
-//! what the header says stays has to stay. Where it does not, a message and status 1.
+//! What is lent holds FILL, or known numbers, before each call, and is checked after it: what the header
+//! says stays must stay. If it does not, there is a message and status 1.
 mod tuyenlomac;
 
 use std::collections::BTreeSet;
@@ -20,17 +20,17 @@ use tuyenlomac::*;
 
 /// What every byte holds before it is lent.
 const FILL: u8 = 0xA5;
-/// So many request lines are answered.
+/// The number of request lines that are answered.
 const LINES: usize = 1_000_000;
-/// So many bytes of a history are judged; of more the program `verdict` says refusal 16.
+/// A history of more bytes gets refusal 16 from the program `verdict`.
 const JUDGED: usize = 65_536;
 const TOO_LONG: u32 = 16;
 /// Places that a case can lend for the order.
 const ORDER_PLACES: usize = 300;
-/// In steps, who asks for a chain, and the places that such a one can lend.
+/// In steps, the kind of a question for a chain, and the places that a question can lend.
 const ASKS: u32 = 256;
 const LIST_PLACES: usize = 64;
-/// A list's first place before it is lent, and each further one a number more.
+/// A list's first place before it is lent; each further place is one larger.
 const BEFORE: u32 = 4_000_000_000;
 
 fn hold(fact: bool, what: &str) {
@@ -44,11 +44,11 @@ fn untouched(bytes: &[u8]) -> bool {
     bytes.iter().all(|&byte| byte == FILL)
 }
 
-/// A type of integers alone, with no gap between its fields: any bytes are one, and all can be looked at.
-/// The face lets nobody write a desk's fields or see a list's other places; this is what it is tried by.
+/// A type of integers alone, with no gap between its fields: any bytes are a value of it, and all can be read.
+/// The face lets nobody write a desk's fields or see a list's other places; the tests do both by this.
 unsafe trait Plain: Sized {
     fn bytes(&self) -> &[u8] {
-        // Sound: so many initialised bytes, borrowed as self is.
+        // Sound: that many initialised bytes, borrowed as self is.
         unsafe { std::slice::from_raw_parts(self as *const Self as *const u8, std::mem::size_of::<Self>()) }
     }
 
@@ -93,7 +93,7 @@ impl Desk {
         }
     }
 
-    /// One step; after a refusal the desk has to be what it was.
+    /// One step; after a refusal the desk must be as before.
     fn step(&mut self, kind: u8, job: u32, cell: u32) -> Answer {
         let mut before = std::mem::take(&mut self.before);
         before.clear();
@@ -112,13 +112,13 @@ impl Desk {
     }
 }
 
-/// A step of the lock desk, whose wakes stand in the first places; the others have to stay.
+/// A step of the lock desk; its wakes are in the first places, and the others must stay.
 fn locks_step(desk: &mut Locks, kind: u8, job: u32, cell: u32, wakes: &mut Wakes) -> Answer {
     wakes.bytes_mut().fill(FILL);
     let said = desk.step(kind, job, cell, wakes);
     let told = wakes.len();
     hold(told <= PLACES, "more wakes are told than there are places");
-    // 32 jobs, 32 cells, 32 kinds, and how many are told
+    // 32 jobs, 32 cells, 32 kinds, and how many of them count
     let lists = wakes.bytes();
     let rest = [&lists[4 * told..128], &lists[128 + 4 * told..256], &lists[256 + told..288]];
     let stay = rest.iter().all(|part| untouched(part));
@@ -126,7 +126,7 @@ fn locks_step(desk: &mut Locks, kind: u8, job: u32, cell: u32, wakes: &mut Wakes
     said
 }
 
-/// The chain of a job, over the first places of a list; those behind the chain stay.
+/// The chain of a job, over the first places of a list; the places after the chain stay.
 fn chain_of(desk: &Locks, job: u32, places: usize) -> (Result<usize, Refusal>, Vec<u32>) {
     let mut list: Vec<u32> = (0..LIST_PLACES as u32).map(|i| BEFORE + i).collect();
     let told = desk.chain(job, &mut list[..places]).map(|chain| chain.len());
@@ -145,13 +145,13 @@ fn read_all() -> Vec<u8> {
     text
 }
 
-/// The lines of a text, each with its newline, which the last may lack.
+/// The lines of a text, each with its newline, which the last line may lack.
 fn lines_of(text: &[u8]) -> impl Iterator<Item = &[u8]> {
     text.split_inclusive(|&byte| byte == b'\n')
 }
 
-/// Puts a record behind what there is. It fits in so much room as it takes, and with a byte less it is
-/// refused; all other bytes stay.
+/// Appends a record. It fits into exactly its own length, and with one byte less it is refused; all other
+/// bytes stay.
 fn put_record(out: &mut Vec<u8>, write: impl Fn(&mut [u8], usize) -> Result<usize, Refusal>) {
     const AT: usize = 16;
     let mut buffer = [FILL; 128];
@@ -179,7 +179,7 @@ fn put_text(out: &mut Vec<u8>, text: &str) {
 
 // ---- answers, stamp_answers, chain
 
-/// All request lines on a desk started at 1; the records, the desk, and who waits by what it has told.
+/// All request lines on a desk started at 1; the records, the desk, and the jobs that wait by its answers.
 fn serve(by_stamps: bool) -> (Vec<u8>, Desk, BTreeSet<u32>) {
     let text = read_all();
     let mut out = Vec::new();
@@ -202,13 +202,13 @@ fn serve(by_stamps: bool) -> (Vec<u8>, Desk, BTreeSet<u32>) {
         };
         for wake in &desk.wakes {
             put_answer(&mut out, i + 1, Word::Wake, wake.job, None);
-            hold(waiting.remove(&wake.job), "somebody wakes who did not wait");
+            hold(waiting.remove(&wake.job), "a job wakes that did not wait");
         }
     }
     (out, desk, waiting)
 }
 
-/// The chains of all who wait at the end, in ascending order.
+/// The chains of all jobs that wait at the end, in ascending order.
 fn chain() -> Vec<u8> {
     let (_, desk, waiting) = serve(false);
     let desk = match &desk.either {
@@ -264,7 +264,7 @@ fn lines() -> Vec<u8> {
 
 // ---- steps
 
-/// The next number, its digits up to the first byte that is none, and that byte; one that is too large is
+/// The next number, its digits up to the first other byte, and that byte; a number that is too large becomes
 /// the largest.
 fn next_number(text: &mut &[u8]) -> (u32, Option<u8>) {
     let mut value: u64 = 0;
@@ -312,8 +312,7 @@ fn put_question(out: &mut Vec<u8>, desk: &Locks, job: u32, places: u32) {
     put_text(out, &(text + "\n"));
 }
 
-/// The first number, with a blank behind it where the timestamp desk is meant, and then steps up to a line
-/// that is none.
+/// The first number, followed by a blank for the timestamp desk; then steps, up to a line that is no step.
 fn steps() -> Vec<u8> {
     let text = read_all();
     let (mut rest, mut out) = (&text[..], Vec::new());
@@ -340,7 +339,7 @@ fn steps() -> Vec<u8> {
 
 // ---- verdict, judge, cases
 
-/// The verdict's line; the faulty line has to be a whole line of the text, without its newline.
+/// The verdict's line; the faulty line must be a whole line of the text, without its newline.
 fn verdict_line(text: &[u8], verdict: &Verdict) -> String {
     let (word, jobs) = match *verdict {
         Verdict::Orderly(jobs) => ("orderly", jobs),
@@ -373,8 +372,8 @@ fn told_places(verdict: &Verdict) -> usize {
     }
 }
 
-/// The verdict's line on a text of any length over so many places, and where it is wanted the line that is
-/// handed back; what stands in the order buffer behind what is told stays.
+/// The verdict's line on a text of any length over that many places and, if wanted, the faulty line that is
+/// handed back; the places of the order buffer that the verdict does not fill stay.
 fn put_judged(out: &mut Vec<u8>, text: &[u8], places: usize, wanted: bool) {
     let mut order = [FILL; ORDER_PLACES];
     let verdict = judge(text, &mut order[..places]);
@@ -390,7 +389,7 @@ fn put_judged(out: &mut Vec<u8>, text: &[u8], places: usize, wanted: bool) {
     hold(pair.map_or(true, |pair| order[..2] == pair), "reader and writer do not stand in the order buffer");
 }
 
-/// The same of a text that the programs take, and what they say of a longer one.
+/// The same for a text that the programs take, and what they say about a longer one.
 fn put_case(out: &mut Vec<u8>, text: &[u8], places: usize, wanted: bool) {
     if text.len() > JUDGED {
         return put_text(out, &format!("no\t0\t{}\n", TOO_LONG));
@@ -440,7 +439,7 @@ fn cases() -> Vec<u8> {
 
 // ---- mix, stamp_mix
 
-/// The steps that crates/time_desk draws: of a hand, a kind and a cell, whatever the desk has answered.
+/// The random steps of crates/time_desk: a hand, a kind and a cell are drawn, whatever the desk has answered.
 fn mix(by_stamps: bool, steps: u64) -> Vec<u8> {
     let mut x: u32 = 1;
     let mut draw = |limit: u32| {
@@ -462,7 +461,7 @@ fn mix(by_stamps: bool, steps: u64) -> Vec<u8> {
         jobs[hand] = match said {
             Answer::Go(_) if kind == COMMIT || kind == GIVE_UP => 0,
             Answer::Go(named) => named,
-            Answer::Back(_) if by_stamps => 0, // it is closed
+            Answer::Back(_) if by_stamps => 0, // the job is closed
             _ => job,
         };
         backs[hand] = matches!(said, Answer::Back(_)) && !by_stamps;
@@ -473,7 +472,7 @@ fn mix(by_stamps: bool, steps: u64) -> Vec<u8> {
     (numbers.join("\t") + "\n").into_bytes()
 }
 
-// ---- rubbish: the same draws as in try.c, so that the two print the same line
+// ---- rubbish: the same random numbers as in try.c, so the two print the same line
 
 const DESKS: u32 = 10_000;
 const STEPS: u32 = 24;
@@ -498,21 +497,21 @@ impl Drawer {
         (high << 32 | low) >> (self.draw() % 64)
     }
 
-    /// Fills a desk with any bytes, or with small ones, of which more mean something.
+    /// Fills a desk with any bytes, or with small ones, which more often mean something.
     fn fill(&mut self, desk: &mut [u8]) {
         let mask = [255, 7, 3, 3][self.draw() as usize % 4];
         let low = self.draw() % 2 != 0;
         desk.iter_mut().for_each(|byte| *byte = (self.draw() & mask) as u8);
         if low {
-            desk[4..8].fill(0); // a number for the next begin that can still be given
+            desk[4..8].fill(0); // a next number that can still be given
         }
         if desk.len() == 2280 && self.draw() % 2 != 0 {
-            // a lock desk on which little is held, so that more is granted
+            // a lock desk with few locks held, so that more is granted
             desk[232..].iter_mut().enumerate().filter(|(i, _)| i % 37 != 0).for_each(|(_, byte)| *byte = 0);
         }
     }
 
-    /// A request, mostly by one of the numbers that stand on the desk.
+    /// A request, usually of one of the jobs on the desk.
     fn request(&mut self, desk: &[u8]) -> Line {
         let (letter, any) = (self.draw() % 10, self.draw());
         let (place, cell) = (self.draw() as usize % 32, self.draw());
@@ -526,7 +525,7 @@ impl Drawer {
     }
 }
 
-/// An object that is lent, with a canary before and behind it.
+/// An object that is lent, with a canary before and after it.
 #[repr(C)]
 struct Guarded<T> {
     before: [u8; CANARY],
@@ -544,8 +543,8 @@ impl<T> Guarded<T> {
     }
 }
 
-/// Answers by their words, and wakes; jobs of chains, and chains that are refused; and a sum over all bytes
-/// and numbers, by which two runs are compared.
+/// Counts of answers by word, and of wakes; of jobs in chains, and of refused chains; and a checksum of all
+/// bytes and numbers, by which two runs are compared.
 struct Counts {
     told: [u64; 5],
     chained: u64,
@@ -619,7 +618,7 @@ fn rubbish_stamps(by: &mut Drawer) -> Counts {
     counts
 }
 
-/// A record, the line of a letter or an answer record; None for an answer's word that the face has not.
+/// A record: the line of a letter, or an answer record; None for a word that the face does not have.
 enum Record {
     Line(u8, u64, u64),
     Answer(u64, Option<Word>, u64, Option<Field>),
@@ -644,7 +643,7 @@ impl Record {
         Record::Line(kind, number, by.wide())
     }
 
-    /// What it is to be, by the standard library; None for a word or letter that there is not.
+    /// What it must be, by the standard library; None for an unknown word or letter.
     fn text(&self) -> Option<String> {
         match *self {
             Record::Line(BEGIN, _, _) => Some("b\n".to_string()),
@@ -662,7 +661,7 @@ impl Record {
         }
     }
 
-    /// Writes it from a place on: it is there, or is refused as it should be. Tells whether it was written.
+    /// Writes it from a place on: it is there, or is refused as it should be. Returns whether it was written.
     fn is_written(&self, length: usize, at: usize) -> bool {
         let mut buffer = [FILL; 128];
         let told = match *self {
@@ -705,7 +704,7 @@ fn rubbish() -> Vec<u8> {
     format!("{}{}records {}\n", locks.line("locks"), stamps.line("stamps"), records).into_bytes()
 }
 
-// ---- empty: every call that takes a slice, lent an empty one
+// ---- empty: every call that takes a slice, with an empty one
 
 fn refused<T>(told: Result<T, Refusal>) -> u32 {
     told.err().map_or(0, Refusal::number)
