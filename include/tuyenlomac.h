@@ -115,7 +115,7 @@ enum tuyenlomac_refusal {
 
 /* ---- What the caller lends, and what the functions return */
 
-/* A lock desk. It may be read; only start and step write it. */
+/* A lock desk: 32 places, of which each open job has one. A program may read it; only start and step write it. */
 struct tuyenlomac_locks {
     uint64_t next;       /* the number of the next begin */
     uint32_t number[32]; /* for each place, its job; 0 if the place is free */
@@ -132,7 +132,7 @@ TUYENLOMAC_ASSERT(offsetof(struct tuyenlomac_locks, cell) == 168);
 TUYENLOMAC_ASSERT(offsetof(struct tuyenlomac_locks, ask) == 200);
 TUYENLOMAC_ASSERT(offsetof(struct tuyenlomac_locks, held) == 232);
 
-/* A timestamp desk, likewise. */
+/* A timestamp desk, likewise with 32 places. */
 struct tuyenlomac_stamps {
     uint64_t next;       /* the number of the next begin */
     uint32_t number[32]; /* for each place, its job; 0 if the place is free */
