@@ -54,7 +54,7 @@ extern "C" {
 #define TUYENLOMAC_ASSERT(what) _Static_assert(what, #what)
 #endif
 
-/* ---- Numbers of the paper */
+/* ---- Limits, letters, words and refusals */
 
 enum {
     TUYENLOMAC_PLACES = 32, /* the most jobs that may be open at once; no step has more wakes, and no chain more jobs */
