@@ -68,7 +68,7 @@ contracts() {
             case $how:$lends in
             '':*) echo "$file: of $name there is no theorem $theorem over its contract" ;;
             other:* | Unique:yes) echo "$file: $theorem does not say that there is no second result, with all that is lent" ;;
-            *) if grep -F "| \`$proof\` |" docs/PROMISES.md | grep -qF "\`$theorem\`"; then echo ok; else echo "docs/PROMISES.md does not cite $theorem of $proof"; fi ;;
+            *) if grep -F "| \`$proof\` |" docs/promises/*.md | grep -qF "\`$theorem\`"; then echo ok; else echo "no page of docs/promises/ cites $theorem of $proof"; fi ;;
             esac
         done <"$log/reached"
     done

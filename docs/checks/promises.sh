@@ -20,7 +20,7 @@ declared() {
         { print "ok" }'
 }
 
-# in docs/PROMISES.md and docs/BELIEVE.md, rows with a file in one cell and names in the next; in docs/LINKING.md, rows with a function in one
+# in docs/PROMISES.md, docs/promises/ and docs/BELIEVE.md, rows with a file in one cell and names in the next; in docs/LINKING.md, rows with a function in one
 # cell and its module in the next; and on every page names in front of their file, as in: `a`, `b` (`crates/x/src/y.rt`), `a` of .., `a` in ..
 promises() {
     awk '
@@ -30,7 +30,7 @@ promises() {
         }
         # the file of a module, as desk_arrays::state
         function module(path,   part) { return split(path, part, "::") == 2 ? "crates/" part[1] "/src/" part[2] ".rt" : "crates/" path "/src/lib.rt" }
-        FILENAME ~ /PROMISES|BELIEVE/ && /^\|/ {
+        FILENAME ~ /PROMISES|promises\/|BELIEVE/ && /^\|/ {
             n = split($0, cell, "|")
             for (i = 2; i < n; i++) if (cell[i] ~ /^ *`crates\/[^`]*\.(antt|rt)` *$/) {
                 file = cell[i]; gsub(/[ `]/, "", file)

@@ -49,16 +49,16 @@ refusal_numbers() { # PAGE
     done
 }
 
-# docs/PROMISES.md, Refusals: rows '| N: words |' name no limit that row N of the table has not (0 apart), and every number begins a row, or stands in
+# docs/promises/scope-refusals.md: rows '| N: words |' name no limit that row N of the table has not (0 apart), and every number begins a row, or stands in
 # one that begins with several
 refusals_promised() {
     local number words n
-    sed -n '/^## Refusals/,/^## The desk that runs/s/^| \([0-9][0-9, ]*\)\(: \| with \| of \)\([^|]*\) |.*/\1\t\2\t\3/p' docs/PROMISES.md >"$log/promised"
+    sed -n 's/^| \([0-9][0-9, ]*\)\(: \| with \| of \)\([^|]*\) |.*/\1\t\2\t\3/p' docs/promises/scope-refusals.md >"$log/promised"
     if [ "$(cut -f 1 "$log/promised" | tr -d ' ' | tr ',' '\n' | sort -nu)" = "$(cut -f 1 "$log/defined" | sort -n)" ]; then echo ok
-    else echo "docs/PROMISES.md, Refusals: not every refusal has its row, or there is one too many"; fi
+    else echo "docs/promises/scope-refusals.md: not every refusal has its row, or there is one too many"; fi
     grep '	: 	' "$log/promised" | while IFS=$'\t' read -r number _ words; do
         for n in $(grep -oE '[0-9][0-9,]*[0-9]|[0-9]' <<<"${words%%: see*}" | grep -vx 0); do
-            if limits "$number" | grep -qx "${n//,/}"; then echo ok; else echo "docs/PROMISES.md, refusal $number: the table has no $n there"; fi
+            if limits "$number" | grep -qx "${n//,/}"; then echo ok; else echo "docs/promises/scope-refusals.md, refusal $number: the table has no $n there"; fi
         done
     done
 }
