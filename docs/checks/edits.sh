@@ -1,25 +1,28 @@
-# docs/WRONG_VERSIONS.md against the edits in crates/*/must-fail, and those against the files that they change
+# The kept edits (crates/*/must-fail) against docs/refused.txt, which has a line for each, against the page that docs/wrong_versions makes of both,
+# and against the files that they change.
 edits() {
-    { sed -n 's/^| \([a-z0-9_]*\) | .*(`\([a-z0-9_]*\)`[^|]*) | .*$/\1\/\2/p' docs/WRONG_VERSIONS.md | sed 's/^/page /'
-      for f in crates/*/must-fail/*.edit; do f=${f#crates/}; echo "file ${f%%/*}/$(basename "$f" .edit)"; done
-    } | awk '
-        { at[$1, $2]++; all[$2] = 1 }
-        END { for (e in all) {
-            if (at["page", e] == 1 && at["file", e] == 1) print "ok"
-            else if (!(("file", e) in at)) print "docs/WRONG_VERSIONS.md has " e ", and no crate has that edit"
-            else print "docs/WRONG_VERSIONS.md has the edit " e " " at["page", e] + 0 " times"
-        } }'
+    local f crate names name row
+    # the page's first table is what the script prints; it prints none where an edit lacks its line, or a line its edit
+    if docs/wrong_versions >"$log/made" 2>"$log/err"; then
+        awk '/^\| Crate \| Wrong version \| False under it \|$/ { inside = 1 } inside && !/^\|/ { exit } inside' docs/WRONG_VERSIONS.md >"$log/page"
+        while IFS= read -r row; do
+            if grep -qxF -e "$row" "$log/page"; then echo ok; else echo "docs/WRONG_VERSIONS.md has not the row that docs/wrong_versions makes: $row"; fi
+        done <"$log/made"
+        if cmp -s "$log/made" "$log/page"; then echo ok; else echo "docs/WRONG_VERSIONS.md: the table of kept edits is not what docs/wrong_versions prints (docs/wrong_versions -w mends it)"; fi
+    else
+        cat "$log/err"
+    fi
     # what an edit changes stands in its file
     for f in crates/*/must-fail/*.edit; do
         awk -v edit="${f#crates/}" -v crate="${f%%/must-fail/*}" '
             /^file: / { file = crate "/" substr($0, 7); text = ""; while ((getline line <file) > 0) text = text line "\n"; close(file) }
             /^old: / { if (index(text, substr($0, 6))) print "ok"; else print edit ": " file " has nothing of what it changes" }' "$f"
     done
-    # the last column: statements by their names; needs of functions, as 'f: returns', are not looked for
-    sed -n 's/^| \([a-z0-9_]*\) | .*(`[a-z0-9_]*`[^|]*) | \(.*\) |$/\1 \2/p' docs/WRONG_VERSIONS.md |
+    # statements by their names; needs of functions, as 'f: returns', are not looked for
+    sed -n 's/^\([a-z0-9_]*\)\/[a-z0-9_]*: \(.*\)$/\1 \2/p' docs/refused.txt |
         while read -r crate names; do
-            for name in $(awk -F '`' '{ for (i = 2; i <= NF; i += 2) if ($i !~ /:|^returns|^loop-|requires/) print $i }' <<<"$names"); do
-                if grep -rqE "^ *(pub )?$name :" "crates/$crate/proofs" "crates/$crate/specs" 2>/dev/null; then echo ok; else echo "crate $crate does not declare $name"; fi
+            for name in $(sed 's/, /\n/g' <<<"$names" | grep -vE ':|^returns|^loop-|requires'); do
+                if grep -rqE "^ *(pub )?$name :" "crates/$crate/proofs" "crates/$crate/specs" 2>/dev/null; then echo ok; else echo "docs/refused.txt: crate $crate does not declare $name"; fi
             done
         done
 }
