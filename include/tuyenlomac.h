@@ -1,10 +1,10 @@
 /* tuyenlomac.h: the lock desk, the timestamp desk, the judge, and their lines, for programs in C (from C11 on) and C++ (from C++11 on).
 
    A job is a transaction: it begins, reads, writes and increments cells, and commits or gives up (aborts). The lock desk (strict two-phase locking
-   with wait-die) lets it go on, lets it wait, or sends it back (aborts it): then its locks are free, and it may retry under its own number. There
-   are 64 cells, 0 to 63. The desks decide which job goes on. The caller keeps what the cells hold, and takes back (undoes) what a job has done
-   when the job gives up or is sent back. "What a caller does with the data", below, says when: a program with threads that does it later loses
-   updates.
+   with wait-die) lets it go on, lets it wait, or sends it back (aborts it): then its locks are free, and it may retry under its own number. A job
+   is open while it is running, waiting or sent back; at the timestamp desk, while it is running. At most 32 jobs are open at once. There are 64
+   cells, 0 to 63. The desks decide which job goes on. The caller keeps what the cells hold, and undoes (takes back) what a job has done when the
+   job gives up or is sent back. "What a caller does with the data", below, says when: a program with threads that does it later loses updates.
 
    Link libtuyenlomac.a, which is for x86-64 Linux. docs/LIBRARY.md says how it is built, what is proved of it, and where the proof ends.
    No function here allocates, does input or output, takes a lock, or keeps anything between calls. A function fails only by what it returns, and
@@ -15,32 +15,39 @@
      This holds for a desk that is about to be started too: make it static, or initialise it by = {0}. If the length beside a pointer is 0, the
      pointer may be null (an empty std::vector gives NULL with 0), and nothing is read or written through it.
    - Two objects that are lent in one call do not overlap if one of them may be written.
-   - One caller at a time: while a call runs, nobody else reads or writes what is lent to be written, or writes what is lent to be read.
+   - One caller at a time: while a call runs, nobody else reads or writes what is lent to be written, or writes what is lent to be read. So steps
+     of one desk exclude each other and exclude its chains; chains may run together.
      A program with threads holds a mutex of its own around each step, and around what has to follow the step at once (below).
    Breaking one of these rules is undefined behaviour: no answer says so, and nothing is promised any more. This was observed, and may differ
    elsewhere: a null desk faults (a null pointer for the wakes only in a step that wakes a job); a list that is lent twice silently holds what was
    written last, the cells of the wakes in place of their jobs.
-   Numbers may have any value. For any kind, job, cell, first number, text, line, place or length a call answers as described here.
+   Numbers may have any value, apart from a length, which must be true. For any kind, job, cell, first number, text, line or
+   place a call answers as described here.
 
    A desk is a struct that the caller owns. tuyenlomac_locks_start or tuyenlomac_stamps_start initialises it, and from then on only the step
    changes it: the promises of docs/PROMISES.md hold for such a desk. A copy of it is a second desk that knows nothing of the first: each may
    grant the same cell. A desk that was not started, or whose fields were written by the program, is safe to step: every call on it still ends and
-   writes only what is lent to it; but nothing is promised about its answers. A struct of zeros is such a desk, and its steps go on as if it had
-   been started: so check what start returns.
+   writes only what is lent to it; but nothing is promised about its answers. A struct of zeros is such a desk. It answers as if it had been
+   started: its first begin gives GO with the number 0, which is never open, and the next one gives 1. So check what start returns. A program may
+   read the fields of its desk, under the mutex.
 
    What a caller does with the data, at the lock desk. A job that is sent back has lost its locks, and others may have been granted its cells,
-   before its caller sees BACK. So
-   - after BACK: first take back what the job did, then tell the jobs that were woken, then free the mutex;
-   - before a give-up (abort): first take back what the job did, then make the call;
-   - or change cells only between the job's last GO (or wake) and its commit: then a job that is sent back has nothing to take back.
-   Between its GO and its end a job may use the cell without the mutex. After a commit or a give-up you may free the mutex before you tell the
-   woken jobs. An increment is one atomic operation on the cell's data, since several jobs may hold increment locks on one cell at once; take it
-   back by the opposite increment, not by restoring the old value. library/count.c is a program with threads that does all this.
+   before its caller sees BACK. To tell a woken job is to set, under the mutex, the flag that its thread tests, and to signal. So
+   - after BACK: undo what the job did before you tell any woken job and before you free the mutex, which stays locked from before the step;
+   - before a give-up (abort): first undo what the job did, then make the call;
+   - after a commit or a give-up: set the flags of the woken jobs before you free the mutex; you may signal after that;
+   - an increment is one atomic operation on the cell's data, since several jobs may hold increment locks on one cell at once; undo it by the
+     opposite increment, not by restoring the old value.
+   Instead of the first two: keep the job's changes aside and apply them once all its requests are granted, before its commit; then there is
+   nothing to undo. From the GO or the wake for a cell until the job ends, the job may do to that cell what it was granted (read, write, or
+   increment atomically) without the mutex. A wake grants the cell: the job does not ask again. library/count.c is a program with
+   threads that does all this.
 
-   At the timestamp desk (timestamp ordering) nothing is held between GO and the act, so the act belongs inside the mutex: read or change the cell
-   before the mutex is freed, and never later, for example at commit. Nothing is held until the job's end either. Take a job's writes back inside
-   the mutex too; by then other jobs may have read them (the judge calls that dirty) or have written over them. So keep what each job wrote to a
-   cell apart, and take back by removing what the job itself wrote: the cell then has the value written by the largest job number left there. */
+   The timestamp desk (timestamp ordering) holds no locks. A GO is valid only until the mutex is freed: read or change the cell before that, and
+   never later (at commit, say). Undo a job's writes before the mutex is freed too: after BACK, or with the give-up. By then other jobs may
+   have written over them: so keep the writes and increments of a cell in order, each with its job, and undo by removing those of the job. Other
+   jobs may also have read them, and may commit: the judge calls that dirty, and the timestamp desk does not prevent it. docs/LIBRARY.md says
+   more. */
 #ifndef TUYENLOMAC_H
 #define TUYENLOMAC_H
 
@@ -57,7 +64,7 @@ extern "C" {
 /* ---- Limits, letters, words and refusals */
 
 enum {
-    TUYENLOMAC_PLACES = 32, /* the most jobs that may be open at once; no step has more wakes, and no chain more jobs */
+    TUYENLOMAC_PLACES = 32, /* the most jobs that may be open at once; a chain has at most 32 jobs, and a step at most 31 wakes */
     TUYENLOMAC_CELLS = 64,  /* cells are 0 to 63 */
     TUYENLOMAC_ORDER = 255, /* places of an order buffer for the judge; fewer are refused */
     TUYENLOMAC_RECORD = 24  /* no record of an answer, or of a BAD_LINE, to a request of line 1 to 1,000,000 is longer */
@@ -68,12 +75,12 @@ enum {
     TUYENLOMAC_BEGIN = 'b',
     TUYENLOMAC_COMMIT = 'c',
     TUYENLOMAC_GIVE_UP = 'a',
-    TUYENLOMAC_RETRY = 't',
+    TUYENLOMAC_RETRY = 't',     /* a job that was sent back runs again under its number, with no locks */
     TUYENLOMAC_READ = 'r',
     TUYENLOMAC_WRITE = 'w',
     TUYENLOMAC_INCREMENT = 'i',
     TUYENLOMAC_UPDATE = 'u',    /* read with intent to write */
-    TUYENLOMAC_SENT_BACK = 'k'  /* only in histories; as a request it is refused, 1 */
+    TUYENLOMAC_SENT_BACK = 'k'  /* only in histories; as a request it gets UNKNOWN_KIND */
 };
 
 /* The word of an answer, and of an answer record. */
@@ -115,7 +122,7 @@ enum tuyenlomac_refusal {
 
 /* ---- What the caller lends, and what the functions return */
 
-/* A lock desk: 32 places, of which each open job has one. A program may read it; only start and step write it. */
+/* A lock desk: 32 places, of which each open job has one. A program may read it under the mutex; only start and step write it. */
 struct tuyenlomac_locks {
     uint64_t next;       /* the number of the next begin */
     uint32_t number[32]; /* for each place, its job; 0 if the place is free */
@@ -234,8 +241,8 @@ struct tuyenlomac_answer tuyenlomac_stamps_step_on(uint64_t *next, uint32_t numb
                                                    uint8_t kind, uint32_t job, uint32_t cell);
 
 /* The verdict on the text of a history: length bytes, any number of them, in lines as docs/FORMATS.md has them. The first of these that applies:
-     REFUSED with SHORT_ORDER for fewer than 255 places, whatever the text; otherwise with the first line that is at fault: TOO_MANY_LINES for
-             line 4,097, then BAD_LINE (also for a missing newline at the end of the text), then JOB_OUTSIDE, CELL_ABOVE, ENDED
+     REFUSED with SHORT_ORDER for fewer than 255 places, whatever the text; otherwise for the first faulty line, with the first that applies to it
+             of TOO_MANY_LINES (line 4,097), BAD_LINE (also for a missing newline at the end of the text), JOB_OUTSIDE, CELL_ABOVE and ENDED
      DIRTY   if a run that commits read what another run had written or incremented, and that other run had not ended yet and does not commit
              (a run is one attempt of a job, up to its commit, give-up or being sent back)
      ORDERLY if the committed jobs can be put one after another so that each conflict keeps its order; an empty text is ORDERLY
@@ -250,16 +257,17 @@ struct tuyenlomac_line tuyenlomac_read_history(const uint8_t *line, size_t lengt
 
 /* write_answer writes an answer record: the number of the request's line, the word (GO to WAKE), a number, and, if it is not 0, the field at fault
    of a BAD_LINE. write_line writes the line of a letter, with the job and cell that the letter has: a history record or a request. Both write from
-   place at on, which need not be within the buffer; all other bytes stay. For an unknown word or letter they return UNKNOWN_KIND, then NO_ROOM if
-   the record does not fit; in both cases no byte changes. The values are not checked: they are written as given, in at most 68 bytes. */
+   place at on, which need not be within the buffer; all other bytes are unchanged. On failure they return the first that applies of UNKNOWN_KIND,
+   for an unknown word or letter, and NO_ROOM, if the record does not fit, and leave the buffer unchanged. The values are not
+   checked: they are written as given, in at most 68 bytes. */
 struct tuyenlomac_written tuyenlomac_write_answer(uint8_t *buffer, size_t length, size_t at, uint64_t line, uint32_t word, uint64_t number,
                                                   uint64_t field);
 struct tuyenlomac_written tuyenlomac_write_line(uint8_t *buffer, size_t length, size_t at, uint8_t kind, uint64_t job, uint64_t cell);
 
 /* ---- A desk lent whole */
 
-/* Starts a lock desk whose first begin gets the number first, and returns 0. If first is 0 it returns STARTED_AT_ZERO: nothing was started, and
-   what is there stays. */
+/* Starts a lock desk whose first begin gets the number first, and returns 0. If first is 0 it returns STARTED_AT_ZERO,
+   starts nothing, and leaves the struct unchanged. */
 static inline uint32_t tuyenlomac_locks_start(struct tuyenlomac_locks *desk, uint32_t first) {
     return tuyenlomac_locks_start_on(&desk->next, desk->number, desk->status, desk->cell, desk->ask, desk->held, first);
 }
@@ -267,9 +275,16 @@ static inline uint32_t tuyenlomac_locks_start(struct tuyenlomac_locks *desk, uin
 /* One request. A begin reads neither job nor cell; commit, give-up and retry read no cell. The answer is
      GO     the request is done; the number is the job's, for a begin the new one
      WAIT   the job waits; it may only give up until a wake of a later step names it
-     BACK   the job was sent back, holds nothing, and may retry or give up. Take back what it did, then tell the woken jobs, then free the mutex
-     NO     with the refusal, tested in this order: 1 for the kind; for a begin 7, then 6; for others 3, 4, 5 or 8, and then 2. The desk does not
-            change
+     BACK   the job was sent back, holds nothing, and may retry or give up. Undo what it did before you tell the woken jobs and free the mutex
+     NO     with the refusal; the desk does not change. It is UNKNOWN_KIND; or for a begin the first that applies of NO_NUMBER_LEFT and ALL_OPEN;
+            or for others the first that applies of NOT_OPEN, WAITING, WAS_SENT_BACK, RUNNING and CELL_ABOVE
+   A read needs a shared lock (S), a write an exclusive one (X), an increment an increment lock (I), an UPDATE an update lock (U). Beside another
+   job's S an S or a U is granted, beside an I an I, and nothing else; docs/MATRIX.md has the whole matrix, and what a job asks for that holds the
+   cell already. The smaller number is the older job.
+     the job holds nothing there   GO if no job waits there and its lock is granted beside every holder's; otherwise WAIT if it is older than
+                                   every holder and every waiter there; otherwise BACK
+     the job holds the cell        GO if its lock is enough, or the one it asks for is granted beside every other holder's; otherwise WAIT if it
+                                   is older than every other holder; otherwise BACK
    Only a commit, a give-up and a BACK wake other jobs. */
 static inline struct tuyenlomac_answer tuyenlomac_locks_step(struct tuyenlomac_locks *desk, uint8_t kind, uint32_t job, uint32_t cell,
                                                              struct tuyenlomac_wakes *wakes) {
@@ -277,9 +292,9 @@ static inline struct tuyenlomac_answer tuyenlomac_locks_step(struct tuyenlomac_l
                                     wakes->kind, kind, job, cell);
 }
 
-/* Why a job waits: the job, the youngest job in its way, the youngest in the way of that one, and so on to a job that runs; for a running job,
-   itself alone. It fills the first places of the list and leaves the others. It refuses with NOT_OPEN, then WAS_SENT_BACK, then SHORT_LIST for
-   fewer than 32 places, and then the list does not change. The desk does not change. */
+/* Why a job waits: the job, the youngest job (the largest number) in its way, the youngest in the way of that one, and so on to a job that runs;
+   for a running job, itself alone. It fills the first places of the list and leaves the others unchanged. A refusal is the first that applies of
+   NOT_OPEN, WAS_SENT_BACK and SHORT_LIST (fewer than 32 places), and leaves the list unchanged. The desk does not change. */
 static inline struct tuyenlomac_chain tuyenlomac_locks_chain(const struct tuyenlomac_locks *desk, uint32_t job, uint32_t *list, size_t length) {
     return tuyenlomac_locks_chain_on(&desk->next, desk->number, desk->status, desk->cell, desk->ask, desk->held, job, list, length);
 }
@@ -289,8 +304,10 @@ static inline uint32_t tuyenlomac_stamps_start(struct tuyenlomac_stamps *desk, u
     return tuyenlomac_stamps_start_on(&desk->next, desk->number, desk->reader, desk->writer, first);
 }
 
-/* One request to a timestamp desk. The answer is GO; BACK, and then the job is closed; or NO, tested in this order: 1; for a begin 7, then 6; for
-   others 3, then 19 for a retry, then 2. No job waits or wakes: wakes is 0. After GO, act before the mutex is freed, since nothing is held. */
+/* One request to a timestamp desk. The answer is GO; BACK, and then the job is closed; or NO with the refusal: UNKNOWN_KIND; or for a begin the
+   first that applies of NO_NUMBER_LEFT and ALL_OPEN; or for others the first that applies of NOT_OPEN, NO_RETRY (for every retry) and CELL_ABOVE.
+   A read or an UPDATE gets BACK if the job is smaller than the cell's writer, a write or an increment if it is smaller than the cell's reader or
+   writer. No job waits or wakes: wakes is 0. After GO, act before the mutex is freed, since nothing is held. */
 static inline struct tuyenlomac_answer tuyenlomac_stamps_step(struct tuyenlomac_stamps *desk, uint8_t kind, uint32_t job, uint32_t cell) {
     return tuyenlomac_stamps_step_on(&desk->next, desk->number, desk->reader, desk->writer, kind, job, cell);
 }

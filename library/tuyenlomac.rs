@@ -9,19 +9,22 @@
 //! For that there are rules:
 //!
 //! At the lock desk a job that is sent back (aborted) has lost its locks, and others may have been granted
-//! its cells, before its caller sees `Back`. So
-//! - after `Back`: first take back (undo) what the job did, then tell the jobs that were woken, then free
-//!   the mutex;
-//! - before a give-up (abort): first take back what the job did, then make the call;
-//! - or change cells only between the job's last `Go` (or wake) and its commit: then a job that is sent
-//!   back has nothing to take back.
+//! its cells, before its caller sees `Back`. To tell a woken job is to set, under the mutex, the flag that
+//! its thread tests, and to signal. So
+//! - after `Back`: undo (take back) what the job did before you tell any woken job and before you free the
+//!   mutex, which stays locked from before the step;
+//! - before a give-up (abort): first undo what the job did, then make the call;
+//! - after a commit or a give-up: set the flags of the woken jobs before you free the mutex; you may signal
+//!   after that;
+//! - an increment is one atomic operation on the cell's data, since increment locks are shared; undo it by
+//!   the opposite increment, not by restoring the old value.
 //!
-//! An increment is one atomic operation on the cell's data, since increment locks are shared. Take it back
-//! by the opposite increment, not by restoring the old value. library/count.rs is a program with threads
-//! that does all this.
+//! Instead of the first two: keep the job's changes aside and apply them once all its requests are granted,
+//! before its commit; then there is nothing to undo. A wake grants the cell: the job does not ask again.
+//! library/count.rs is a program with threads that does all this.
 //!
-//! At the timestamp desk nothing is held between `Go` and the act: the act belongs inside the mutex, and
-//! so does taking back. The header says more about it.
+//! The timestamp desk holds no locks: a `Go` is valid only until the mutex is freed. Act before that, and
+//! undo before that. docs/LIBRARY.md says more about it.
 //!
 //! Nothing here allocates, or keeps anything between calls. A panic could come only from an answer that
 //! the archive never gives; the comment beside each says what rules it out.
@@ -30,7 +33,7 @@
 use std::fmt;
 use std::mem::{align_of, size_of};
 
-/// The most jobs that may be open at once; no step has more wakes, and no chain more jobs.
+/// The most jobs that may be open at once; a chain has at most 32 jobs, and a step at most 31 wakes.
 pub const PLACES: usize = 32;
 /// Cells are 0 to 63.
 pub const CELLS: u32 = 64;
@@ -45,7 +48,8 @@ pub const BEGIN: u8 = b'b';
 pub const COMMIT: u8 = b'c';
 /// The kind of a request by which a job gives up.
 pub const GIVE_UP: u8 = b'a';
-/// The kind of a request that retries a job that was sent back.
+/// The kind of a request that retries a job that was sent back: the job runs again under its number, with
+/// no locks.
 pub const RETRY: u8 = b't';
 /// The kind of a request to read a cell.
 pub const READ: u8 = b'r';
@@ -329,7 +333,7 @@ pub enum Answer {
     /// gives this answer.
     Wait(u32),
     /// The job was sent back and holds nothing. At the lock desk it may retry or give up; at the
-    /// timestamp desk it is closed. Take back what it did, then tell the woken jobs, then free the mutex.
+    /// timestamp desk it is closed. Undo what it did before you tell the woken jobs and free the mutex.
     Back(u32),
     /// Nothing was done, and the desk did not change.
     No(Refusal),
@@ -380,8 +384,8 @@ pub struct Wake {
 }
 
 /// The wakes of one step, in order. Keep one such list for all steps: each step replaces the wakes in it.
-/// It is not a part of the desk. After `Back`, tell the woken jobs when what the job did is taken back, and
-/// before the mutex is freed; after a commit or a give-up you may free the mutex first.
+/// It is not a part of the desk. After `Back`, tell the woken jobs when what the job did is undone; set
+/// their flags before the mutex is freed.
 #[repr(C)]
 #[derive(Clone)]
 pub struct Wakes {
@@ -506,8 +510,7 @@ impl Locks {
 
     /// One request; its kind is a letter such as `BEGIN`. A begin reads neither job nor cell; commit, give-up
     /// and retry read no cell. The step's wakes replace those in `wakes`; only a commit, a give-up and a
-    /// `Back` wake other jobs. Before a give-up take back what the job did; after `Back` do so before
-    /// anything else.
+    /// `Back` wake other jobs. Undo what the job did before a give-up, and after `Back` before anything else.
     pub fn step(&mut self, kind: u8, job: u32, cell: u32, wakes: &mut Wakes) -> Answer {
         // Sound: the fields of two values that nobody else borrows during this call.
         let told = unsafe {
@@ -536,9 +539,10 @@ impl Locks {
         (0..PLACES).filter(move |&place| self.status[place] == WAITING).map(move |place| self.number[place])
     }
 
-    /// Why a job waits: the job, the youngest in its way, the youngest in that one's way, and so on to a job
-    /// that runs; for a running job, itself alone. It refuses with `NotOpen`, then `WasSentBack`, then
-    /// `ShortList` for a list of fewer than 32 places. The places after the chain stay as they were.
+    /// Why a job waits: the job, the youngest (the largest number) in its way, the youngest in that one's
+    /// way, and so on to a job that runs; for a running job, itself alone. A refusal is the first that applies
+    /// of `NotOpen`, `WasSentBack` and `ShortList` (fewer than 32 places). The places after the chain are
+    /// unchanged.
     pub fn chain<'a>(&self, job: u32, list: &'a mut [u32]) -> Result<&'a [u32], Refusal> {
         // Sound: the desk is only read, and a slice's pointer and length go together.
         let told = unsafe {
@@ -625,7 +629,7 @@ pub enum Verdict<'a, 'b> {
 }
 
 /// The verdict on the text of a history. The order buffer has 255 places or more, otherwise the verdict is
-/// `ShortOrder`; the places that the verdict does not fill stay as they were.
+/// `ShortOrder`; the places that the verdict does not fill are unchanged.
 pub fn judge<'a, 'b>(text: &'a [u8], order: &'b mut [u8]) -> Verdict<'a, 'b> {
     // Sound: two slices, each pointer with its length; nobody else borrows the one that is written.
     let told = unsafe { raw::tuyenlomac_judge(text.as_ptr(), text.len(), order.as_mut_ptr(), order.len()) };
@@ -686,8 +690,8 @@ fn place(told: raw::Written) -> Result<usize, Refusal> {
 }
 
 /// Writes an answer record into a buffer from a place on: the number of the request's line, the word, a
-/// number, and for a `BadLine` the field at fault. Returns the place after it; or `NoRoom`, and then no
-/// byte changes.
+/// number, and for a `BadLine` the field at fault. Returns the place after it. On failure it returns
+/// `NoRoom` and leaves the buffer unchanged.
 pub fn write_answer(
     buffer: &mut [u8],
     at: usize,
@@ -704,8 +708,8 @@ pub fn write_answer(
 }
 
 /// Writes the line of a letter, with the job and cell that the letter has, into a buffer from a place on: a
-/// request or a history record. Returns the place after it; or `NoRoom`, or `UnknownKind` for an unknown
-/// letter, and then no byte changes.
+/// request or a history record. Returns the place after it. On failure it returns `UnknownKind`, for an
+/// unknown letter, or `NoRoom`, and leaves the buffer unchanged.
 pub fn write_line(buffer: &mut [u8], at: usize, kind: u8, job: u64, cell: u64) -> Result<usize, Refusal> {
     // Sound: a slice's pointer and length; any place will do.
     place(unsafe { raw::tuyenlomac_write_line(buffer.as_mut_ptr(), buffer.len(), at, kind, job, cell) })
