@@ -98,17 +98,19 @@ toTheQueue = begins 32 ++ request 119 32 5 ∷ readInTurn 30
 abbrev pub toTheLine : List Request
 toTheLine = begins 32 ++ writeOwn 32 ++ writeNext 31
 
--- the desks after those requests, started at 1
+-- the desk with the queue, started at 1
 unfoldable pub queueDesk : Desk
 queueDesk = deskAfter (freshDesk 1) toTheQueue
 
+-- the desk with the line, started at 1
 unfoldable pub lineDesk : Desk
 lineDesk = deskAfter (freshDesk 1) toTheLine
 
--- job 1 asks to read cell 5 too, and then job 32 commits
+-- job 1 asks to read cell 5 too
 abbrev pub oneMore : Request
 oneMore = request 114 1 5
 
+-- then job 32 commits
 abbrev pub lastCommits : Request
 lastCommits = request 99 32 0
 
