@@ -7,12 +7,12 @@ use mathlib.Core.List.{List, [], ◌∷◌, map, append-nil}
 use lib.ListN.{take}
 use Rattle.terms.specs.declared.letters.Letter.{Letter}
 use Rattle.terms.specs.declared.refusals.Field.{Field}
-use Rattle.terms.specs.Letters.{byte_of}
+use Rattle.terms.specs.Letters.{byte_of, of_requests}
 use Rattle.conflict.specs.declared.action.Action.{Action}
 use Rattle.text_rules.specs.declared.Reading.{Reading}
 use Rattle.text_rules.specs.declared.Reading.TheVariants.{Good, Bad}
 use Rattle.text_rules.specs.declared.splitter.Splitter.{Splitter}
-use Rattle.text_rules.specs.RequestLines.{read_request}
+use Rattle.text_rules.specs.Lines.{read_line}
 use Rattle.text_rules.specs.Records.{longest_record}
 use Rattle.text_rules.specs.Split.{found_at}
 use Rattle.text_rules.specs.Wrote.{Wrote}
@@ -90,7 +90,7 @@ module _ {view : View} {line at to : ℕ} {r : Request} {before after : List ℕ
   unfolding on_desks step_by
   under_stamps {d} {s} {t} k a = rw k (record { desk = ap (desks_of by_stamps d) a.desk; records = a.records })
 
-module _ (view : View) (splitter : Splitter) (out : List ℕ) (at : ℕ) (ended : due splitter ≡ true) {r : Reading} (reads : r ≡ read_request (found_at splitter).bytes) where
+module _ (view : View) (splitter : Splitter) (out : List ℕ) (at : ℕ) (ended : due splitter ≡ true) {r : Reading} (reads : r ≡ read_line of_requests (found_at splitter).bytes) where
   -- a bad line is answered
   pub answered_bad : {d : Desks} {to : ℕ} {after : List ℕ} {field : Field} → r ≡ Bad field → Wrote at to (viewed view (told_bad splitter.line field)) out after →
       turning view (record { desks = d; splitter = splitter }) out at ≡ record { clerk = record { desks = d; splitter = splitter }; at = to; out = after }

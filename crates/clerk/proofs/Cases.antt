@@ -4,6 +4,7 @@ use Prim.Native.Nat.{ℕ}
 use mathlib.Core.Path.{◌≡◌, sym, ap, ◌∙◌}
 use mathlib.Core.List.{[], append-nil}
 use Rattle.terms.specs.declared.letters.Letter.{Letter}
+use Rattle.terms.specs.declared.letters.Letter.TheVariants.{Asks}
 use Rattle.terms.specs.declared.letters.Ask.{Ask}
 use Rattle.terms.specs.declared.words.Word.{Word}
 use Rattle.terms.specs.declared.words.Word.TheVariants.{Wake, No}
@@ -11,17 +12,17 @@ use Rattle.terms.specs.declared.refusals.Field.{Field}
 use Rattle.terms.specs.declared.refusals.Refusal.TheVariants.{BadLine}
 use Rattle.terms.specs.Refusals.{number_of, field_number}
 use Rattle.conflict.specs.declared.action.Action.{Action}
-use Rattle.conflict.specs.declared.action.Mark.{Mark}
-use Rattle.conflict.specs.declared.action.Event.TheVariants.{Does as acts, Ends as ends}
+use Rattle.terms.specs.Letters.{of_requests}
 use Rattle.text_rules.specs.declared.splitter.Splitter.{Splitter}
-use Rattle.text_rules.specs.RequestLines.{lacking, read_request}
-use Rattle.text_rules.specs.Records.{answer_record}
+use Rattle.text_rules.specs.Fields.{lacking}
+use Rattle.text_rules.specs.Lines.{read_line}
+use Rattle.text_rules.specs.Records.{answer_record, line_record}
 use Rattle.text_rules.specs.Split.{found_at}
 use Rattle.desks.specs.declared.Answer.{Answer}
 use Rattle.program_rules.specs.declared.View.{View}
 use Rattle.program_rules.specs.declared.View.TheVariants.{Answers, History, Chains}
 use Rattle.desks.specs.Records.{records_of, own_records, wake_records}
-use Rattle.text_rules.specs.EventRecords.{event_line, text_of}
+use Rattle.text_rules.specs.EventRecords.{ask_by, event_line, text_of}
 use Rattle.desks.specs.AnswerWords.{word_of, number_beside, field_beside}
 use Rattle.program_rules.specs.OverLines.{answer_lines, history_lines, wake_lines}
 use Rattle.program_rules.specs.Work.{viewed, told_bad, unended}
@@ -32,7 +33,7 @@ use Rattle.program_rules.specs.Chains.{chain_text}
 use Rattle.program_rules.specs.Closing.{chains_by, closing}
 use Rattle.desk_chain.specs.Chains.{chains_on}
 use Rattle.clerk.specs.declared.records.Noted.{Noted}
-use Rattle.clerk.specs.declared.records.Noted.TheVariants.{Nothing, Does, Ends}
+use Rattle.clerk.specs.declared.records.Noted.TheVariants.{Nothing, Line}
 use Rattle.clerk.specs.Parts.{asking, noted_bytes, first_record, wake_record}
 
 -- nothing is noted
@@ -40,15 +41,10 @@ pub nothing_noted : (n : Noted) → n ≡ Nothing → [] ≡ noted_bytes n
 unfolding noted_bytes
 nothing_noted n e = rw e
 
--- an action is noted
-pub action_noted : (n : Noted) {a : Action} → n ≡ Does a → event_line (acts a) ≡ noted_bytes n
+-- a line is noted
+pub line_noted : (n : Noted) {l : Letter} {job cell : ℕ} → n ≡ Line l job cell → line_record l job cell ≡ noted_bytes n
 unfolding noted_bytes
-action_noted n e = rw e
-
--- a mark is noted
-pub mark_noted : (n : Noted) {m : Mark} {j : ℕ} → n ≡ Ends m j → event_line (ends m j) ≡ noted_bytes n
-unfolding noted_bytes
-mark_noted n e = rw e
+line_noted n e = rw e
 
 -- the first record among the answers
 pub first_answer : (view : View) (line : ℕ) (l : Letter) (cell : ℕ) (a : Answer) (w : Word) (n k : ℕ) → view ≡ Answers → w ≡ word_of a → n ≡ number_beside a → k ≡ field_beside a →
@@ -72,9 +68,9 @@ unfolding wake_record
 wake_answer view line a e = rw e
 
 -- a wake in the history
-pub wake_noted : (view : View) (line : ℕ) (a : Action) → view ≡ History → event_line (acts a) ≡ wake_record view line a
-unfolding wake_record
-wake_noted view line a e = rw e
+pub wake_noted : (view : View) (line : ℕ) (a : Action) (k : Ask) → view ≡ History → k ≡ ask_by a.kind → line_record (Asks k) a.job a.cell ≡ wake_record view line a
+unfolding wake_record event_line
+wake_noted view line a k e f = rw (e, f)
 
 -- no record of a wake for the chains
 pub wake_chains : (view : View) (line : ℕ) (a : Action) → view ≡ Chains → [] ≡ wake_record view line a
@@ -97,7 +93,7 @@ unfolding viewed
 bad_chains view line field e = rw e
 
 -- a line that lacks its newline is a bad line, at the field that its bytes tell
-pub unended_told : (view : View) (s : Splitter) {field : Field} → field ≡ lacking (read_request (found_at s).bytes) → viewed view (told_bad s.line field) ≡ viewed view (unended s)
+pub unended_told : (view : View) (s : Splitter) {field : Field} → field ≡ lacking (read_line of_requests (found_at s).bytes) → viewed view (told_bad s.line field) ≡ viewed view (unended s)
 unfolding unended
 unended_told view s e = ap (λ k. viewed view (told_bad s.line k)) e
 

@@ -1,21 +1,17 @@
 -- The jobs of a chain, one after another, on a line: each has at most ten digits, and a tab or the newline beside them.
 -- Assumes nothing.
 use Prim.Native.Nat.{ℕ, ◌+◌, ◌*◌, ◌≤◌, ◌<◌}
-use mathlib.Core.Path.{◌≡◌}
 use mathlib.Core.List.{List, [], ◌∷◌}
 use native.Mathlib.Omega.{arith}
 use lib.ListN.{length, take, get_or}
 use Rattle.terms.specs.Limits.{last_number}
 use Rattle.terms.specs.Words.{tab, newline}
 use Rattle.text_rules.specs.Decimal.{decimal}
-use Rattle.text_rules.specs.declared.Written.{Written}
-use Rattle.text_rules.specs.Records.{tabs_between, jobs_line, told, left}
+use Rattle.text_rules.specs.Records.{tabs_between, jobs_line}
 use Rattle.text_rules.specs.Wrote.{Wrote}
 use Rattle.text_rules.proofs.DigitLaws.{digits_at_most}
 use Rattle.text_rules.proofs.TabbedLaws.{between_first, between_next, jobs_line_is}
 use Rattle.text_rules.proofs.WroteLaws.{wrote_then, wrote_as}
-use Rattle.text.specs.Next.{next_or}
-use Rattle.text.proofs.NextLaws.{next_fits}
 use Rattle.program_rules.specs.Closing.{job_room}
 use Rattle.clerk.specs.Parts.{Added}
 
@@ -31,33 +27,28 @@ pub record Listed (jobs : List ℕ) (at next i : ℕ) (before after : List ℕ) 
   pub wrote : Wrote at next (tabs_between (take i jobs)) before after
 
 -- the first
-pub listed_first : {jobs b m : List ℕ} {at to : ℕ} {w : Written} → 0 < length jobs → get_or jobs 0 0 ≤ last_number → at + job_room * length jobs ≤ length b → w ≡ told b at (decimal (get_or jobs 0 0)) →
-    to ≡ next_or w at → m ≡ left b at (decimal (get_or jobs 0 0)) → Listed jobs at to 1 b m
-listed_first {jobs} h small room e f g =
-    let d = job_digits (get_or jobs 0 0) small in
-    let w = next_fits e f g (omega arith) in
-    let t = w.ends in
-    record { some = omega arith; within = h; few = omega arith; wrote = wrote_as w (between_first jobs h) }
+pub listed_first : {jobs b m : List ℕ} {at next : ℕ} → 0 < length jobs → Added 10 at next (decimal (get_or jobs 0 0)) b m → Listed jobs at next 1 b m
+listed_first {jobs} h a =
+    let f = a.few in
+    let e = a.wrote.ends in
+    record { some = omega arith; within = h; few = omega arith; wrote = wrote_as a.wrote (between_first jobs h) }
 
 -- one more
-pub listed_next : {jobs b m p : List ℕ} {at next to i : ℕ} {w : Written} → Listed jobs at next i b m → i < length jobs → get_or jobs i 0 ≤ last_number → next + job_room ≤ length m →
-    w ≡ told m next (tab ∷ decimal (get_or jobs i 0)) → to ≡ next_or w next → p ≡ left m next (tab ∷ decimal (get_or jobs i 0)) → Listed jobs at to (i + 1) b p
-listed_next {jobs} {i = i} l h small room e f g =
-    let d = job_digits (get_or jobs i 0) small in
-    let w = next_fits e f g (omega arith) in
-    let t = w.ends in
-    let k = l.few in
+pub listed_next : {jobs b m p : List ℕ} {at next to i : ℕ} → Listed jobs at next i b m → i < length jobs → Added job_room next to (tab ∷ decimal (get_or jobs i 0)) m p → Listed jobs at to (i + 1) b p
+listed_next {jobs} {i = i} l h a =
+    let f = a.few in
+    let g = l.few in
+    let e = a.wrote.ends in
     let s = l.some in
-    record { some = omega arith; within = omega arith; few = omega arith; wrote = wrote_as (wrote_then l.wrote w) (between_next jobs i s h) }
+    record { some = omega arith; within = omega arith; few = omega arith; wrote = wrote_as (wrote_then l.wrote a.wrote) (between_next jobs i s h) }
 
 -- all of them, and the newline
-pub listed_line : {jobs b m p : List ℕ} {at next to i : ℕ} {w : Written} → Listed jobs at next i b m → length jobs ≤ i → next < length m → w ≡ told m next (newline ∷ []) → to ≡ next_or w next →
-    p ≡ left m next (newline ∷ []) → Added (job_room * length jobs) at to (jobs_line jobs) b p
-listed_line {jobs} {i = i} l h room e f g =
-    let w = next_fits e f g (omega arith) in
-    let t = w.ends in
-    let k = l.few in
-    let n = l.within in
-    let line = wrote_as (wrote_then l.wrote w) (jobs_line_is jobs i h) in
-    let q = line.ends in
-    record { wrote = line; few = omega arith }
+pub listed_line : {jobs b m p : List ℕ} {at next to i : ℕ} → Listed jobs at next i b m → length jobs ≤ i → Added 1 next to (newline ∷ []) m p → Added (job_room * length jobs) at to (jobs_line jobs) b p
+listed_line {jobs} {i = i} l h a =
+    let f = a.few in
+    let g = l.few in
+    let k = l.within in
+    let w = wrote_as (wrote_then l.wrote a.wrote) (jobs_line_is jobs i h) in
+    let e = w.ends in
+    let n = a.wrote.ends in
+    record { wrote = w; few = omega arith }

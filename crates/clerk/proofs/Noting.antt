@@ -5,19 +5,18 @@ use mathlib.Core.Path.{◌≡◌, sym, ap, ◌∙◌}
 use mathlib.Core.List.{append-nil}
 use Rattle.terms.specs.declared.letters.Ask.{Ask}
 use Rattle.terms.specs.declared.letters.Letter.{Letter}
-use Rattle.terms.specs.declared.letters.Letter.TheVariants.{Begin, Commit, GiveUp, Retry, Asks}
+use Rattle.terms.specs.declared.letters.Letter.TheVariants.{Begin, Commit, GiveUp, Retry, Back, Asks}
 use Rattle.terms.specs.declared.letters.Lettered.TheVariants.{Known}
 use Rattle.terms.specs.declared.refusals.Refusal.{Refusal}
 use Rattle.terms.proofs.Alphabet.{letter_of_byte}
 use Rattle.conflict.specs.declared.action.Kind.{Kind}
-use Rattle.conflict.specs.declared.action.Mark.TheVariants.{Commit as commits, GiveUp as gives_up, Back as goes-away}
 use Rattle.conflict.specs.Modes.{recorded}
-use Rattle.text_rules.specs.EventRecords.{text_of}
+use Rattle.text_rules.specs.EventRecords.{ask_by, mark_letter, event_line, text_of}
 use Rattle.desks.specs.declared.Answer.{Answer}
 use Rattle.desks.specs.declared.Answer.TheVariants.{Go, Wait, Back as goes_back, No}
 use Rattle.desks.specs.Records.{went_by, own_records}
 use Rattle.clerk.specs.declared.records.Noted.{Noted}
-use Rattle.clerk.specs.declared.records.Noted.TheVariants.{Nothing, Does, Ends}
+use Rattle.clerk.specs.declared.records.Noted.TheVariants.{Nothing, Line}
 use Rattle.clerk.specs.Parts.{asking, noted_bytes}
 
 -- what is noted of a request that goes
@@ -25,7 +24,7 @@ abbrev Went : Noted → Letter → ℕ → ℕ → Type 0
 Went n l job cell = noted_bytes n ≡ text_of (went_by (asking l cell) job (Known l))
 
 module _ (l : Letter) (job cell : ℕ) where
-  -- nothing of a begin and a retry
+  -- nothing of a begin, a retry, and of k, which is no request
   pub went_begin : l ≡ Begin → Went Nothing l job cell
   unfolding noted_bytes went_by text_of
   went_begin e = rw e
@@ -34,19 +33,23 @@ module _ (l : Letter) (job cell : ℕ) where
   unfolding noted_bytes went_by text_of
   went_retry e = rw e
 
-  -- c and a with the job
-  pub went_commit : l ≡ Commit → Went (Ends commits job) l job cell
+  pub went_back : l ≡ Back → Went Nothing l job cell
   unfolding noted_bytes went_by text_of
+  went_back e = rw e
+
+  -- c and a with the job
+  pub went_commit : l ≡ Commit → Went (Line Commit job 0) l job cell
+  unfolding noted_bytes went_by text_of event_line mark_letter
   went_commit e = rw e (sym (append-nil _))
 
-  pub went_give_up : l ≡ GiveUp → Went (Ends gives_up job) l job cell
-  unfolding noted_bytes went_by text_of
+  pub went_give_up : l ≡ GiveUp → Went (Line GiveUp job 0) l job cell
+  unfolding noted_bytes went_by text_of event_line mark_letter
   went_give_up e = rw e (sym (append-nil _))
 
   -- r, w and i with job and cell, by the kind that is recorded: r for u (02, No. 1)
-  pub went_asks : (a : Ask) (k : Kind) → l ≡ Asks a → k ≡ recorded a → Went (Does (record { kind = k; job = job; cell = cell })) l job cell
-  unfolding noted_bytes went_by text_of
-  went_asks a k e f = rw (e, f) (sym (append-nil _))
+  pub went_asks : (a b : Ask) (k : Kind) → l ≡ Asks a → k ≡ recorded a → b ≡ ask_by k → Went (Line (Asks b) job cell) l job cell
+  unfolding noted_bytes went_by text_of event_line
+  went_asks a b k e f g = rw (e, g, f) (sym (append-nil _))
 
 module _ (l : Letter) (cell : ℕ) (a : Answer) where
   -- a go notes what its letter does
@@ -55,8 +58,8 @@ module _ (l : Letter) (cell : ℕ) (a : Answer) where
   own_go n j e w = rw e (w ∙ ap (λ k. text_of (went_by (asking l cell) j k)) (sym (letter_of_byte l)))
 
   -- a back notes k, and a wait and a refusal nothing
-  pub own_back : (j : ℕ) → a ≡ goes_back j → noted_bytes (Ends goes-away j) ≡ text_of (own_records (asking l cell) a)
-  unfolding own_records noted_bytes text_of
+  pub own_back : (j : ℕ) → a ≡ goes_back j → noted_bytes (Line Back j 0) ≡ text_of (own_records (asking l cell) a)
+  unfolding own_records noted_bytes text_of event_line mark_letter
   own_back j e = rw e (sym (append-nil _))
 
   pub own_wait : (j : ℕ) → a ≡ Wait j → noted_bytes Nothing ≡ text_of (own_records (asking l cell) a)

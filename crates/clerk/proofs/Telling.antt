@@ -4,7 +4,7 @@ use Prim.Native.Nat.{ℕ}
 use mathlib.Core.Path.{◌≡◌, refl, sym, ap, ap₂, ◌∙◌}
 use mathlib.Core.List.{List, [], ◌∷◌, ◌++◌}
 use Rattle.terms.specs.declared.letters.Letter.{Letter}
-use Rattle.terms.specs.declared.letters.Letter.TheVariants.{Begin, Commit, GiveUp, Retry, Asks}
+use Rattle.terms.specs.declared.letters.Letter.TheVariants.{Begin, Commit, GiveUp, Retry, Back, Asks}
 use Rattle.terms.specs.declared.letters.Lettered.{Lettered}
 use Rattle.terms.specs.declared.letters.Lettered.TheVariants.{Known, Unknown}
 use Rattle.terms.specs.Letters.{byte_of, letter_of}
@@ -28,6 +28,7 @@ use Rattle.clerk.specs.Parts.{asking, first_record, wake_record, wake_records, l
 went_of : (r s : Request) (j : ℕ) (l : Lettered) → r.cell ≡ s.cell → went_by r j l ≡ went_by s j l
 unfolding went_by
 went_of r s j Unknown e = refl
+went_of r s j (Known Back) e = refl
 went_of r s j (Known Begin) e = refl
 went_of r s j (Known Commit) e = refl
 went_of r s j (Known GiveUp) e = refl

@@ -5,9 +5,9 @@ use Rattle.terms.specs.declared.words.Word.TheVariants.{Wake}
 use Rattle.terms.specs.Letters.{byte_of}
 use Rattle.terms.specs.Limits.{last_number}
 use Rattle.conflict.specs.declared.action.Action.{Action}
-use Rattle.conflict.specs.declared.action.Event.TheVariants.{Does as acts, Ends as ends}
+use Rattle.conflict.specs.declared.action.Event.TheVariants.{Does}
 use Rattle.text_rules.specs.EventRecords.{event_line, text_of}
-use Rattle.text_rules.specs.Records.{answer_record}
+use Rattle.text_rules.specs.Records.{answer_record, line_record}
 use Rattle.text_rules.specs.Wrote.{Wrote}
 use Rattle.desks.specs.declared.Answer.{Answer}
 use Rattle.program_rules.specs.declared.View.{View}
@@ -19,7 +19,7 @@ use Rattle.desks.specs.Stepping.{Stepping}
 use Rattle.program_rules.specs.OverLines.{told_by}
 use Rattle.program_rules.specs.Work.{viewed}
 use Rattle.clerk.specs.declared.records.Noted.{Noted}
-use Rattle.clerk.specs.declared.records.Noted.TheVariants.{Nothing, Does, Ends}
+use Rattle.clerk.specs.declared.records.Noted.TheVariants.{Nothing, Line}
 
 -- at most `most` bytes were written: they stand from one place up to another, and all other bytes are unchanged
 pub record Added (most at to : ℕ) (bytes before after : List ℕ) : Type 0 where
@@ -37,8 +37,7 @@ asking l cell = record { kind = byte_of l; job = 0; cell = cell }
 -- the bytes of what the history notes of a request
 unfoldable pub noted_bytes : Noted → List ℕ
 noted_bytes Nothing = []
-noted_bytes (Does a) = event_line (acts a)
-noted_bytes (Ends m j) = event_line (ends m j)
+noted_bytes (Line l job cell) = line_record l job cell
 
 -- the first record of a line in a view
 unfoldable pub first_record : View → ℕ → Letter → ℕ → Answer → List ℕ
@@ -49,7 +48,7 @@ first_record Chains line l cell a = []
 -- the record of a wake in a view
 unfoldable pub wake_record : View → ℕ → Action → List ℕ
 wake_record Answers line a = answer_record line Wake a.job 0
-wake_record History line a = event_line (acts a)
+wake_record History line a = event_line (Does a)
 wake_record Chains line a = []
 
 -- the records of all wakes in a view

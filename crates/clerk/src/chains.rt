@@ -1,5 +1,7 @@
 // What is written after the last line has been answered: the chains of the waiting jobs, one line each (02, No. 3).
-ghost use Rattle.std.specs.Prelude.{◌≡◌, ◌+◌, ◌*◌, ◌≤◌, ◌<◌, length};
+ghost use Rattle.std.specs.Prelude.{◌≡◌, [], ◌∷◌, ◌+◌, ◌*◌, ◌≤◌, ◌<◌, length};
+ghost use Rattle.terms.specs.Words.{tab, newline};
+ghost use Rattle.text_rules.specs.Decimal.{decimal};
 ghost use Rattle.text_rules.specs.Records.{jobs_line};
 ghost use Rattle.text_rules.specs.Wrote.{Wrote};
 ghost use Rattle.desk_chain.specs.Chains.{chains_on};
@@ -11,26 +13,59 @@ use desk_arrays::state::Desk;
 use desk_chain::chain::next_chain;
 use program_rules::{Clerk, Desks, Finished, Method, View};
 use terms::limits::PLACES;
-use text::next::next_or;
 use text::writer::{has_room, write_end, write_field, write_number};
+use text_rules::Written;
 
 // The most bytes that a job takes in a chain: ten digits, and the tab or the newline behind them.
 const JOB_ROOM: usize = 11;
 // The most bytes of all chains: at most as many jobs wait as there are places, and no chain has more jobs than that.
 const CHAINS_ROOM: usize = PLACES * PLACES * JOB_ROOM;
 
+// Writes a job that fits; returns the place after it.
+fn put_number(out: &mut [u8], at: usize, job: u32) -> usize
+    requires { at + 10 ≤ length out.old }
+    ensures { Added 10 at result (decimal job) out.old out.new }
+{
+    match write_number(out, at, job as u64) {
+        Written::Next(next) => next,
+        Written::Refused(_) => at,
+    }
+}
+
+// Writes a tab and a job that fit; returns the place after them.
+fn put_field(out: &mut [u8], at: usize, job: u32) -> usize
+    requires { at + job_room ≤ length out.old }
+    ensures { Added job_room at result (tab ∷ decimal job) out.old out.new }
+{
+    match write_field(out, at, job as u64) {
+        Written::Next(next) => next,
+        Written::Refused(_) => at,
+    }
+}
+
+// Writes the newline, which fits; returns the place after it.
+fn put_end(out: &mut [u8], at: usize) -> usize
+    requires { at < length out.old }
+    ensures { Added 1 at result (newline ∷ []) out.old out.new }
+{
+    match write_end(out, at) {
+        Written::Next(next) => next,
+        Written::Refused(_) => at,
+    }
+}
+
 // Writes the line of a chain, which fits; returns the place after it.
 fn put_chain(out: &mut [u8], at: usize, jobs: &[u32]) -> usize
     requires { (0 < length jobs.now) × (at + job_room * length jobs.now ≤ length out.old) }
     ensures { Added (job_room * length jobs.now) at result (jobs_line jobs.now) out.old out.new }
 {
-    let mut next = next_or(write_number(out, at, jobs[0] as u64), at);
+    let mut next = put_number(out, at, jobs[0]);
     let mut i: usize = 1;
     while i < jobs.len() {
-        next = next_or(write_field(out, next, jobs[i] as u64), next);
+        next = put_field(out, next, jobs[i]);
         i += 1;
     }
-    next_or(write_end(out, next), next)
+    put_end(out, next)
 }
 
 // Writes the chains of all waiting jobs, in ascending order, one line each; they fit. Returns the place after them.

@@ -1,36 +1,33 @@
 // The records of one line in each view: the answer, or what the history notes of it, then the wakes; none for the chains (01, Lines; 02, No. 3).
 ghost use Rattle.std.specs.Prelude.{◌≡◌, true, ◌+◌, ◌≤◌, map, length, take};
 ghost use Rattle.terms.specs.Limits.{request_lines, last_number};
-ghost use Rattle.text_rules.specs.Records.{of_answers, answer_record, longest_record};
+ghost use Rattle.text_rules.specs.Records.{of_answers, answer_record, longest_record, line_record};
 ghost use Rattle.text_rules.specs.Wrote.{Wrote};
 ghost use Rattle.desks.specs.AnswerWords.{word_of, number_beside, field_beside};
-ghost use Rattle.text_rules.specs.EventRecords.{event_line, text_of};
+ghost use Rattle.text_rules.specs.EventRecords.{ask_by, text_of};
 ghost use Rattle.desk_arrays.specs.Steps.{wake_at};
 ghost use Rattle.desks.specs.Records.{went_by, own_records};
 ghost use Rattle.terms.specs.declared.letters.Lettered.TheVariants.{Known};
 ghost use Rattle.program_rules.specs.Work.{viewed, told_bad, wakes_room, line_room};
 ghost use Rattle.clerk.specs.Parts.{Added, Besides, asking, noted_bytes, first_record, wake_record, wake_records, line_records};
 
-use conflict::action::{Action, Event, Mark};
+use conflict::action::{Action, Kind};
 use conflict::modes::recorded_kind;
 use desk::wakes::wake_at;
 use desks::Answer;
 use program_rules::View;
-use terms::letters::Letter;
+use terms::letters::{Ask, Letter};
 use terms::limits::PLACES;
 use terms::refusals::{Field, Refusal, field_number, field_of, number_of};
 use terms::words::Word;
-use text::events::{kind_byte, mark_byte};
-use text::next::next_or;
 use text::writer::{write_answer, write_line};
-use text_rules::Columns;
+use text_rules::Written;
 
-// What the history notes of a request, apart from wakes: an action, a mark, or nothing.
+// What the history notes of a request, apart from wakes: one line of a letter, or nothing.
 #[derive(Drop)]
 enum Noted {
     Nothing,
-    Does(Action),
-    Ends(Mark, u32),
+    Line { letter: Letter, job: u32, cell: u32 },
 }
 
 // The word of an answer.
@@ -69,20 +66,40 @@ fn field_beside(a: Answer) -> u64
     }
 }
 
+// The letter r, w or i, by the recorded kind.
+fn ask_by(k: Kind) -> Ask
+    ensures { result ≡ ask_by k }
+{
+    match k {
+        Kind::Read => Ask::Read,
+        Kind::Write => Ask::Write,
+        Kind::Increment => Ask::Increment,
+    }
+}
+
 // What the history notes of a request that goes; u is noted as r.
 fn noted_go(letter: Letter, job: u32, cell: u32) -> Noted
     ensures { noted_bytes result ≡ text_of (went_by (asking letter cell) job (Known letter)) }
 {
     match letter {
         Letter::Begin => Noted::Nothing,
-        Letter::Commit => Noted::Ends(Mark::Commit, job),
-        Letter::GiveUp => Noted::Ends(Mark::GiveUp, job),
+        Letter::Commit => Noted::Line {
+            letter: Letter::Commit,
+            job,
+            cell: 0,
+        },
+        Letter::GiveUp => Noted::Line {
+            letter: Letter::GiveUp,
+            job,
+            cell: 0,
+        },
         Letter::Retry => Noted::Nothing,
-        Letter::Asks(a) => Noted::Does(Action {
-            kind: recorded_kind(a),
+        Letter::Back => Noted::Nothing,
+        Letter::Asks(a) => Noted::Line {
+            letter: Letter::Asks(ask_by(recorded_kind(a))),
             job,
             cell,
-        }),
+        },
     }
 }
 
@@ -93,7 +110,11 @@ fn noted_of(letter: Letter, cell: u32, a: Answer) -> Noted
     match a {
         Answer::Go(j) => noted_go(letter, j, cell),
         Answer::Wait(_) => Noted::Nothing,
-        Answer::Back(j) => Noted::Ends(Mark::Back, j),
+        Answer::Back(j) => Noted::Line {
+            letter: Letter::Back,
+            job: j,
+            cell: 0,
+        },
         Answer::No(_) => Noted::Nothing,
     }
 }
@@ -103,28 +124,21 @@ fn put_answer(out: &mut [u8], at: usize, line: u64, word: Word, number: u64, fau
     requires { (line ≤ request_lines) × (of_answers word ≡ true) × Besides number fault × (at + longest_record ≤ length out.old) }
     ensures { Added longest_record at result (answer_record line word number fault) out.old out.new }
 {
-    next_or(write_answer(out, at, line, word, number, fault), at)
+    match write_answer(out, at, line, word, number, fault) {
+        Written::Next(next) => next,
+        Written::Refused(_) => at,
+    }
 }
 
-// Writes the history record of an action, which fits.
-fn put_action(out: &mut [u8], at: usize, a: Action) -> usize
+// Writes the line of a letter, which fits.
+fn put_line(out: &mut [u8], at: usize, letter: Letter, job: u32, cell: u32) -> usize
     requires { at + longest_record ≤ length out.old }
-    ensures { Added longest_record at result (event_line (Event.Does a)) out.old out.new }
+    ensures { Added longest_record at result (line_record letter job cell) out.old out.new }
 {
-    let kind = a.kind;
-    let columns = Columns::Two(a.job as u64, a.cell as u64);
-    next_or(write_line(out, at, kind_byte(kind), columns), at)
-}
-
-// Writes the history record of a mark, which fits.
-fn put_mark(out: &mut [u8], at: usize, mark: Mark, job: u32) -> usize
-    requires { at + longest_record ≤ length out.old }
-    ensures { Added longest_record at result (event_line (Event.Ends mark job)) out.old out.new }
-{
-    next_or(
-        write_line(out, at, mark_byte(mark), Columns::One(job as u64)),
-        at,
-    )
+    match write_line(out, at, letter, job as u64, cell as u64) {
+        Written::Next(next) => next,
+        Written::Refused(_) => at,
+    }
 }
 
 // Writes what the history notes, if anything.
@@ -134,8 +148,7 @@ fn put_noted(out: &mut [u8], at: usize, n: Noted) -> usize
 {
     match n {
         Noted::Nothing => at,
-        Noted::Does(a) => put_action(out, at, a),
-        Noted::Ends(mark, job) => put_mark(out, at, mark, job),
+        Noted::Line { letter, job, cell } => put_line(out, at, letter, job, cell),
     }
 }
 
@@ -166,7 +179,10 @@ fn put_wake(view: View, out: &mut [u8], at: usize, line: u64, a: Action) -> usiz
 {
     match view {
         View::Answers => put_answer(out, at, line, Word::Wake, a.job as u64, 0),
-        View::History => put_action(out, at, a),
+        View::History => {
+            let kind = a.kind;
+            put_line(out, at, Letter::Asks(ask_by(kind)), a.job, a.cell)
+        }
         View::Chains => at,
     }
 }

@@ -13,16 +13,6 @@ use Rattle.conflict.specs.Schedule.{Schedule, conflicts, keep}
 abbrev pub History : Type 0
 History = List Event
 
--- the job of an event
-abbrev pub job_of : Event → ℕ
-job_of (Does a) = a.job
-job_of (Ends m j) = j
-
--- its cell; a mark has none, and 0 stands for it
-abbrev pub cell_of : Event → ℕ
-cell_of (Does a) = a.cell
-cell_of (Ends m j) = 0
-
 -- whether a mark is a commit
 unfoldable pub is_commit : Mark → Bool
 is_commit Commit = true

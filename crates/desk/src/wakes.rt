@@ -6,7 +6,6 @@ ghost use Rattle.terms.specs.Limits.{places};
 use conflict::action::{Action, Kind};
 use conflict::modes::recorded_kind;
 use desk_arrays::codes::ask_of;
-use desks::bytes::wide;
 use terms::limits::PLACES;
 
 // Called for its contract alone: numbers, cells and asks have an entry for each place, which a lent array does not say by itself.
@@ -14,6 +13,13 @@ fn sized(number: [u32; PLACES], cell: [u8; PLACES], ask: [u8; PLACES]) -> bool
     ensures { (length number ≡ places) × (length cell ≡ places) × (length ask ≡ places) }
 {
     true
+}
+
+// A byte as a number.
+fn wide(byte: u8) -> u32
+    ensures { result ≡ byte }
+{
+    byte as u32
 }
 
 // The action of a woken place; the filler action, for an index that is no place.

@@ -12,7 +12,7 @@ use borrow.Author.Tests.{eqb-true, eqb-false, eq-eqb, ne_eqb}
 use Rattle.laws.specs.Choice.{pick, by_test}
 use Rattle.laws.specs.Lists.{pos}
 use Rattle.terms.specs.declared.letters.Ask.{Ask}
-use Rattle.terms.specs.declared.letters.Letter.TheVariants.{Begin as begins, Commit, GiveUp, Retry as retries, Asks}
+use Rattle.terms.specs.declared.letters.Letter.TheVariants.{Begin as begins, Commit, GiveUp, Retry as retries, Back, Asks}
 use Rattle.terms.specs.declared.letters.Lettered.{Lettered}
 use Rattle.terms.specs.declared.letters.Lettered.TheVariants.{Known, Unknown}
 use Rattle.terms.specs.declared.refusals.Refusal.{Refusal}
@@ -114,19 +114,20 @@ module _ {d : Desk} {q : ℕ → List Waiter} (plain : Plain d) (v : Inv (paper_
         (λ m. rw m (by_test (eqb code sent_back_code) (λ t. rw t (again (is ∙ eqb-true code sent_back_code t) (seat (eqb-false code free_code n)))) (λ k. rw k (refuse Running))))))
 
     -- read, write, increment and u: 3, 4, 5, 2, else by the rules
-    ask_by : (x : Ask) → Tied (performed d j c (if_runs (standing_of code) (pick (ltb c cells) (decided d.number d.status d.cell d.held (pos d.number j) c j x) (Refuse CellAbove)))) (step_ask (paper_of d q) j c x (status_for code b a))
+    ask_by_lem : (x : Ask) → Tied (performed d j c (if_runs (standing_of code) (pick (ltb c cells) (decided d.number d.status d.cell d.held (pos d.number j) c j x) (Refuse CellAbove)))) (step_ask (paper_of d q) j c x (status_for code b a))
     unfolding step_ask
-    ask_by x = runs_by _ (step_ask (paper_of d q) j c x) refl refl refl (λ s. ask_tied plain v s c x)
+    ask_by_lem x = runs_by _ (step_ask (paper_of d q) j c x) refl refl refl (λ s. ask_tied plain v s c x)
 
   -- a request by its letter
   letter_tied : (kind : ℕ) (l : Lettered) → Tied (performed d j c (move_for d.next d.number d.status d.cell d.held j c l)) (step_by (paper_of d q) (record { kind = kind; job = j; cell = c }) l)
   unfolding move_for ask_move found_at step_by
   letter_tied kind Unknown = refuse UnknownKind
+  letter_tied kind (Known Back) = refuse UnknownKind
   letter_tied kind (Known begins) = begin_tied plain v j c
   letter_tied kind (Known Commit) = rw (status_code plain j) (commit_by _ _ _ refl (code_seat plain j))
   letter_tied kind (Known GiveUp) = rw (status_code plain j) (give_up_by _ _ _ refl (code_seat plain j))
   letter_tied kind (Known retries) = rw (status_code plain j) (retry_by _ _ _ refl (code_seat plain j))
-  letter_tied kind (Known (Asks a)) = rw (status_code plain j) (ask_by _ _ _ refl (code_seat plain j) a)
+  letter_tied kind (Known (Asks a)) = rw (status_code plain j) (ask_by_lem _ _ _ refl (code_seat plain j) a)
 
 -- a step of arrays that stand for a paper's desk, with what holds of every started one, is that desk's step
 pub tie : {d : Desk} {D : paper.Desk} → Stands d D → Inv D → (kind job c : ℕ) → Tied (step_of d kind job c) (step D (record { kind = kind; job = job; cell = c }))

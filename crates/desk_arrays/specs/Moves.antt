@@ -3,7 +3,7 @@ use Rattle.std.specs.Prelude.{ℕ, ◌&&◌, List, eqb, ltb, get_or}
 use Rattle.laws.specs.Choice.{pick}
 use Rattle.laws.specs.Lists.{pos}
 use Rattle.terms.specs.declared.letters.Ask.{Ask}
-use Rattle.terms.specs.declared.letters.Letter.TheVariants.{Begin as begins, Commit, GiveUp, Retry as retries, Asks}
+use Rattle.terms.specs.declared.letters.Letter.TheVariants.{Begin as begins, Commit, GiveUp, Retry as retries, Back as no-request, Asks}
 use Rattle.terms.specs.declared.letters.Lettered.{Lettered}
 use Rattle.terms.specs.declared.letters.Lettered.TheVariants.{Known, Unknown}
 use Rattle.terms.specs.declared.refusals.Refusal.TheVariants.{UnknownKind, CellAbove, NotOpen, Waiting, SentBack as was_sent_back, Running}
@@ -92,6 +92,7 @@ module _ (number status cell held : List ℕ) where
 -- the move of a request, by its letter; refusal 1 if no request has the letter
 unfoldable pub move_for : ℕ → List ℕ → List ℕ → List ℕ → List ℕ → ℕ → ℕ → Lettered → Move
 move_for next number status cell held job c Unknown = Refuse UnknownKind
+move_for next number status cell held job c (Known no-request) = Refuse UnknownKind
 move_for next number status cell held job c (Known begins) = begin_move next number
 move_for next number status cell held job c (Known Commit) = commit_move (found_at number status job)
 move_for next number status cell held job c (Known GiveUp) = give_up_move (found_at number status job)

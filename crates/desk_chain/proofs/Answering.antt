@@ -9,15 +9,14 @@ use lib.Dec.{eqb, ltb}
 use lib.ListN.{length, get_or}
 use borrow.Author.Tests.{eqb-true, ne_eqb, lt-ltb, le-ltb}
 use Rattle.laws.specs.Choice.{pick, by_test}
-use Rattle.laws.specs.Lists.{member, pos, filled}
-use Rattle.laws.specs.Tables.{first_due}
+use Rattle.laws.specs.Lists.{member, pos, first_of, filled}
 use Rattle.terms.specs.Limits.{places}
 use Rattle.terms.specs.declared.letters.Ask.{Ask}
 use Rattle.terms.specs.declared.refusals.Refusal.{Refusal}
 use Rattle.terms.specs.declared.refusals.Refusal.TheVariants.{NotOpen, SentBack, ShortList}
 use Rattle.desk_rules.specs.declared.Chained.TheVariants.{Jobs, No}
 use Rattle.desk_rules.specs.Desk.{is_open}
-use Rattle.desk_rules.specs.AskedChain.{chain_table, chain_due, chain_told}
+use Rattle.desk_rules.specs.AskedChain.{chain_holds, chain_order, chain_due, chain_told}
 use Rattle.desk_arrays.specs.declared.state.Desk.{Desk}
 use Rattle.desk_arrays.specs.declared.moves.Found.{Found}
 use Rattle.desk_arrays.specs.Codes.{free_code, waiting_code, sent_back_code, ask_of}
@@ -48,7 +47,7 @@ due_by code n = pick (eqb code free_code) (some NotOpen) (pick (eqb code sent_ba
 
 -- it is the one that is due by what the job is doing
 due_code : (code c n : ℕ) (a : Ask) → chain_due (status_for code c a) n ≡ due_by code n
-unfolding chain_due chain_table first_due status_for is_open
+unfolding chain_due chain_holds chain_order first_of status_for is_open
 due_code code c n a =
     by_test (eqb code free_code) (λ t. rw t)
     (λ f. rw f (by_test (eqb code waiting_code) (λ t. rw (t, eqb-true code waiting_code t))

@@ -10,8 +10,7 @@ use lib.Dec.{eqb}
 use lib.ListN.{length, get_or}
 use borrow.Author.Tests.{lt-ltb, eq-eqb, eqb-true}
 use Rattle.laws.specs.Choice.{by_test}
-use Rattle.laws.specs.Lists.{pos}
-use Rattle.laws.specs.Tables.{first_due}
+use Rattle.laws.specs.Lists.{pos, first_of}
 use Rattle.laws.proofs.Parts.{and_first, and_second}
 use Rattle.terms.specs.declared.letters.Ask.{Ask}
 use Rattle.terms.specs.declared.refusals.Refusal.{Refusal}
@@ -20,7 +19,7 @@ use Rattle.conflict.specs.History.{History}
 use Rattle.desk_rules.specs.Desk.{Status, closed, running, waiting, sentback, Waiter, is_open, is_live}
 use Rattle.desk_rules.specs.Invariant.{Inv}
 use Rattle.desk_rules.specs.Chain.{younger_than, youngest_of, in_way_of, chain_of, IsChain, runs, waits}
-use Rattle.desk_rules.specs.AskedChain.{chain_table, chain_due, chain_told, ask_chain}
+use Rattle.desk_rules.specs.AskedChain.{chain_holds, chain_order, chain_due, chain_told, ask_chain}
 use Rattle.desk_rules.proofs.Kept.{started_inv}
 use Rattle.desk_rules.proofs.Statuses.{live_open, running_not_waiting}
 use Rattle.desk_rules.proofs.SomebodyRuns.{live_split}
@@ -43,7 +42,7 @@ use Rattle.desk_chain.proofs.NextTied.{open_seat, next_seat, holder_is_next}
 
 -- where nothing is due the job is live
 not_due_live : (s : Status) (n : ℕ) → chain_due s n ≡ none → is_live s ≡ true
-unfolding chain_due chain_table first_due is_open is_live
+unfolding chain_due chain_order first_of chain_holds is_open is_live
 not_due_live closed n e = let z : ◌≡◌ {A = ℕ} 0 1 = cc in absurd (omega arith)
 not_due_live running n e = refl
 not_due_live (waiting c a) n e = refl

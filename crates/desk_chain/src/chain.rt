@@ -10,7 +10,6 @@ use desk_arrays::codes::{FREE, SENT_BACK, WAITING};
 use desk_arrays::state::{Desk, ROWS, SPOTS};
 use desk_plan::plan::find;
 use desk_rules::Chained;
-use desks::bytes::as_index;
 use terms::limits::{LAST_NUMBER, PLACES};
 use terms::refusals::Refusal;
 
@@ -49,6 +48,13 @@ fn holder_above<'a>(number: &'a [u32; PLACES], held: &'a [u8; SPOTS], c: usize, 
     best
 }
 
+// A byte as an index.
+fn wide(byte: u8) -> usize
+    ensures { result ≡ byte }
+{
+    byte as usize
+}
+
 // The place of the next job after the one at this place, or 32 if that one does not wait for a cell from 0 to 63.
 fn next_at<'a>(
     number: &'a [u32; PLACES],
@@ -63,7 +69,7 @@ fn next_at<'a>(
     if status[p] != WAITING {
         return PLACES;
     }
-    let c = as_index(cell[p]);
+    let c = wide(cell[p]);
     if c < ROWS {
         return holder_above(number, held, c, number[p]);
     }

@@ -10,7 +10,7 @@ use borrow.Author.Tests.{ltb-true}
 use Rattle.laws.specs.Choice.{pick, by_test}
 use Rattle.laws.specs.Lists.{pos}
 use Rattle.terms.specs.declared.letters.Ask.{Ask}
-use Rattle.terms.specs.declared.letters.Letter.TheVariants.{Begin as begins, Commit, GiveUp, Retry as retries, Asks}
+use Rattle.terms.specs.declared.letters.Letter.TheVariants.{Begin as begins, Commit, GiveUp, Retry as retries, Back as no-request, Asks}
 use Rattle.terms.specs.declared.letters.Lettered.{Lettered}
 use Rattle.terms.specs.declared.letters.Lettered.TheVariants.{Known, Unknown}
 use Rattle.terms.specs.Limits.{places, cells, last_number}
@@ -69,6 +69,7 @@ module _ (number status cell held : List ℕ) (p c job : ℕ) (a : Ask) (place :
 pub plan_fits : (next : ℕ) (number status cell held : List ℕ) (job c : ℕ) (l : Lettered) → length status ≡ places → Fits c (move_for next number status cell held job c l)
 unfolding move_for commit_move give_up_move retry_move ask_move found_at
 plan_fits next number status cell held job c Unknown e = tt
+plan_fits next number status cell held job c (Known no-request) e = tt
 plan_fits next number status cell held job c (Known begins) e =
     rw (begin_picks next number) (fits_pick c (ltb last_number next) _ _ (λ t. tt) (λ f. fits_pick c (ltb (pos number 0) places) _ _ (λ t. ltb-true (pos number 0) places t) (λ t. tt)))
 plan_fits next number status cell held job c (Known Commit) e = fits_runs c _ _ (open_inside number status job e)

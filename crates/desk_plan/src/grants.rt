@@ -4,11 +4,10 @@ ghost use Rattle.desk_arrays.specs.Places.{wants_at};
 ghost use Rattle.desk_plan.specs.Grants.{none_waits, wanted, next_grant};
 ghost use Rattle.terms.specs.Limits.{cells, places};
 
-use crate::places::{agrees, front_of, mode_at, sized};
+use crate::places::{agrees, front_of, mode_at, sized, wide};
 use conflict::modes::{Mode, asked_mode, needed_mode};
 use desk_arrays::codes::{WAITING, ask_of};
 use desk_arrays::state::{ROWS, SPOTS};
-use desks::bytes::as_index;
 use terms::letters::Ask;
 use terms::limits::PLACES;
 
@@ -42,7 +41,7 @@ pub fn wanted_cells<'a>(status: &'a [u8; PLACES], cell: &'a [u8; PLACES]) -> [bo
     let mut q: usize = 0;
     while q < PLACES {
         if status[q] == WAITING {
-            let c = as_index(cell[q]);
+            let c = wide(cell[q]);
             if c < ROWS {
                 cells[c] = true;
             }

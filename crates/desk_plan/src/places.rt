@@ -8,7 +8,6 @@ ghost use Rattle.terms.specs.Limits.{cells, places};
 use conflict::modes::{Mode, NOTHING, mode_grants, mode_is_free, mode_of};
 use desk_arrays::codes::WAITING;
 use desk_arrays::state::SPOTS;
-use desks::bytes::as_index;
 use terms::limits::PLACES;
 
 // Called for its contract alone: numbers and statuses have an entry for each place, which a lent array does not say by itself.
@@ -121,12 +120,19 @@ pub fn older_than_holders<'a>(
     true
 }
 
+// A byte as an index.
+pub fn wide(byte: u8) -> usize
+    ensures { result ≡ byte }
+{
+    byte as usize
+}
+
 // Whether the place waits for the cell; the cell is tested first, since few places have it.
 pub fn waits_for<'a>(status: &'a [u8; PLACES], cell: &'a [u8; PLACES], c: usize, q: usize) -> bool
     requires { q < places }
     ensures { result ≡ waits_at status.now cell.now c q }
 {
-    if as_index(cell[q]) == c {
+    if wide(cell[q]) == c {
         return status[q] == WAITING;
     }
     false

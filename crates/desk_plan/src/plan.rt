@@ -245,6 +245,7 @@ pub fn plan_for<'a>(
 {
     sized(*number, *status);
     match letter {
+        Letter::Back => Move::Refuse(Refusal::UnknownKind),
         Letter::Begin => begin_move(next, number),
         Letter::Commit => commit_move(find(number, status, job)),
         Letter::GiveUp => give_up_move(find(number, status, job)),

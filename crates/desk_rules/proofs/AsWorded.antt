@@ -7,9 +7,9 @@ use mathlib.Core.List.{[], ◌∷◌, map}
 use mathlib.Core.Option.{Option, none, some}
 use borrow.Author.Tests.{le-leb}
 use Rattle.laws.specs.Choice.{pick, not_both}
-use Rattle.laws.specs.Tables.{first_due}
+use Rattle.laws.specs.Lists.{first_of}
 use Rattle.terms.specs.declared.letters.Ask.TheVariants.{Read}
-use Rattle.terms.specs.declared.letters.Letter.TheVariants.{Begin, Retry, Asks}
+use Rattle.terms.specs.declared.letters.Letter.TheVariants.{Begin, Commit, GiveUp, Retry, Back, Asks}
 use Rattle.terms.specs.declared.letters.Lettered.{Lettered}
 use Rattle.terms.specs.declared.letters.Lettered.TheVariants.{Known, Unknown}
 use Rattle.terms.specs.declared.refusals.Refusal.{Refusal}
@@ -25,7 +25,7 @@ use Rattle.desks.specs.AsWorded.{RefusedAlike, of_other_kind, above, not_open, a
 use Rattle.desks.proofs.RequestBytes.{asks, with_c, with_ct, with_cat, by_bytes, same_asks}
 use Rattle.desks.proofs.AsWorded.{none_of_eight, none_free, seven_due, six_due}
 use Rattle.desk_rules.specs.Desk.{Status, closed, running, waiting, sentback, is_open, Desk}
-use Rattle.desk_rules.specs.Table.{table, due_by, due_of, Due}
+use Rattle.desk_rules.specs.Table.{holds, order, due_by, due_of, Due}
 use Rattle.desk_rules.specs.Step.{Started}
 use Rattle.desk_rules.specs.Course.{from}
 use Rattle.desk_rules.specs.AsWorded.{RefusedAs, alike, still_waiting, was_sent_back, retry_while_running}
@@ -43,13 +43,18 @@ is_closed sentback f = not_both refl f
 
 -- 1 is due for a request of another kind, whatever else it says
 other_due : (d : Desk) (x : Lettered) (s : Status) (c : ℕ) → other_kind x ≡ true → due_by d x s c ≡ some UnknownKind
-unfolding due_by table first_due
+unfolding due_by holds order first_of
 other_due d Unknown s c t = refl
-other_due d (Known l) s c t = not_both t refl
+other_due d (Known Back) s c t = refl
+other_due d (Known Begin) s c t = not_both t refl
+other_due d (Known Commit) s c t = not_both t refl
+other_due d (Known GiveUp) s c t = not_both t refl
+other_due d (Known Retry) s c t = not_both t refl
+other_due d (Known (Asks a)) s c t = not_both t refl
 
 -- for one ask of a cell the same is due as for another
 ask_due : (d : Desk) (s : Status) (c : ℕ) → map (λ b. due_by d (letter_of b) s c) asks ≡ map (λ b. due_by d (Known (Asks Read)) s c) asks
-unfolding due_by table first_due
+unfolding due_by holds order first_of
 ask_due d s c = refl
 
 module _ (d : Desk) (r : Request) where
@@ -60,7 +65,7 @@ module _ (d : Desk) (r : Request) where
 
   -- a refusal that every desk gives is due
   alike_due : DeskLimits d.next d.jobs (λ j. is_open (d.stat j)) → {n : ℕ} → RefusedAlike (λ j. is_open (d.stat j)) d.next (d.stat r.job ≡ running) r n → (why : Refusal) × Due d r why × (number_of why ≡ n)
-  unfolding due_by table first_due is_open
+  unfolding due_by holds order first_of is_open
   alike_due l (of_other_kind f) = (UnknownKind, unfold due_of in other_due d (letter_of r.kind) (d.stat r.job) r.cell (none_of_eight r.kind f), refl)
   alike_due l (above m q p) = (CellAbove, unfold due_of in by_bytes (due_by d) r q asks CellAbove (ap (λ b. let x : Option Refusal = pick b (some CellAbove) none in x ∷ x ∷ x ∷ x ∷ []) (le-leb cells r.cell p)) m, refl)
   alike_due l (not_open m f) = (NotOpen, unfold due_of in by_bytes (due_by d) r (is_closed (d.stat r.job) f) with_cat NotOpen refl m, refl)
@@ -69,7 +74,7 @@ module _ (d : Desk) (r : Request) where
 
   -- and so is a refusal of this desk
   worded_due : DeskLimits d.next d.jobs (λ j. is_open (d.stat j)) → {n : ℕ} → RefusedAs d r n → (why : Refusal) × Due d r why × (number_of why ≡ n)
-  unfolding due_by table first_due is_open
+  unfolding due_by holds order first_of is_open
   worded_due l (alike w) = alike_due l w
   worded_due l (still_waiting m c a q) = (Waiting, unfold due_of in by_bytes (due_by d) r q with_ct Waiting refl m, refl)
   worded_due l (was_sent_back m q) = (SentBack, unfold due_of in by_bytes (due_by d) r q with_c SentBack refl m, refl)

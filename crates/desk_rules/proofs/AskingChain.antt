@@ -11,8 +11,7 @@ use lib.Dec.{ltb}
 use lib.ListN.{length, take, drop}
 use borrow.Author.Tests.{ltb-true, ltb-false}
 use Rattle.laws.specs.Choice.{pick, by_test, not_both}
-use Rattle.laws.specs.Lists.{filled}
-use Rattle.laws.specs.Tables.{first_due}
+use Rattle.laws.specs.Lists.{first_of, filled}
 use Rattle.terms.specs.declared.refusals.Refusal.{Refusal}
 use Rattle.terms.specs.declared.refusals.Refusal.TheVariants.{NotOpen, SentBack, ShortList}
 use Rattle.terms.specs.Limits.{places}
@@ -22,7 +21,7 @@ use Rattle.desk_rules.specs.declared.Chained.TheVariants.{Jobs, No}
 use Rattle.desk_rules.specs.Desk.{Status, closed, running, waiting, sentback, Desk, is_open, is_live}
 use Rattle.desk_rules.specs.Invariant.{Inv}
 use Rattle.desk_rules.specs.Chain.{chain_of}
-use Rattle.desk_rules.specs.AskedChain.{chain_table, chain_due, chain_told, ask_chain}
+use Rattle.desk_rules.specs.AskedChain.{chain_holds, chain_order, chain_due, chain_told, ask_chain}
 use Rattle.desk_rules.specs.Chains.{AsksChain}
 use Rattle.desk_rules.proofs.Statuses.{running_live, waiting_live, sentback_open, live_open}
 use Rattle.desk_rules.proofs.ChainIs.{is_chain}
@@ -37,7 +36,7 @@ pub data Way (d : Desk) (j : ℕ) (list : List ℕ) : Type 0 where
 
 -- for a job that runs or waits, the places lent decide
 pub live_due : (s : Status) (n : ℕ) → is_live s ≡ true → chain_due s n ≡ pick (ltb n places) (some ShortList) none
-unfolding chain_due chain_table first_due is_live is_open
+unfolding chain_due chain_order first_of chain_holds is_live is_open
 live_due closed n h = not_both h refl
 live_due running n h = refl
 live_due (waiting c a) n h = refl
@@ -57,10 +56,10 @@ module _ (d : Desk) (j : ℕ) (list : List ℕ) where
   by_way = go (d.stat j) refl
     where
       closed_due : d.stat j ≡ closed → ask_chain d j list ≡ record { said = No NotOpen; list = list }
-      closed_due e = unfold ask_chain chain_told chain_due chain_table first_due is_open in rw e
+      closed_due e = unfold ask_chain chain_told chain_due chain_order first_of chain_holds is_open in rw e
 
       back_due : d.stat j ≡ sentback → ask_chain d j list ≡ record { said = No SentBack; list = list }
-      back_due e = unfold ask_chain chain_told chain_due chain_table first_due is_open in rw e
+      back_due e = unfold ask_chain chain_told chain_due chain_order first_of chain_holds is_open in rw e
 
       go : (s : Status) → d.stat j ≡ s → Way d j list
       go closed e = not_there e (closed_due e)

@@ -6,10 +6,9 @@ use mathlib.Core.Option.{some}
 use lib.Dec.{leb}
 use borrow.Author.Tests.{leb-true}
 use Rattle.laws.specs.Choice.{by_test}
-use Rattle.laws.specs.Lists.{member}
-use Rattle.laws.specs.Tables.{first_due}
+use Rattle.laws.specs.Lists.{member, first_of}
 use Rattle.terms.specs.declared.letters.Ask.{Ask}
-use Rattle.terms.specs.declared.letters.Letter.TheVariants.{Begin, Commit, GiveUp, Retry, Asks}
+use Rattle.terms.specs.declared.letters.Letter.TheVariants.{Begin, Commit, GiveUp, Retry, Back, Asks}
 use Rattle.terms.specs.declared.letters.Lettered.{Lettered}
 use Rattle.terms.specs.declared.letters.Lettered.TheVariants.{Known, Unknown}
 use Rattle.terms.specs.declared.refusals.Refusal.{Refusal}
@@ -25,7 +24,7 @@ use Rattle.desks.specs.AsWorded.{of_other_kind, above, not_open}
 use Rattle.desks.proofs.RequestBytes.{with_c, with_ct, with_cat, listed, ask_listed, ask_with_c, ask_with_ct, ask_with_cat}
 use Rattle.desks.proofs.AsWorded.{other_kind_listed, same_why, some_not_none, begin_worded}
 use Rattle.desk_rules.specs.Desk.{Status, closed, running, waiting, sentback, is_open, Desk}
-use Rattle.desk_rules.specs.Table.{table, due_by}
+use Rattle.desk_rules.specs.Table.{holds, order, due_by}
 use Rattle.desk_rules.specs.AsWorded.{RefusedAs, alike, still_waiting, was_sent_back, retry_while_running}
 
 module _ (d : Desk) (r : Request) where
@@ -40,7 +39,7 @@ module _ (d : Desk) (r : Request) where
   module _ (why : Refusal) where
     -- a commit's refusal, in words
     commit_worded : letter_of r.kind ≡ Known Commit → (s : Status) → d.stat r.job ≡ s → due_by d (Known Commit) s r.cell ≡ some why → RefusedAs d r (number_of why)
-    unfolding due_by table first_due is_open member
+    unfolding due_by holds order first_of is_open member
     commit_worded e closed q t = is_due NotOpen why (shut (listed r Commit with_cat e refl) q) t
     commit_worded e running q t = some_not_none t
     commit_worded e (waiting c a) q t = is_due Waiting why (still_waiting (listed r Commit with_ct e refl) c a q) t
@@ -48,7 +47,7 @@ module _ (d : Desk) (r : Request) where
 
     -- a give-up's
     give_up_worded : letter_of r.kind ≡ Known GiveUp → (s : Status) → d.stat r.job ≡ s → due_by d (Known GiveUp) s r.cell ≡ some why → RefusedAs d r (number_of why)
-    unfolding due_by table first_due is_open member
+    unfolding due_by holds order first_of is_open member
     give_up_worded e closed q t = is_due NotOpen why (shut (listed r GiveUp with_cat e refl) q) t
     give_up_worded e running q t = some_not_none t
     give_up_worded e (waiting c a) q t = some_not_none t
@@ -56,7 +55,7 @@ module _ (d : Desk) (r : Request) where
 
     -- a retry's
     retry_worded : letter_of r.kind ≡ Known Retry → (s : Status) → d.stat r.job ≡ s → due_by d (Known Retry) s r.cell ≡ some why → RefusedAs d r (number_of why)
-    unfolding due_by table first_due is_open member
+    unfolding due_by holds order first_of is_open member
     retry_worded e closed q t = is_due NotOpen why (shut (listed r Retry with_cat e refl) q) t
     retry_worded e running q t = is_due Running why (retry_while_running (sym (byte_of_letter r.kind Retry e)) q) t
     retry_worded e (waiting c a) q t = is_due Waiting why (still_waiting (listed r Retry with_ct e refl) c a q) t
@@ -64,7 +63,7 @@ module _ (d : Desk) (r : Request) where
 
     -- and that of a read, a write, an increment and a u
     ask_worded : (a : Ask) → letter_of r.kind ≡ Known (Asks a) → (s : Status) → d.stat r.job ≡ s → due_by d (Known (Asks a)) s r.cell ≡ some why → RefusedAs d r (number_of why)
-    unfolding due_by table first_due is_open
+    unfolding due_by holds order first_of is_open
     ask_worded a e closed q t =
         is_due NotOpen why (shut (ask_with_cat r a e) q) t
     ask_worded a e running q t =
@@ -77,8 +76,9 @@ module _ (d : Desk) (r : Request) where
 
     -- what is due is what the words say, for every letter
     pub due_worded : DeskLimits d.next d.jobs (λ j. is_open (d.stat j)) → (x : Lettered) → letter_of r.kind ≡ x → due_by d x (d.stat r.job) r.cell ≡ some why → RefusedAs d r (number_of why)
-    due_worded l Unknown e t = is_due UnknownKind why (alike (of_other_kind (other_kind_listed r.kind (ap other_kind e)))) (unfold due_by table first_due in t)
-    due_worded l (Known Begin) e t = alike (begin_worded l _ r why (sym (byte_of_letter r.kind Begin e)) (unfold due_by table first_due in t))
+    due_worded l Unknown e t = is_due UnknownKind why (alike (of_other_kind (other_kind_listed r.kind (ap other_kind e)))) (unfold due_by holds order first_of in t)
+    due_worded l (Known Back) e t = is_due UnknownKind why (alike (of_other_kind (other_kind_listed r.kind (ap other_kind e)))) (unfold due_by holds order first_of in t)
+    due_worded l (Known Begin) e t = alike (begin_worded l _ r why (sym (byte_of_letter r.kind Begin e)) (unfold due_by holds order first_of in t))
     due_worded l (Known Commit) e t = commit_worded e (d.stat r.job) refl t
     due_worded l (Known GiveUp) e t = give_up_worded e (d.stat r.job) refl t
     due_worded l (Known Retry) e t = retry_worded e (d.stat r.job) refl t

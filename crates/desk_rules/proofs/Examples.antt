@@ -2,8 +2,7 @@
 -- Assumes nothing.
 use mathlib.Core.Path.{◌≡◌, refl}
 use mathlib.Core.List.{map}
-use Rattle.laws.specs.Lists.{member, distinct, put, filled}
-use Rattle.laws.specs.Tables.{first_due}
+use Rattle.laws.specs.Lists.{member, distinct, put, first_of, filled}
 use Rattle.conflict.specs.Modes.{needed, recorded, covers, grants, asked, is_free}
 use Rattle.desks.specs.AnswerWords.{word_of, number_beside}
 use Rattle.laws.specs.Functions.{at}
@@ -14,7 +13,7 @@ use Rattle.desks.specs.Begin.{beginning, refused}
 use Rattle.desk_rules.specs.Rules.{with_row, with_status, wake, wakes_at, wakes_of, is_woken, run_again, rows_after, rule4, close, send_back, grant, queued, rule1, rule2, rule3, ask, retry, begin}
 use Rattle.desk_rules.specs.Step.{step_commit, step_give_up, step_retry, step_ask, step_begin, step_by, step}
 use Rattle.desk_rules.specs.Chain.{other_holders, ahead_of, in_way_of, younger, youngest_of, younger_than, onward, chain_by, chain_of}
-use Rattle.desk_rules.specs.AskedChain.{chain_table, chain_due, chain_told, ask_chain, chain_numbers}
+use Rattle.desk_rules.specs.AskedChain.{chain_holds, chain_order, chain_due, chain_told, ask_chain, chain_numbers}
 use Rattle.desks.specs.Told.{Example, told_of, step_told, answers_of}
 use Rattle.desks.specs.Records.{records_by, records_of, own_records, went_by, wake_records}
 use Rattle.desk_rules.specs.Bounds.{queue_desk, line_desk, Met}
@@ -28,7 +27,7 @@ as_the_examples_say = refl
 
 -- every question gets its answer, and the list holds what the example says
 pub chains_as_the_examples_say : map (λ (e : ChainExample). map (answered_to e.requests) e.questions) chain_examples ≡ map (λ (e : ChainExample). map said_of e.questions) chain_examples
-unfolding member put first_due filled needed recorded covers grants asked is_free is_open at idle fresh_desk seated vacated every every_waiter is_empty agrees older_than_holders older_than_waiters without wants woken_first settle released refused with_row with_status wake wakes_at wakes_of is_woken run_again rows_after rule4 close send_back grant queued rule1 rule2 rule3 ask retry begin step_commit step_give_up step_retry step_ask step_begin beginning step_by step other_holders ahead_of in_way_of younger youngest_of younger_than onward chain_by chain_of chain_table chain_due chain_told ask_chain chain_numbers answered_to said_of
+unfolding member put first_of filled needed recorded covers grants asked is_free is_open at idle fresh_desk seated vacated every every_waiter is_empty agrees older_than_holders older_than_waiters without wants woken_first settle released refused with_row with_status wake wakes_at wakes_of is_woken run_again rows_after rule4 close send_back grant queued rule1 rule2 rule3 ask retry begin step_commit step_give_up step_retry step_ask step_begin beginning step_by step other_holders ahead_of in_way_of younger youngest_of younger_than onward chain_by chain_of chain_holds chain_order chain_due chain_told ask_chain chain_numbers answered_to said_of
 chains_as_the_examples_say = refl
 
 -- and the desks on which a bound is met are so

@@ -10,7 +10,7 @@ use borrow.Author.Tests.{eqb-true, eqb-false}
 use lib.Dec.{eqb}
 use Rattle.laws.specs.Choice.{by_test}
 use Rattle.terms.specs.declared.letters.Ask.{Ask}
-use Rattle.terms.specs.declared.letters.Letter.TheVariants.{Begin, Commit, GiveUp, Retry, Asks}
+use Rattle.terms.specs.declared.letters.Letter.TheVariants.{Begin, Commit, GiveUp, Retry, Back as no-request, Asks}
 use Rattle.terms.specs.declared.letters.Lettered.{Lettered}
 use Rattle.terms.specs.declared.letters.Lettered.TheVariants.{Known, Unknown}
 use Rattle.terms.specs.Letters.{letter_of}
@@ -102,6 +102,7 @@ wake_size (a ∷ ws) = ap suc (wake_size ws)
 went_size : (r : Request) (j : ℕ) (l : Lettered) → length (went_by r j l) ≤ 1
 unfolding went_by
 went_size r j Unknown = omega arith
+went_size r j (Known no-request) = omega arith
 went_size r j (Known Begin) = omega arith
 went_size r j (Known Commit) = omega arith
 went_size r j (Known GiveUp) = omega arith

@@ -1,7 +1,7 @@
 -- Fields that a kind does not use are not read (01, Refusals by number).
 -- Assumes nothing.
 use mathlib.Core.Path.{◌≡◌, refl, ap, ap₂, ◌∙◌}
-use Rattle.terms.specs.declared.letters.Letter.TheVariants.{Begin, Commit, GiveUp, Retry, Asks}
+use Rattle.terms.specs.declared.letters.Letter.TheVariants.{Begin, Commit, GiveUp, Retry, Back, Asks}
 use Rattle.terms.specs.declared.letters.Lettered.{Lettered}
 use Rattle.terms.specs.declared.letters.Lettered.TheVariants.{Known, Unknown}
 use Rattle.terms.specs.Letters.{letter_of}
@@ -13,6 +13,7 @@ use Rattle.desk_rules.specs.Step.{step_commit, step_give_up, step_retry, step_as
 by_alike : (d : Desk) (r s : Request) (l : Lettered) → Alike l r s → step_by d r l ≡ step_by d s l
 unfolding step_by
 by_alike d r s Unknown e = refl
+by_alike d r s (Known Back) e = refl
 by_alike d r s (Known Begin) e = refl
 by_alike d r s (Known Commit) e = ap (λ j. step_commit d j (d.stat j)) (e.job refl)
 by_alike d r s (Known GiveUp) e = ap (λ j. step_give_up d j (d.stat j)) (e.job refl)

@@ -8,7 +8,7 @@ use lib.Dec.{ltb, leb}
 use borrow.Author.Tests.{ltb-true, ltb-false, le-leb}
 use Rattle.laws.specs.Choice.{pick}
 use Rattle.terms.specs.declared.letters.Ask.{Ask}
-use Rattle.terms.specs.declared.letters.Letter.TheVariants.{Begin, Commit, GiveUp, Retry, Asks}
+use Rattle.terms.specs.declared.letters.Letter.TheVariants.{Begin, Commit, GiveUp, Retry, Back as no-request, Asks}
 use Rattle.terms.specs.declared.letters.Lettered.{Lettered}
 use Rattle.terms.specs.declared.letters.Lettered.TheVariants.{Known, Unknown}
 use Rattle.terms.specs.declared.refusals.Refusal.{Refusal}
@@ -16,8 +16,7 @@ use Rattle.terms.specs.declared.refusals.Refusal.TheVariants.{UnknownKind, CellA
 use Rattle.terms.specs.Letters.{letter_of}
 use Rattle.terms.specs.Limits.{cells, last_number}
 use Rattle.conflict.specs.Modes.{needed, covers, is_free}
-use Rattle.laws.specs.Lists.{member}
-use Rattle.laws.specs.Tables.{first_due}
+use Rattle.laws.specs.Lists.{member, first_of}
 use Rattle.laws.proofs.Parts.{and_first, and_second}
 use Rattle.desks.specs.Request.{Request}
 use Rattle.desk_rules.specs.Desk.{Status, closed, running, waiting, sentback, Desk, is_open}
@@ -25,7 +24,7 @@ use Rattle.desk_rules.specs.Locks.{agrees, older_than_holders, older_than_waiter
 use Rattle.desks.specs.Begin.{beginning, refused}
 use Rattle.desk_rules.specs.Rules.{Outcome, close, send_back, grant, queued, rule1, rule2, rule3, ask, retry, begin}
 use Rattle.desk_rules.specs.Step.{step_commit, step_give_up, step_retry, step_ask, step_begin, step_by, step}
-use Rattle.desk_rules.specs.Table.{table, due_by, due_of}
+use Rattle.desk_rules.specs.Table.{holds, order, due_by, due_of}
 use Rattle.desk_rules.specs.Asked.{Asking, Elder, holder, waiter, asked_there}
 use Rattle.desk_rules.specs.Moves.{Otherwise, no_promotion, no_entry, Moved, refuses, begins, commits, gives_up, retries, has_it, promotes, waits_in_front, enters, waits_last, goes_back}
 
@@ -73,14 +72,14 @@ due_by_lem why e q h = refuses why (rw (e, q) h)
 
 -- begin tests 7, then 6
 begin_moved : (d : Desk) (r : Request) → letter_of r.kind ≡ Known Begin → Moved d r (step_begin d)
-unfolding step_begin beginning begin due_by table first_due
+unfolding step_begin beginning begin due_by holds order first_of
 begin_moved d r e =
     either (ltb last_number d.next) (λ t. due_by_lem NoNumberLeft e refl (rw t))
     (λ f. either (member 0 d.jobs) (begins e (ltb-false _ _ f)) (λ n. due_by_lem AllOpen e refl (rw (f, n))))
 
 -- a commit, by what the job is doing
 commit_moved : (d : Desk) (r : Request) (s : Status) → letter_of r.kind ≡ Known Commit → d.stat r.job ≡ s → Moved d r (step_commit d r.job s)
-unfolding step_commit close due_by table first_due is_open
+unfolding step_commit close due_by holds order first_of is_open
 commit_moved d r closed e q = due_by_lem NotOpen e q refl
 commit_moved d r running e q = commits e q
 commit_moved d r (waiting c a) e q = due_by_lem Waiting e q refl
@@ -88,7 +87,7 @@ commit_moved d r sentback e q = due_by_lem SentBack e q refl
 
 -- a give-up
 give_up_moved : (d : Desk) (r : Request) (s : Status) → letter_of r.kind ≡ Known GiveUp → d.stat r.job ≡ s → Moved d r (step_give_up d r.job s)
-unfolding step_give_up close due_by table first_due is_open
+unfolding step_give_up close due_by holds order first_of is_open
 give_up_moved d r closed e q = due_by_lem NotOpen e q refl
 give_up_moved d r running e q = gives_up e (rw q)
 give_up_moved d r (waiting c a) e q = gives_up e (rw q)
@@ -96,7 +95,7 @@ give_up_moved d r sentback e q = gives_up e (rw q)
 
 -- a retry
 retry_moved : (d : Desk) (r : Request) (s : Status) → letter_of r.kind ≡ Known Retry → d.stat r.job ≡ s → Moved d r (step_retry d r.job s)
-unfolding step_retry retry due_by table first_due is_open
+unfolding step_retry retry due_by holds order first_of is_open
 retry_moved d r closed e q = due_by_lem NotOpen e q refl
 retry_moved d r running e q = due_by_lem Running e q refl
 retry_moved d r (waiting c a) e q = due_by_lem _ e q refl
@@ -104,7 +103,7 @@ retry_moved d r sentback e q = retries e q
 
 -- a read, a write, an increment or a u
 asked_moved : (d : Desk) (r : Request) (a : Ask) (s : Status) → letter_of r.kind ≡ Known (Asks a) → d.stat r.job ≡ s → Moved d r (step_ask d r.job r.cell a s)
-unfolding step_ask due_by table first_due is_open
+unfolding step_ask due_by holds order first_of is_open
 asked_moved d r a closed e q = due_by_lem NotOpen e q refl
 asked_moved d r a running e q =
     either (ltb r.cell cells) (λ t. ask_moved d r a (record { letter = e; runs = q; within = ltb-true _ _ t }))
@@ -115,7 +114,8 @@ asked_moved d r a sentback e q = due_by_lem SentBack e q refl
 -- by the request's letter
 step_by_lem : (d : Desk) (r : Request) (l : Lettered) → letter_of r.kind ≡ l → Moved d r (step_by d r l)
 unfolding step_by
-step_by_lem d r Unknown e = unfold due_by table first_due in due_by_lem UnknownKind e refl refl
+step_by_lem d r Unknown e = unfold due_by holds order first_of in due_by_lem UnknownKind e refl refl
+step_by_lem d r (Known no-request) e = unfold due_by holds order first_of in due_by_lem UnknownKind e refl refl
 step_by_lem d r (Known Begin) e = begin_moved d r e
 step_by_lem d r (Known Commit) e = commit_moved d r (d.stat r.job) e refl
 step_by_lem d r (Known GiveUp) e = give_up_moved d r (d.stat r.job) e refl

@@ -2,28 +2,23 @@
 -- Assumes nothing.
 use Prim.Native.Nat.{ℕ, ◌≤◌}
 use mathlib.Core.Path.{◌≡◌, refl, ap}
-use mathlib.Core.Logic.{◌↔◌}
-use mathlib.Core.Bool.{Bool, true, false}
-use mathlib.Core.List.{List, [], ◌∷◌, map}
+use mathlib.Core.Bool.{true}
 use native.Mathlib.Omega.{arith}
-use lib.Dec.{leb}
-use borrow.Author.Tests.{leb-true}
-use Rattle.laws.specs.Choice.{by_test, not_both}
-use Rattle.laws.specs.Tables.{DueIn, given_by}
-use Rattle.laws.proofs.Tables.{due_exactly, due_passes}
+use Rattle.laws.specs.Choice.{not_both}
+use Rattle.laws.proofs.Lists.{first_holds}
 use Rattle.terms.specs.declared.letters.Lettered.{Lettered}
 use Rattle.terms.specs.declared.refusals.Refusal.{Refusal}
+use Rattle.terms.specs.declared.refusals.Refusal.TheVariants.{UnknownKind, CellAbove, NotOpen, Waiting, SentBack, AllOpen, NoNumberLeft, Running, BadLine, StartedAtZero, TooManyLines, JobOutside, Ended, ShortOrder, NoRoom, TooLong, ShortList, NoRetry}
 use Rattle.terms.specs.Letters.{letter_of}
 use Rattle.terms.specs.Refusals.{number_of}
-use Rattle.terms.proofs.Numbers.{within_table}
 use Rattle.desks.specs.declared.Answer.{Answer}
 use Rattle.desks.specs.declared.Answer.TheVariants.{Go, Wait, Back, No}
 use Rattle.desks.specs.Request.{Request}
 use Rattle.desk_rules.specs.Desk.{Status, Desk}
 use Rattle.desks.specs.Begin.{refused}
 use Rattle.desk_rules.specs.Step.{step}
-use Rattle.desks.specs.Table.{is_begin, letter_is, asks_no_cell}
-use Rattle.desk_rules.specs.Table.{table, due_by, due_of, Due, named}
+use Rattle.desks.specs.Table.{letter_is, asks_no_cell}
+use Rattle.desk_rules.specs.Table.{holds, order, due_by, due_of, Due, named}
 use Rattle.desk_rules.specs.Course.{from}
 use Rattle.desk_rules.specs.Refuses.{Refuses}
 use Rattle.desk_rules.proofs.TableMeant.{step_meant}
@@ -37,28 +32,36 @@ use Rattle.desk_rules.proofs.AnswerTells.{ask_waited, ask_back}
 pub due_refused : (d : Desk) (r : Request) (why : Refusal) → Due d r why → step d r ≡ refused d why
 due_refused = by_table.due_refused step due_of named step_meant
 
--- a refusal is due exactly if its row is the first whose test holds
-row_holds : (d : Desk) (r : Request) (why : Refusal) → Due d r why ↔ DueIn why (table (letter_of r.kind) (d.stat r.job) r.cell d)
+-- rows from 9 on never hold for a step
+row_number : (l : Lettered) (s : Status) (c : ℕ) (d : Desk) (why : Refusal) → holds l s c d why ≡ true → (1 ≤ number_of why) × (number_of why ≤ 8)
+unfolding holds
+row_number l s c d UnknownKind h = omega arith
+row_number l s c d CellAbove h = omega arith
+row_number l s c d NotOpen h = omega arith
+row_number l s c d Waiting h = omega arith
+row_number l s c d SentBack h = omega arith
+row_number l s c d AllOpen h = omega arith
+row_number l s c d NoNumberLeft h = omega arith
+row_number l s c d Running h = omega arith
+row_number l s c d (BadLine field) h = not_both h refl
+row_number l s c d StartedAtZero h = not_both h refl
+row_number l s c d TooManyLines h = not_both h refl
+row_number l s c d JobOutside h = not_both h refl
+row_number l s c d Ended h = not_both h refl
+row_number l s c d ShortOrder h = not_both h refl
+row_number l s c d NoRoom h = not_both h refl
+row_number l s c d TooLong h = not_both h refl
+row_number l s c d ShortList h = not_both h refl
+row_number l s c d NoRetry h = not_both h refl
+
+-- the row of a refusal that is due holds
+row_holds : (d : Desk) (r : Request) (why : Refusal) → Due d r why → holds (letter_of r.kind) (d.stat r.job) r.cell d why ≡ true
 unfolding due_of due_by
-row_holds d r why = due_exactly _ why
-
--- the numbers of the refusals that a request is tested for, in their order: of a begin, and of any other (01, Refusals by number)
-abbrev pub tested : Bool → List ℕ
-tested true = 1 ∷ 7 ∷ 6 ∷ []
-tested false = 1 ∷ 3 ∷ 4 ∷ 5 ∷ 8 ∷ 2 ∷ []
-
--- THE ROWS ARE THESE, in this order
-pub rows_numbered : (l : Lettered) (s : Status) (c : ℕ) (d : Desk) → map number_of (given_by (table l s c d)) ≡ tested (letter_is is_begin l)
-unfolding table
-rows_numbered l s c d = by_test (letter_is is_begin l) (λ t. rw t) (λ f. rw f)
+row_holds d r why e = first_holds (holds (letter_of r.kind) (d.stat r.job) r.cell d) (order (letter_of r.kind)) why e
 
 -- so only the refusals 1 to 8 are due
 due_number : (d : Desk) (r : Request) (why : Refusal) → Due d r why → (1 ≤ number_of why) × (number_of why ≤ 8)
-unfolding due_of due_by
-due_number d r why e =
-    let l : Lettered = letter_of r.kind in
-    let below = due_passes number_of (λ n. leb n 8) _ (rows_numbered l (d.stat r.job) r.cell d) (by_test (letter_is is_begin l) (λ t. rw t) (λ f. rw f)) why e in
-    ((within_table why).0, leb-true (number_of why) 8 below)
+due_number d r why e = row_number (letter_of r.kind) (d.stat r.job) r.cell d why (row_holds d r why e)
 
 -- only requests for a cell are answered wait or back
 only_cells : (d : Desk) (r : Request) → letter_is asks_no_cell (letter_of r.kind) ≡ true → goesOrRefuses (step d r).said ≡ true

@@ -12,7 +12,7 @@ use Rattle.terms.specs.declared.letters.Ask.TheVariants.{Read as asks_read, Upda
 use Rattle.terms.specs.declared.letters.Letter.TheVariants.{Asks}
 use Rattle.terms.specs.declared.letters.Lettered.TheVariants.{Known}
 use Rattle.terms.specs.Letters.{letter_of}
-use Rattle.laws.specs.Tables.{first_due}
+use Rattle.laws.specs.Lists.{first_of}
 use Rattle.conflict.specs.declared.action.Kind.TheVariants.{Read}
 use Rattle.conflict.specs.declared.action.Event.TheVariants.{Does}
 use Rattle.conflict.specs.declared.modes.Mode.{Mode}
@@ -32,7 +32,7 @@ use Rattle.desk_rules.specs.Desk.{Status, Desk}
 use Rattle.desks.specs.Records.{records_by, records_of, own_records, wake_records}
 use Rattle.desk_rules.specs.Step.{step, events, Started}
 use Rattle.desk_rules.specs.Asked.{Asking, OtherHolder, Enters, Elder, holder, waiter, held_there, own_mode, asked_there, queue_there}
-use Rattle.desk_rules.specs.Table.{table, due_by, due_of}
+use Rattle.desk_rules.specs.Table.{holds, order, due_by, due_of}
 use Rattle.desk_rules.specs.Course.{from}
 use Rattle.desk_rules.specs.UpdateLock.{Gets, by_go, by_wake, GoesUnchanged, HasU, HeldSince, UpdateLock}
 use Rattle.desk_rules.specs.Requests.{desk_after, history_of}
@@ -54,7 +54,7 @@ use Rattle.desk_rules.proofs.StillShut.{step_shuts, still_shuts, run_inv, fewer_
 
 -- the table has the same due for a u as for a read
 same_row : (d : Desk) (s : Status) (c : ℕ) → due_by d (Known (Asks Update)) s c ≡ due_by d (Known (Asks asks_read)) s c
-unfolding due_by table first_due
+unfolding due_by holds order first_of
 same_row d s c = refl
 
 -- so the same for two requests with the same job and cell

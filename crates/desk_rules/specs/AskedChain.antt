@@ -1,10 +1,9 @@
 -- A caller asks for a job's chain and lends a list: when the question is refused, what is answered, and what the list then holds (02, No. 3).
-use Rattle.std.specs.Prelude.{ℕ, List, [], ◌∷◌, ltb, length}
+use Rattle.std.specs.Prelude.{ℕ, Bool, false, List, [], ◌∷◌, ltb, length}
 use Rattle.std.proofs.Math.Option.{Option, none, some}
-use Rattle.laws.specs.Lists.{filled}
-use Rattle.laws.specs.Tables.{Row, row, first_due}
+use Rattle.laws.specs.Lists.{first_of, filled}
 use Rattle.terms.specs.declared.refusals.Refusal.{Refusal}
-use Rattle.terms.specs.declared.refusals.Refusal.TheVariants.{NotOpen, SentBack, ShortList}
+use Rattle.terms.specs.declared.refusals.Refusal.TheVariants.{UnknownKind, CellAbove, NotOpen, Waiting, SentBack, AllOpen, NoNumberLeft, Running, BadLine, StartedAtZero, TooManyLines, JobOutside, Ended, ShortOrder, NoRoom, TooLong, ShortList, NoRetry}
 use Rattle.terms.specs.Refusals.{number_of, field_of}
 use Rattle.terms.specs.Limits.{places}
 use Rattle.desk_rules.specs.declared.Chained.{Chained}
@@ -13,17 +12,34 @@ use Rattle.desk_rules.specs.Desk.{Status, Desk}
 use Rattle.desk_rules.specs.Table.{not_open, is_sent_back}
 use Rattle.desk_rules.specs.Chain.{chain_of}
 
--- the table, by what the job is doing and how many places are lent: 3, the job is not open; 5, the job was sent back; 18, fewer than 32 places
-unfoldable pub chain_table : Status → ℕ → List (Row Refusal)
-chain_table s n =
-    row NotOpen (not_open s)  -- 3
-    ∷ row SentBack (is_sent_back s)  -- 5
-    ∷ row ShortList (ltb n places)  -- 18
-    ∷ []
+-- when the row of each refusal holds, by what the job is doing and how many places are lent: 3, the job is not open; 5, the job was sent back; 18, fewer than 32 places
+unfoldable pub chain_holds : Status → ℕ → Refusal → Bool
+chain_holds s n UnknownKind = false
+chain_holds s n CellAbove = false
+chain_holds s n NotOpen = not_open s
+chain_holds s n Waiting = false
+chain_holds s n SentBack = is_sent_back s
+chain_holds s n AllOpen = false
+chain_holds s n NoNumberLeft = false
+chain_holds s n Running = false
+chain_holds s n (BadLine field) = false
+chain_holds s n StartedAtZero = false
+chain_holds s n TooManyLines = false
+chain_holds s n JobOutside = false
+chain_holds s n Ended = false
+chain_holds s n ShortOrder = false
+chain_holds s n NoRoom = false
+chain_holds s n TooLong = false
+chain_holds s n ShortList = ltb n places
+chain_holds s n NoRetry = false
+
+-- the order of the tests: 3, then 5, then 18
+unfoldable pub chain_order : List Refusal
+chain_order = NotOpen ∷ SentBack ∷ ShortList ∷ []
 
 -- which refusal is due, if any
 unfoldable pub chain_due : Status → ℕ → Option Refusal
-chain_due s n = first_due (chain_table s n)
+chain_due s n = first_of (chain_holds s n) chain_order
 
 -- what is answered, and what the list then holds
 pub record ChainTold : Type 0 where

@@ -2,7 +2,7 @@
 use Rattle.std.specs.Prelude.{ℕ, ltb}
 use Rattle.laws.specs.Choice.{pick}
 use Rattle.terms.specs.declared.letters.Ask.{Ask}
-use Rattle.terms.specs.declared.letters.Letter.TheVariants.{Begin, Commit as commits, GiveUp as gives_up, Retry, Asks}
+use Rattle.terms.specs.declared.letters.Letter.TheVariants.{Begin, Commit as commits, GiveUp as gives_up, Retry, Back as no-request, Asks}
 use Rattle.terms.specs.declared.letters.Lettered.{Lettered}
 use Rattle.terms.specs.declared.letters.Lettered.TheVariants.{Known, Unknown}
 use Rattle.terms.specs.declared.refusals.Refusal.TheVariants.{UnknownKind, CellAbove, NotOpen, Waiting, SentBack, Running}
@@ -48,9 +48,10 @@ step_ask d j c a running = pick (ltb c cells) (ask d j c a) (refused d CellAbove
 unfoldable pub step_begin : Desk → Outcome
 step_begin d = beginning d d.next d.jobs (begin d)
 
--- a request by its letter; 1 for any other byte
+-- a request by its letter; 1 for k and for any other byte, which are not requests
 unfoldable pub step_by : Desk → Request → Lettered → Outcome
 step_by d r Unknown = refused d UnknownKind
+step_by d r (Known no-request) = refused d UnknownKind
 step_by d r (Known Begin) = step_begin d
 step_by d r (Known commits) = step_commit d r.job (d.stat r.job)
 step_by d r (Known gives_up) = step_give_up d r.job (d.stat r.job)

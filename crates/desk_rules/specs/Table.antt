@@ -1,12 +1,12 @@
--- The refusals of the desk as the paper's table prints them: the tests, then the rows in the order in which they are tested. The step is not mentioned here (01, Refusals by number).
+-- The refusals of the desk as the paper's table prints them: each row by itself, then the order in which the rows are tested. The step is not mentioned here (01, Refusals by number).
 use Rattle.std.specs.Prelude.{ℕ, ◌≡◌, Bool, true, false, not, ◌&&◌, List, [], ◌∷◌}
 use Rattle.std.proofs.Math.Option.{Option, none, some}
 use Rattle.laws.specs.Choice.{pick}
 use Rattle.terms.specs.declared.letters.Lettered.{Lettered}
 use Rattle.terms.specs.declared.refusals.Refusal.{Refusal}
-use Rattle.terms.specs.declared.refusals.Refusal.TheVariants.{UnknownKind, CellAbove, NotOpen, Waiting, SentBack, AllOpen, NoNumberLeft, Running}
+use Rattle.terms.specs.declared.refusals.Refusal.TheVariants.{UnknownKind, CellAbove, NotOpen, Waiting, SentBack, AllOpen, NoNumberLeft, Running, BadLine, StartedAtZero, TooManyLines, JobOutside, Ended, ShortOrder, NoRoom, TooLong, ShortList, NoRetry}
 use Rattle.terms.specs.Letters.{letter_of}
-use Rattle.laws.specs.Tables.{Row, row, first_due}
+use Rattle.laws.specs.Lists.{first_of}
 use Rattle.desks.specs.Request.{Request}
 use Rattle.desk_rules.specs.Desk.{Status, closed, running, waiting, sentback, is_open, Desk}
 use Rattle.desks.specs.Table.{is_begin, other_kind, is_retry, cell_above, is_give_up, all_open, letter_is, named_by, no_number_left, asks_or_commits}
@@ -48,27 +48,34 @@ was_sent_back l s = is_sent_back s && letter_is asks_or_commits l
 abbrev pub retries_running : Lettered → Status → Bool
 retries_running l s = letter_is is_retry l && is_running s
 
--- the table: each refusal of a step with its test, in the order of the tests; a refusal from 9 on has no row here
-unfoldable pub table : Lettered → Status → ℕ → Desk → List (Row Refusal)
-table l s c d =
-    -- every request
-    row UnknownKind (other_kind l)  -- 1
-    ∷ pick (letter_is is_begin l) (
-    -- a begin
-    row NoNumberLeft (no_number_left l d.next)  -- 7
-    ∷ row AllOpen (all_open l d.jobs)  -- 6
-    ∷ []) (
-    -- any other request
-    row NotOpen (not_open s)  -- 3
-    ∷ row Waiting (still_waiting l s)  -- 4
-    ∷ row SentBack (was_sent_back l s)  -- 5
-    ∷ row Running (retries_running l s)  -- 8
-    ∷ row CellAbove (cell_above l c)  -- 2
-    ∷ [])
+-- the table: when the row of each refusal holds. Rows from 9 on do not belong to this desk, or not to a step
+unfoldable pub holds : Lettered → Status → ℕ → Desk → Refusal → Bool
+holds l s c d UnknownKind = other_kind l
+holds l s c d CellAbove = cell_above l c
+holds l s c d NotOpen = not_open s
+holds l s c d Waiting = still_waiting l s
+holds l s c d SentBack = was_sent_back l s
+holds l s c d AllOpen = all_open l d.jobs
+holds l s c d NoNumberLeft = no_number_left l d.next
+holds l s c d Running = retries_running l s
+holds l s c d (BadLine field) = false
+holds l s c d StartedAtZero = false
+holds l s c d TooManyLines = false
+holds l s c d JobOutside = false
+holds l s c d Ended = false
+holds l s c d ShortOrder = false
+holds l s c d NoRoom = false
+holds l s c d TooLong = false
+holds l s c d ShortList = false
+holds l s c d NoRetry = false
+
+-- the order of the tests: 1 first; begin tests 7, then 6; other kinds test 3, 4, 5, 8, then 2
+unfoldable pub order : Lettered → List Refusal
+order l = UnknownKind ∷ pick (letter_is is_begin l) (NoNumberLeft ∷ AllOpen ∷ []) (NotOpen ∷ Waiting ∷ SentBack ∷ Running ∷ CellAbove ∷ [])
 
 -- what the table says of a request, given its letter, what its job is doing and its cell
 unfoldable pub due_by : Desk → Lettered → Status → ℕ → Option Refusal
-due_by d l s c = first_due (table l s c d)
+due_by d l s c = first_of (holds l s c d) (order l)
 
 -- what the table says of a request to a desk
 unfoldable pub due_of : Desk → Request → Option Refusal

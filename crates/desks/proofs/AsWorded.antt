@@ -17,7 +17,7 @@ use Rattle.terms.specs.declared.letters.Lettered.{Lettered}
 use Rattle.terms.specs.declared.letters.Lettered.TheVariants.{Known, Unknown}
 use Rattle.terms.specs.declared.refusals.Refusal.{Refusal}
 use Rattle.terms.specs.declared.refusals.Refusal.TheVariants.{AllOpen, NoNumberLeft}
-use Rattle.terms.specs.Letters.{letter_of}
+use Rattle.terms.specs.Letters.{letter_of, of_requests}
 use Rattle.terms.specs.Limits.{last_number}
 use Rattle.terms.specs.Refusals.{number_of}
 use Rattle.terms.proofs.LetterBytes.{no_request_exactly}
@@ -30,15 +30,15 @@ use Rattle.desks.proofs.OpenJobs.{only_open}
 
 -- a byte that is not one of the eight is of another kind
 pub none_of_eight : (b : ℕ) → member b (98 ∷ 99 ∷ 97 ∷ 116 ∷ 114 ∷ 119 ∷ 105 ∷ 117 ∷ []) ≡ false → other_kind (letter_of b) ≡ true
-none_of_eight b f = ap other_kind ((no_request_exactly b).1 f)
+none_of_eight b f = by_letter (letter_of b) refl
+  where
+    by_letter : (x : Lettered) → letter_of b ≡ x → other_kind x ≡ true
+    by_letter Unknown e = refl
+    by_letter (Known l) e = ap not ((no_request_exactly b).1 f l e)
 
 -- and the other way round
 pub other_kind_listed : (b : ℕ) → other_kind (letter_of b) ≡ true → member b (98 ∷ 99 ∷ 97 ∷ 116 ∷ 114 ∷ 119 ∷ 105 ∷ 117 ∷ []) ≡ false
-other_kind_listed b t = (no_request_exactly b).0 (by_letter (letter_of b) t)
-  where
-    by_letter : (x : Lettered) → other_kind x ≡ true → x ≡ Unknown
-    by_letter Unknown o = refl
-    by_letter (Known l) o = not_both o refl
+other_kind_listed b t = (no_request_exactly b).0 (λ l e. not-true (of_requests l) (ap other_kind (sym e) ∙ t))
 
 -- the same refusal
 pub same_why : {x y : Refusal} → ◌≡◌ {A = Option Refusal} (some x) (some y) → x ≡ y

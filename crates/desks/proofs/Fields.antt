@@ -2,7 +2,7 @@
 -- Assumes nothing.
 use Prim.Native.Nat.{ℕ}
 use mathlib.Core.Path.{◌≡◌, refl, ap, ◌∙◌}
-use Rattle.terms.specs.declared.letters.Letter.TheVariants.{Begin, Commit, GiveUp, Retry, Asks}
+use Rattle.terms.specs.declared.letters.Letter.TheVariants.{Begin, Commit, GiveUp, Retry, Back, Asks}
 use Rattle.terms.specs.declared.letters.Lettered.{Lettered}
 use Rattle.terms.specs.declared.letters.Lettered.TheVariants.{Known, Unknown}
 use Rattle.terms.specs.Letters.{letter_of}
@@ -15,6 +15,7 @@ use Rattle.desks.specs.Records.{went_by, own_records}
 went_alike : (r s : Request) (j : ℕ) (l : Lettered) → Alike l r s → went_by r j l ≡ went_by s j l
 unfolding went_by
 went_alike r s j Unknown e = refl
+went_alike r s j (Known Back) e = refl
 went_alike r s j (Known Begin) e = refl
 went_alike r s j (Known Commit) e = refl
 went_alike r s j (Known GiveUp) e = refl

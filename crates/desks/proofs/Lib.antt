@@ -5,8 +5,6 @@ pub mod StartedThrough
 pub mod Numbers
 pub mod OpenJobs
 pub mod Starting
-pub mod Starts
-pub mod StartWalk
 pub mod Following
 pub mod Seats
 pub mod Found

@@ -5,7 +5,7 @@ use mathlib.Core.Path.{◌≡◌, refl, ap, ◌∙◌}
 use mathlib.Core.Bool.{true}
 use mathlib.Core.List.{List, [], ◌∷◌, ◌++◌}
 use Rattle.terms.specs.declared.letters.Ask.{Ask}
-use Rattle.terms.specs.declared.letters.Letter.TheVariants.{Begin, Commit as commit, GiveUp as give-up, Retry, Asks}
+use Rattle.terms.specs.declared.letters.Letter.TheVariants.{Begin, Commit as commit, GiveUp as give-up, Retry, Back as no-request, Asks}
 use Rattle.terms.specs.declared.letters.Lettered.{Lettered}
 use Rattle.terms.specs.declared.letters.Lettered.TheVariants.{Known, Unknown}
 use Rattle.terms.specs.Letters.{letter_of}
@@ -31,6 +31,7 @@ wakes_actions (a ∷ rest) = wakes_actions rest
 -- a request that goes writes only actions, or a mark first
 went_first : (r : Request) (j : ℕ) (wakes : List Action) (l : Lettered) → MarkFirst (went_by r j l ++ wake_records wakes)
 went_first r j wakes Unknown = unfold went_by in no_mark (wakes_actions wakes)
+went_first r j wakes (Known no-request) = unfold went_by in no_mark (wakes_actions wakes)
 went_first r j wakes (Known Begin) = unfold went_by in no_mark (wakes_actions wakes)
 went_first r j wakes (Known commit) = unfold went_by in mark Commit j (wakes_actions wakes)
 went_first r j wakes (Known give-up) = unfold went_by in mark GiveUp j (wakes_actions wakes)

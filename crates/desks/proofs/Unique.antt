@@ -2,20 +2,10 @@
 -- Assumes nothing.
 use mathlib.Core.Path.{sym, ◌∙◌}
 use Rattle.laws.specs.Unique.{Unique}
-use Rattle.desks.proofs.bytes.wide.Reads as wide
-use Rattle.desks.proofs.bytes.wide.Kinds as wideK
-use Rattle.desks.proofs.bytes.as_index.Reads as as-index
-use Rattle.desks.proofs.bytes.as_index.Kinds as as-indexK
 use Rattle.desks.proofs.finding.place_of.Reads as place_of
 use Rattle.desks.proofs.finding.place_of.Kinds as place-ofK
 use Rattle.desks.proofs.finding.opening_for.Reads as opening-for
 use Rattle.desks.proofs.finding.opening_for.Kinds as opening-forK
-
-pub wide_unique : Unique wideK.ps wideK.r wide.Post
-wide_unique κs a x y e f p q = p ∙ sym q
-
-pub as_index_unique : Unique as-indexK.ps as-indexK.r as-index.Post
-as_index_unique κs a x y e f p q = p ∙ sym q
 
 pub place_of_unique : Unique place-ofK.ps place-ofK.r place_of.Post
 place_of_unique κs a x y e f p q = p ∙ sym q

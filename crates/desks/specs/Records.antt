@@ -1,6 +1,6 @@
 -- What the history records of a step, by its request, its answer and its wakes: the same for every desk (01, Lines).
 use Rattle.std.specs.Prelude.{ℕ, List, [], ◌∷◌, ◌++◌}
-use Rattle.terms.specs.declared.letters.Letter.TheVariants.{Begin, Commit as commits, GiveUp as gives_up, Retry, Asks}
+use Rattle.terms.specs.declared.letters.Letter.TheVariants.{Begin, Commit as commits, GiveUp as gives_up, Retry, Back as no-request, Asks}
 use Rattle.terms.specs.declared.letters.Lettered.{Lettered}
 use Rattle.terms.specs.declared.letters.Lettered.TheVariants.{Known, Unknown}
 use Rattle.terms.specs.Letters.{letter_of}
@@ -17,6 +17,7 @@ use Rattle.desks.specs.Stepping.{Stepping}
 -- what the history records for a request that goes: an action when it is granted, c and a when given; begin and retry write none (01, Lines)
 unfoldable pub went_by : Request → ℕ → Lettered → History
 went_by r j Unknown = []
+went_by r j (Known no-request) = []
 went_by r j (Known Begin) = []
 went_by r j (Known commits) = Ends Commit j ∷ []
 went_by r j (Known gives_up) = Ends GiveUp j ∷ []

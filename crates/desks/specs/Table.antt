@@ -3,10 +3,10 @@ use Rattle.std.specs.Prelude.{ℕ, Bool, true, false, not, ◌&&◌, List, ltb, 
 use Rattle.laws.specs.Choice.{pick}
 use Rattle.laws.specs.Lists.{member}
 use Rattle.terms.specs.declared.letters.Letter.{Letter}
-use Rattle.terms.specs.declared.letters.Letter.TheVariants.{Begin, Commit, GiveUp, Retry, Asks}
+use Rattle.terms.specs.declared.letters.Letter.TheVariants.{Begin, Commit, GiveUp, Retry, Back, Asks}
 use Rattle.terms.specs.declared.letters.Lettered.{Lettered}
 use Rattle.terms.specs.declared.letters.Lettered.TheVariants.{Known, Unknown}
-use Rattle.terms.specs.Letters.{has_cell}
+use Rattle.terms.specs.Letters.{of_requests, has_cell}
 use Rattle.terms.specs.Limits.{cells, last_number}
 use Rattle.desks.specs.declared.Answer.{Answer}
 use Rattle.desks.specs.declared.Answer.TheVariants.{Go, Wait, Back as sent_back}
@@ -17,6 +17,7 @@ is_begin Begin = true
 is_begin Commit = false
 is_begin GiveUp = false
 is_begin Retry = false
+is_begin Back = false
 is_begin (Asks a) = false
 
 -- the request is a give-up
@@ -25,6 +26,7 @@ is_give_up Begin = false
 is_give_up Commit = false
 is_give_up GiveUp = true
 is_give_up Retry = false
+is_give_up Back = false
 is_give_up (Asks a) = false
 
 -- the request is a retry
@@ -33,6 +35,7 @@ is_retry Begin = false
 is_retry Commit = false
 is_retry GiveUp = false
 is_retry Retry = true
+is_retry Back = false
 is_retry (Asks a) = false
 
 -- the request is read, write, increment, u or commit
@@ -41,14 +44,16 @@ asks_or_commits Begin = false
 asks_or_commits Commit = true
 asks_or_commits GiveUp = false
 asks_or_commits Retry = false
+asks_or_commits Back = false
 asks_or_commits (Asks a) = true
 
--- the four kinds that ask for no cell: begin, commit, give-up and retry
+-- the four kinds that ask for no cell: begin, commit, give-up and retry; k is not a request
 abbrev pub asks_no_cell : Letter → Bool
 asks_no_cell Begin = true
 asks_no_cell Commit = true
 asks_no_cell GiveUp = true
 asks_no_cell Retry = true
+asks_no_cell Back = false
 asks_no_cell (Asks a) = false
 
 -- the kind is the byte of a letter, and the letter passes this test
@@ -58,8 +63,7 @@ letter_is f (Known l) = f l
 
 -- 1: request kind other than the eight (02, No. 1)
 abbrev pub other_kind : Lettered → Bool
-other_kind Unknown = true
-other_kind (Known l) = false
+other_kind l = not (letter_is of_requests l)
 
 -- 2: cell above 63; r, w, i and u have a cell
 abbrev pub cell_above : Lettered → ℕ → Bool

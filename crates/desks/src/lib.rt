@@ -1,5 +1,4 @@
 // What every desk is, by locks or by timestamps: it takes requests by numbers, one step at a time, and gives these answers.
-pub mod bytes;
 pub mod finding;
 
 use terms::refusals::Refusal;

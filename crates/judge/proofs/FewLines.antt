@@ -1,42 +1,70 @@
 -- A faultless text has at most 4,096 lines and says at most as many events, and a faulty line is at most line 4,097.
 -- Assumes nothing.
-use Prim.Native.Nat.{ℕ, suc, ◌≤◌, ◌<◌}
+use Prim.Native.Nat.{ℕ, suc, ◌+◌, ◌≤◌}
 use mathlib.Core.Path.{◌≡◌, refl, sym, ap}
-use mathlib.Core.Bool.{Bool}
 use mathlib.Core.List.{List, [], ◌∷◌}
 use mathlib.Core.Option.{Option, none, some}
 use native.Mathlib.Omega.{arith}
-use lib.ListN.{length}
+use lib.ListN.{length, length-append}
+use Rattle.terms.specs.declared.letters.Letter.TheVariants.{Begin, Commit, GiveUp, Retry, Back, Asks}
 use Rattle.terms.specs.declared.refusals.Refusal.{Refusal}
 use Rattle.terms.specs.Limits.{judged_lines}
-use Rattle.text_rules.specs.declared.EventReading.{EventReading}
-use Rattle.history_lines.specs.LineTable.{fault_of}
-use Rattle.history_lines.specs.HistoryText.{nobody, ended_after, Faulty, or_later, first_faulty, events_in}
-use Rattle.history_lines.proofs.LineFaults.{few_lines}
-use Rattle.history_lines.proofs.KeptHistory.{sound_events}
+use Rattle.text_rules.specs.declared.Reading.{Reading}
+use Rattle.text_rules.specs.declared.Reading.TheVariants.{Good, Bad}
+use Rattle.judge_rules.proofs.LineFaults.{few_lines}
+use Rattle.judge_rules.specs.HistoryText.{Faulty, line_fault, or_later, ended_after, first_faulty, event_of, events_in}
 
--- if a line is faulty, it is this one or a later one
+-- nothing found is not something found
+not_found : {A P : Type 0} {x : A} → some x ≡ none → P
+not_found {x = x} e = let z : ◌≡◌ {A = ℕ} 0 1 = cc in absurd (omega arith)
+
+-- where no line is faulty, this one is not
+this_none : (o : Option Refusal) (n : ℕ) (later : Option Faulty) → or_later o n later ≡ none → (o ≡ none) × (later ≡ none)
+unfolding or_later
+this_none none n later e = (refl, e)
+this_none (some why) n later e = not_found e
+
+-- where a line is faulty, it is this one or a later one
 this_some : (o : Option Refusal) (n : ℕ) (later : Option Faulty) (f : Faulty) {P : Type 0} → or_later o n later ≡ some f → (f.number ≡ n → P) → (o ≡ none → later ≡ some f → P) → P
 unfolding or_later
 this_some none n later f e this next = next refl e
 this_some (some why) n later f e this next =
     let g : ◌≡◌ {A = Faulty} (record { number = n; why = why }) f = cc in this (sym (ap (λ x. x.number) g))
 
--- the number of a faulty line behind lines that are kept
-number_behind : (kept : ℕ) (ended : ℕ → Bool) (rs : List EventReading) (f : Faulty) → kept ≤ judged_lines → first_faulty kept ended rs ≡ some f → f.number ≤ suc judged_lines
+-- faultless lines that are numbered from n on
+pub lines_few : (n : ℕ) (ended : List ℕ) (ls : List Reading) → n ≤ suc judged_lines → first_faulty n ended ls ≡ none → length ls + n ≤ suc judged_lines
 unfolding first_faulty
-number_behind kept ended [] f h e = let z : ◌≡◌ {A = ℕ} 0 1 = cc in absurd (omega arith)
-number_behind kept ended (r ∷ rs) f h e =
-    this_some (fault_of (record { kept = kept; ended = ended; reads = r })) (suc kept) (first_faulty (suc kept) (ended_after ended r) rs) f e
+lines_few n ended [] h e = omega arith
+lines_few n ended (l ∷ ls) h e =
+    let p = this_none (line_fault n ended l) n (first_faulty (suc n) (ended_after ended l) ls) e in
+    let k : n ≤ judged_lines = few_lines n ended l p.0 in
+    omega (arith, lines_few (suc n) (ended_after ended l) ls (omega arith) p.1)
+
+-- the number of a faulty line among lines that are numbered from n on
+pub number_few : (n : ℕ) (ended : List ℕ) (ls : List Reading) (f : Faulty) → n ≤ suc judged_lines → first_faulty n ended ls ≡ some f → f.number ≤ suc judged_lines
+unfolding first_faulty
+number_few n ended [] f h e = not_found (sym e)
+number_few n ended (l ∷ ls) f h e =
+    this_some (line_fault n ended l) n (first_faulty (suc n) (ended_after ended l) ls) f e
     (λ q. omega arith)
     (λ p q.
-    let less : kept < judged_lines = few_lines (record { kept = kept; ended = ended; reads = r }) p in
-    number_behind (suc kept) (ended_after ended r) rs f (omega arith) q)
+    let k : n ≤ judged_lines = few_lines n ended l p in
+    number_few (suc n) (ended_after ended l) ls f (omega arith) q)
 
--- the number of a text's first faulty line
-pub number_few : (rs : List EventReading) (f : Faulty) → first_faulty 0 nobody rs ≡ some f → f.number ≤ suc judged_lines
-number_few rs f e = number_behind 0 nobody rs f (omega arith) e
+-- a line says at most one event
+one_event : (r : Reading) → length (event_of r) ≤ 1
+unfolding event_of
+one_event (Bad at) = omega arith
+one_event (Good Begin job cell) = omega arith
+one_event (Good Commit job cell) = omega arith
+one_event (Good GiveUp job cell) = omega arith
+one_event (Good Retry job cell) = omega arith
+one_event (Good Back job cell) = omega arith
+one_event (Good (Asks a) job cell) = omega arith
 
--- faultless lines say at most 4,096 events
-pub events_few : (rs : List EventReading) → first_faulty 0 nobody rs ≡ none → length (events_in rs) ≤ judged_lines
-events_few rs e = let v = sound_events 0 nobody rs e in omega (arith, v.few (omega arith), v.many)
+-- lines say at most as many events as they are
+pub events_few : (ls : List Reading) → length (events_in ls) ≤ length ls
+unfolding events_in
+events_few [] = omega arith
+events_few (l ∷ ls) =
+    omega (arith, length-append (event_of l) (events_in ls), one_event l, events_few ls)

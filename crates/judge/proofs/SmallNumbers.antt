@@ -17,13 +17,13 @@ use Rattle.conflict.specs.History.{History, is_commit, commit_order}
 use Rattle.conflict.specs.Dirty.{ReadOf, dirty_of}
 use Rattle.conflict.proofs.OneEvent.{order_none, order_does, order_ends}
 use Rattle.judge_rules.specs.Judged.{orderly, knotted, jobs_of, finding_of}
-use Rattle.history_lines.specs.HistoryText.{readings_of, Faulty, nobody, first_faulty, events_in}
+use Rattle.judge_rules.specs.HistoryText.{readings_of, Faulty, first_faulty, events_in}
 use Rattle.judge_rules.specs.Judgement.{say_finding, say_history, say_lines, judgement_of}
 use Rattle.judge_rules.proofs.Walking.{no_more}
 use Rattle.judge_rules.proofs.Deciding.{by_finding}
 use Rattle.judge_rules.proofs.Histories.{jobs_committed, order_once, order_names, knot_shows}
 use Rattle.judge.specs.Judged.{Small}
-use Rattle.judge.proofs.FewLines.{number_few, events_few}
+use Rattle.judge.proofs.FewLines.{lines_few, number_few, events_few}
 
 -- one more job in its place is at most one more
 insert_few : (j : ℕ) (ks : List ℕ) → length (insert j ks) ≤ suc (length ks)
@@ -80,14 +80,14 @@ history_small buffer h none few = finding_small buffer h few
 history_small buffer h (some d) few = tt
 
 -- and what is said of lines
-lines_small : (buffer text : List ℕ) (o : Option Faulty) → first_faulty 0 nobody (readings_of text) ≡ o → Small (say_lines buffer text o).said
+lines_small : (buffer text : List ℕ) (o : Option Faulty) → first_faulty 1 [] (readings_of text) ≡ o → Small (say_lines buffer text o).said
 unfolding say_lines
 lines_small buffer text none e =
-    history_small buffer (events_in (readings_of text)) (dirty_of (events_in (readings_of text))) (events_few (readings_of text) e)
-lines_small buffer text (some f) e = omega (arith, number_few (readings_of text) f e)
+    history_small buffer (events_in (readings_of text)) (dirty_of (events_in (readings_of text))) (omega (arith, events_few (readings_of text), lines_few 1 [] (readings_of text) (omega arith) e))
+lines_small buffer text (some f) e = omega (arith, number_few 1 [] (readings_of text) f (omega arith) e)
 
 -- every verdict of the judge has small numbers
 pub judgement_small : (text buffer : List ℕ) → Small (judgement_of text buffer).said
 unfolding judgement_of
 judgement_small text buffer =
-    by_test (ltb (length buffer) judged_jobs) (λ t. rw t (omega arith)) (λ f. rw f (lines_small buffer text (first_faulty 0 nobody (readings_of text)) refl))
+    by_test (ltb (length buffer) judged_jobs) (λ t. rw t (omega arith)) (λ f. rw f (lines_small buffer text (first_faulty 1 [] (readings_of text)) refl))

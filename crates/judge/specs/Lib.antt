@@ -1,9 +1,3 @@
-pub mod Sizes
-pub mod Counted
-pub mod Meeting
-pub mod Grouped
-pub mod Reaching
-pub mod Left
-pub mod Preceding
-pub mod Rounds
+pub mod Looked
+pub mod Scanned
 pub mod Judged

@@ -3,22 +3,11 @@ ghost use Rattle.std.specs.Prelude.{◌≡◌, length};
 ghost use Rattle.judge_rules.specs.Judgement.{judgement_of, line_from, in_numbers};
 ghost use Rattle.judge.specs.Judged.{Small, JudgedAs, line_place};
 
-use crate::faultless::judge_faultless;
-use history_lines::scan::{Scanned, scan};
+use crate::scan::{Scanned, scan};
+use judge_core::kept::judge_kept;
 use judge_rules::verdict::Verdict;
 use terms::limits::{JUDGED_JOBS, JUDGED_LINES};
 use terms::refusals::{Refusal, field_of, number_of};
-
-// A verdict takes four numbers (02, No. 5); the first of them says which verdict it is.
-pub const ANSWER: usize = 4;
-
-pub const ORDERLY: u32 = 0;
-
-pub const KNOT: u32 = 1;
-
-pub const REFUSED: u32 = 2;
-
-pub const DIRTY: u32 = 3;
 
 // What is said, and where in the text the line handed back stands: at the text's start and empty, if there is none.
 #[derive(Drop)]
@@ -54,7 +43,7 @@ fn judgement(text: &[u8], order: &mut [u8]) -> Judged
     let mut cells = [0u8; JUDGED_LINES];
     match scan(text, &mut codes, &mut jobs, &mut cells) {
         Scanned::Faultless(n) => {
-            let said = judge_faultless(&codes, &jobs, &cells, n, order);
+            let said = judge_kept(&codes, &jobs, &cells, n, order);
             Judged {
                 said,
                 from: 0,
@@ -75,20 +64,15 @@ fn judgement(text: &[u8], order: &mut [u8]) -> Judged
 }
 
 // A verdict in four numbers; the fourth is the field at fault for refusal 9, else 0 (02, No. 5).
-fn in_numbers(said: Verdict) -> [u32; ANSWER]
+fn in_numbers(said: Verdict) -> [u32; 4]
     requires { Small said }
     ensures { result ≡ in_numbers said }
 {
     match said {
-        Verdict::Orderly(n) => [ORDERLY, n as u32, 0, 0],
-        Verdict::Knot(n) => [KNOT, n as u32, 0, 0],
-        Verdict::Dirty { reader, writer } => [DIRTY, reader as u32, writer as u32, 0],
-        Verdict::No { line, why } => [
-            REFUSED,
-            number_of(why) as u32,
-            line as u32,
-            field_of(why) as u32,
-        ],
+        Verdict::Orderly(n) => [0, n as u32, 0, 0],
+        Verdict::Knot(n) => [1, n as u32, 0, 0],
+        Verdict::Dirty { reader, writer } => [3, reader as u32, writer as u32, 0],
+        Verdict::No { line, why } => [2, number_of(why) as u32, line as u32, field_of(why) as u32],
     }
 }
 
@@ -102,7 +86,7 @@ pub fn judge_text(text: &[u8], order: &mut [u8]) -> Verdict
 }
 
 // The same with the verdict in four numbers. The faulty line is handed back as the part of the text where it stands, without its newline; if none is faulty, an empty part at the text's start.
-pub fn judge<'a>(text: &'a [u8], order: &mut [u8], answer: &mut [u32; ANSWER]) -> &'a [u8]
+pub fn judge<'a>(text: &'a [u8], order: &mut [u8], answer: &mut [u32; 4]) -> &'a [u8]
     ensures line { result.now ≡ (judgement_of text.now order.old).line }
     ensures place { result.ref_ptr ≡ line_place text.entry.ref_ptr text.now order.old }
     ensures order { order.new ≡ (judgement_of text.now order.old).order }
@@ -117,7 +101,7 @@ pub fn judge<'a>(text: &'a [u8], order: &mut [u8], answer: &mut [u32; ANSWER]) -
 }
 
 // The same for callers that cannot take a part of a text: tells where in the text the faulty line stands.
-pub fn judge_at(text: &[u8], order: &mut [u8], answer: &mut [u32; ANSWER]) -> LineAt
+pub fn judge_at(text: &[u8], order: &mut [u8], answer: &mut [u32; 4]) -> LineAt
     ensures from { result.from ≡ line_from text.now (judgement_of text.now order.old).said }
     ensures length { result.length ≡ length (judgement_of text.now order.old).line }
     ensures order { order.new ≡ (judgement_of text.now order.old).order }

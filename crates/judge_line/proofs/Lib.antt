@@ -1,3 +1,5 @@
+pub mod SpareRoom
+pub mod WordLines
 pub mod Saying
 pub mod LineLength
 pub mod LongTexts

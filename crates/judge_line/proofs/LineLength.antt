@@ -28,22 +28,22 @@ use Rattle.conflict.proofs.DirtyFound.{dirty_exactly}
 use Rattle.text_rules.specs.declared.Written.TheVariants.{Next}
 use Rattle.text_rules.specs.Decimal.{decimal}
 use Rattle.text_rules.specs.Records.{fits, told, left, tabbed, word_line, given}
-use Rattle.text_rules.specs.declared.EventReading.{EventReading}
+use Rattle.text_rules.specs.declared.Reading.{Reading}
 use Rattle.text_rules.proofs.DigitLaws.{digits_at_most}
 use Rattle.text.proofs.WordLaws.{word_at_most_7}
 use Rattle.text_rules.proofs.WriterLaws.{told_next, left_text}
 use Rattle.judge_rules.specs.Judged.{orderly, knotted, finding_of}
-use Rattle.history_lines.specs.LineTable.{AllFaultless}
-use Rattle.history_lines.specs.HistoryText.{readings_of, Faulty, nobody, first_faulty, events_in, Tells}
+use Rattle.judge_rules.specs.LineTable.{AllFaultless}
+use Rattle.judge_rules.specs.HistoryText.{readings_of, Faulty, first_faulty, events_in, Tells}
 use Rattle.judge_rules.specs.Judgement.{say_finding, say_history, say_lines, judgement_of}
 use Rattle.judge_rules.proofs.Deciding.{by_finding}
 use Rattle.judge_rules.proofs.FewJobs.{at_most_255, committed_within}
 use Rattle.judge_rules.proofs.Histories.{jobs_committed, order_once, order_names, knot_shows}
-use Rattle.history_lines.proofs.LineFaults.{finds_fault}
+use Rattle.judge_rules.proofs.LineFaults.{finds_fault}
 use Rattle.judge.proofs.FewLines.{number_few}
 use Rattle.judge_rules.specs.VerdictLine.{say_line, judged_line, verdict_of, line_limit}
 use Rattle.judge_rules.proofs.DirtyJobs.{dirty_within}
-use Rattle.text.proofs.WordLines.{word_line_length, two_numbers_length, given_at_most_2}
+use Rattle.judge_line.proofs.WordLines.{word_line_length, two_numbers_length, given_at_most_2}
 
 -- jobs of at most three digits have at most four bytes each, the tab among them
 tabbed_at_most : (js : List ℕ) → ((j : ℕ) → member j js ≡ true → j ≤ judged_jobs) → length (tabbed js) ≤ 4 * length js
@@ -64,7 +64,7 @@ jobs_at_most w js once r =
     omega (arith, word_line_length w js, word_at_most_7 w, tabbed_at_most js (λ j m. (r j m).1), at_most_255 js once r)
 
 -- a line of the word no, a line number up to 4,097, a refusal, and of a bad line the field at fault
-pub no_at_most : (n : ℕ) (why : Refusal) → n ≤ suc judged_lines → length (word_line word.TheVariants.No (n ∷ number_of why ∷ given (field_of why))) ≤ line_limit
+no_at_most : (n : ℕ) (why : Refusal) → n ≤ suc judged_lines → length (word_line word.TheVariants.No (n ∷ number_of why ∷ given (field_of why))) ≤ line_limit
 no_at_most n why h =
     let r = within_table why in
     let f = beside_at_most_4 why in
@@ -76,7 +76,7 @@ no_at_most n why h =
       given_at_most_2 (field_of why) (omega arith),
     )
 
-module _ (ls : List EventReading) (e : first_faulty 0 nobody ls ≡ none) (buffer : List ℕ) where
+module _ (ls : List Reading) (e : first_faulty 1 [] ls ≡ none) (buffer : List ℕ) where
   -- no line has a fault
   faultless : AllFaultless ls
   faultless = subst (Tells ls) e (finds_fault ls)
@@ -123,16 +123,16 @@ module _ (ls : List EventReading) (e : first_faulty 0 nobody ls ≡ none) (buffe
   history_at_most (some d) v = dirty_at_most d v
 
 -- the line on any lines
-lines_at_most : (buffer text : List ℕ) (o : Option Faulty) → first_faulty 0 nobody (readings_of text) ≡ o → let j = say_lines buffer text o in length (say_line j.said j.order) ≤ line_limit
+lines_at_most : (buffer text : List ℕ) (o : Option Faulty) → first_faulty 1 [] (readings_of text) ≡ o → let j = say_lines buffer text o in length (say_line j.said j.order) ≤ line_limit
 unfolding say_lines say_line
 lines_at_most buffer text none e = history_at_most (readings_of text) e buffer (dirty_of (events_in (readings_of text))) refl
-lines_at_most buffer text (some f) e = no_at_most f.number f.why (number_few (readings_of text) f e)
+lines_at_most buffer text (some f) e = no_at_most f.number f.why (number_few 1 [] (readings_of text) f (omega arith) e)
 
 -- the line on a text of any length, with an order buffer that is long enough
 buffer_at_most : (text buffer : List ℕ) → judged_jobs ≤ length buffer →
     length (say_line (judgement_of text buffer).said (judgement_of text buffer).order) ≤ line_limit
 unfolding judgement_of
-buffer_at_most text buffer h = rw (le-ltb (length buffer) judged_jobs h) (lines_at_most buffer text (first_faulty 0 nobody (readings_of text)) refl)
+buffer_at_most text buffer h = rw (le-ltb (length buffer) judged_jobs h) (lines_at_most buffer text (first_faulty 1 [] (readings_of text)) refl)
 
 -- so is that of the verdict program's buffer
 pub judged_at_most : (text : List ℕ) → length (judged_line text) ≤ 1_028

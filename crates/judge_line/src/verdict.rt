@@ -3,11 +3,11 @@ ghost use Rattle.std.specs.Prelude.{◌≡◌, take};
 ghost use Rattle.text_rules.specs.Records.{told, left};
 ghost use Rattle.judge_rules.specs.VerdictLine.{say_line, verdict_of};
 
+use crate::lines::{write_jobs, write_no};
 use judge::entry::judge_text;
 use judge_rules::verdict::Verdict;
 use terms::limits::{JUDGED_BYTES, JUDGED_JOBS};
 use terms::{Refusal, Word, field_of, number_of};
-use text::{write_jobs, write_no};
 use text_rules::Written;
 
 // The first n places of the order, or all if there are fewer.

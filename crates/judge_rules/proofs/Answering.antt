@@ -17,15 +17,15 @@ use Rattle.conflict.proofs.DirtyFound.{dirty_exactly, clean_exactly}
 use Rattle.judge_rules.specs.Judged.{Finding, orderly, knotted, jobs_of, finding_of}
 use Rattle.judge_rules.specs.Meant.{Knotted, Says}
 use Rattle.judge_rules.specs.Meant.Says.{says_order, says_cycle}
-use Rattle.history_lines.specs.HistoryText.{readings_of, Faulty, nobody, first_faulty, events_in, Tells}
+use Rattle.judge_rules.specs.HistoryText.{readings_of, Faulty, first_faulty, events_in, Tells}
 use Rattle.laws.specs.Lists.{filled}
 use Rattle.laws.proofs.Filled.{fills}
 use Rattle.judge_rules.specs.Judgement.{say_finding, say_history, say_lines, judgement_of}
-use Rattle.history_lines.specs.LineTable.{AllFaultless}
+use Rattle.judge_rules.specs.LineTable.{AllFaultless}
 use Rattle.judge_rules.specs.Answers.{InOrder, InKnot, Answers}
 use Rattle.judge_rules.specs.Answers.Answers.{short, faulty, in-dirt, in_order, in-knot}
 use Rattle.judge_rules.proofs.Histories.{jobs_committed, order_serial, order_once, order_names, order_smallest, knot_shows, finding_exactly}
-use Rattle.history_lines.proofs.LineFaults.{finds_fault}
+use Rattle.judge_rules.proofs.LineFaults.{finds_fault}
 use Rattle.judge_rules.proofs.LineBack.{bare_stands}
 use Rattle.judge_rules.proofs.FewJobs.{at_most_255, committed_within}
 
@@ -95,4 +95,4 @@ unfolding judgement_of
 answers text buffer =
     by_test (ltb (length buffer) judged_jobs)
     (λ t. rw t (short (ltb-true (length buffer) judged_jobs t)))
-    (λ f. rw f (lines_told text buffer (ltb-false (length buffer) judged_jobs f) (first_faulty 0 nobody (readings_of text)) (finds_fault (readings_of text))))
+    (λ f. rw f (lines_told text buffer (ltb-false (length buffer) judged_jobs f) (first_faulty 1 [] (readings_of text)) (finds_fault (readings_of text))))

@@ -12,34 +12,35 @@ use Rattle.laws.specs.Choice.{by_test, not_both}
 use Rattle.terms.specs.declared.refusals.Field.{Field}
 use Rattle.terms.specs.declared.refusals.Refusal.{Refusal}
 use Rattle.terms.specs.declared.refusals.Refusal.TheVariants.{BadLine, TooManyLines, ShortOrder}
+use Rattle.terms.specs.Letters.{of_histories}
 use Rattle.terms.specs.Refusals.{number_of, field_number, field_of}
 use Rattle.terms.proofs.Numbers.{same_number}
 use Rattle.conflict.specs.Schedule.{ConflictSerializable}
 use Rattle.conflict.specs.History.{History, committed_part}
 use Rattle.conflict.specs.Dirty.{IsDirty, FirstDirty}
 use Rattle.conflict.proofs.DirtyFound.{first_is_dirty}
-use Rattle.text_rules.specs.HistoryLines.{HistoryFault}
+use Rattle.text_rules.specs.FieldFaults.{AtFault}
 use Rattle.text_rules.specs.Split.{lines_of}
 use Rattle.judge_rules.specs.declared.verdict.Verdict.{Verdict}
 use Rattle.judge_rules.specs.declared.verdict.Verdict.TheVariants.{Orderly, Knot, Dirty, No}
-use Rattle.history_lines.specs.HistoryText.{readings_of, line_at, events_in}
+use Rattle.judge_rules.specs.HistoryText.{readings_of, line_at, events_in}
 use Rattle.judge_rules.specs.Judgement.{judgement_of, in_numbers}
-use Rattle.history_lines.specs.LineTable.{place_at, Faultless, FirstFault, AllFaultless}
+use Rattle.judge_rules.specs.LineTable.{reading_at, lines_before, Faultless, FirstFault, AllFaultless}
 use Rattle.judge_rules.specs.AsWorded.{SoundTo, SoundText, RefusesLine, Refused, Dirtied, Ordered, Knotted}
-use Rattle.history_lines.specs.AsWorded.RefusedLine.{too_many, bad}
-use Rattle.history_lines.proofs.Readings.{readings_length}
-use Rattle.history_lines.proofs.CleanLines.{clean_line}
+use Rattle.judge_rules.specs.AsWorded.RefusedAs.{too_many, bad}
+use Rattle.judge_rules.proofs.Readings.{readings_length}
+use Rattle.judge_rules.proofs.CleanLines.{clean_line}
 use Rattle.judge_rules.proofs.OneAnswer.{no_fault}
 use Rattle.judge_rules.proofs.Refusing.{short_exactly, line_0_short, refused_exactly}
 use Rattle.judge_rules.proofs.VerdictNumbers.{same_verdict}
 use Rattle.judge_rules.proofs.JudgedTexts.{dirty_said, orderly_said, knot_said, dirty_said_exactly, orderly_said_exactly, knot_said_exactly}
 use Rattle.judge_rules.proofs.BadLines.{nine_fault}
-use Rattle.judge_rules.proofs.WordedLines.{faultless_sound, sound_faultless, due_exactly}
+use Rattle.judge_rules.proofs.WordedLines.{faultless_sound, sound_faultless, due_worded, worded_due}
 
 module _ (text : List ℕ) where
   -- line 4,097 is not faultless
   not_4097 : Faultless (readings_of text) 4_097 → ⊥
-  not_4097 f = let z : ◌≡◌ {A = ℕ} 0 1 = not_both refl (clean_line (place_at (readings_of text) 4_097) f).few in omega arith
+  not_4097 f = let z : ◌≡◌ {A = ℕ} 0 1 = not_both refl (clean_line 4_097 (lines_before (readings_of text) 4_097) (reading_at (readings_of text) 4_097) f).few in omega arith
 
   -- so at most 4,096 faultless lines stand before a line
   few_before : (n : ℕ) → ((m : ℕ) → 1 ≤ m → m < n → Faultless (readings_of text) m) → n ≤ 4_097
@@ -64,7 +65,7 @@ module _ (text : List ℕ) where
         from = f.from;
         to = omega (arith, f.to, readings_length text);
         before = record { few = omega arith; each = λ m a b. faultless_sound text m (f.before m a (omega (arith, f.from))) };
-        fault = (due_exactly text n f.from why).0 f.due;
+        fault = due_worded text n few why f.due;
       }
 
   -- and the line that the paper refuses is the first faulty one
@@ -74,7 +75,7 @@ module _ (text : List ℕ) where
         from = r.from;
         to = omega (arith, r.to, readings_length text);
         before = λ m a b. sound_faultless text m (omega (arith, r.before.few)) (r.before.each m a (omega arith));
-        due = (due_exactly text n r.from why).1 r.fault;
+        due = worded_due text n r.fault why refl refl;
       }
 
 module _ (text buffer : List ℕ) where
@@ -91,19 +92,19 @@ module _ (text buffer : List ℕ) where
     λ e.
         let r = ((refused_as_worded 4_097 TooManyLines (omega arith)).0 (same_verdict (judgement_of text buffer).said (No 4_097 TooManyLines) (unfold in_numbers in e))).1 in
         (r.to, r.before),
-    λ p. unfold in_numbers in ap in_numbers ((refused_as_worded 4_097 TooManyLines (omega arith)).1 (room, record { from = omega arith; to = p.0; before = p.1; fault = too_many (omega arith) })),
+    λ p. unfold in_numbers in ap in_numbers ((refused_as_worded 4_097 TooManyLines (omega arith)).1 (room, record { from = omega arith; to = p.0; before = p.1; fault = too_many refl })),
   )
 
   -- WHICH FIELD: 9 is given with line n and a field's number exactly if the lines before are faultless, line n is one of the first 4,096, and that field of it is at fault (02, No. 5)
   pub nine_as_worded : (n : ℕ) (at : Field) → 1 ≤ n → (in_numbers (judgement_of text buffer).said ≡ 2 ∷ 9 ∷ n ∷ field_number at ∷ [])
-      ↔ ((255 ≤ length buffer) × (n ≤ 4_096) × (n ≤ length (lines_of text)) × SoundTo (lines_of text) (n - 1) × HistoryFault (line_at (lines_of text) n) at)
+      ↔ ((255 ≤ length buffer) × (n ≤ 4_096) × (n ≤ length (lines_of text)) × SoundTo (lines_of text) (n - 1) × AtFault of_histories (line_at (lines_of text) n) at)
   nine_as_worded n at h = (
     λ e.
         let r = (refused_as_worded n (BadLine at) h).0 (same_verdict (judgement_of text buffer).said (No n (BadLine at)) (unfold in_numbers in e)) in
         let f = nine_fault text n r.1.fault refl in
         let same : BadLine f.1 ≡ BadLine at = same_number (BadLine f.1) (BadLine at) refl (sym f.2) in
         let q : f.1 ≡ at = cc in
-        (r.0, f.0, r.1.to, r.1.before, subst (λ field. HistoryFault (line_at (lines_of text) n) field) q f.3),
+        (r.0, f.0, r.1.to, r.1.before, subst (λ field. AtFault of_histories (line_at (lines_of text) n) field) q f.3),
     λ p. unfold in_numbers in ap in_numbers ((refused_as_worded n (BadLine at) h).1 (p.0, record { from = h; to = p.2; before = p.3; fault = bad p.1 at p.4 })),
   )
 

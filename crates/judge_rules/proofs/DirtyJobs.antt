@@ -6,19 +6,21 @@ use mathlib.Core.Bool.{false}
 use mathlib.Core.List.{List, [], ◌∷◌, ◌++◌, append_assoc}
 use native.Mathlib.Omega.{arith}
 use lib.ListN.{length, get_or}
+use Rattle.terms.specs.declared.letters.Letter.TheVariants.{Begin, Commit, GiveUp, Retry, Back, Asks}
 use Rattle.terms.specs.declared.refusals.Field.TheVariants.{First}
 use Rattle.terms.specs.Limits.{judged_jobs}
 use Rattle.conflict.specs.declared.action.Action.{Action}
 use Rattle.conflict.specs.declared.action.Mark.{Mark}
 use Rattle.conflict.specs.declared.action.Event.{Event}
 use Rattle.conflict.specs.declared.action.Event.TheVariants.{Does, Ends}
-use Rattle.conflict.specs.History.{History, job_of}
+use Rattle.conflict.specs.History.{History}
 use Rattle.conflict.specs.Dirty.{FirstDirty}
-use Rattle.text_rules.specs.declared.EventReading.{EventReading}
-use Rattle.text_rules.specs.declared.EventReading.TheVariants.{Says, Bad}
-use Rattle.history_lines.specs.HistoryText.{event_of, events_in}
-use Rattle.history_lines.specs.LineTable.{outside, place_at, AllFaultless}
-use Rattle.history_lines.proofs.CleanLines.{not_outside, clean_line}
+use Rattle.text_rules.specs.declared.Reading.{Reading}
+use Rattle.text_rules.specs.declared.Reading.TheVariants.{Good, Bad}
+use Rattle.judge_rules.specs.HistoryText.{event_of, events_in}
+use Rattle.judge_rules.specs.LineTable.{outside, reading_at, lines_before, AllFaultless}
+use Rattle.judge_rules.proofs.CleanLines.{clean_line}
+use Rattle.judge_rules.proofs.FewJobs.{not_outside}
 
 -- a job that the judge takes
 abbrev Judged : ℕ → Type 0
@@ -38,14 +40,19 @@ module _ {P : Type 0} (h before : History) (a : Action) (after : History) (later
   not_a_mark m job q = first_or_later (Ends m job) q (λ e. let z : ◌≡◌ {A = ℕ} 0 1 = cc in absurd (omega arith))
 
   -- the event of a line comes before the rest
-  line_or_later : (r : EventReading) → outside r ≡ false → event_of r ++ h ≡ before ++ Does a ∷ after → (Judged a.job → P) → P
+  line_or_later : (r : Reading) → outside r ≡ false → event_of r ++ h ≡ before ++ Does a ∷ after → (Judged a.job → P) → P
+  unfolding event_of
   line_or_later (Bad at) o q one = later before q
-  line_or_later (Says (Ends m job)) o q one = not_a_mark m job q
-  line_or_later (Says (Does x)) o q one =
-      first_or_later _ q (λ e. let j : x ≡ a = cc in one (subst (λ y. Judged y.job) j (not_outside x.job o)))
+  line_or_later (Good Begin job cell) o q one = later before q
+  line_or_later (Good Commit job cell) o q one = not_a_mark _ job q
+  line_or_later (Good GiveUp job cell) o q one = not_a_mark _ job q
+  line_or_later (Good Retry job cell) o q one = later before q
+  line_or_later (Good Back job cell) o q one = not_a_mark _ job q
+  line_or_later (Good (Asks x) job cell) o q one =
+      first_or_later _ q (λ e. let j : job ≡ a.job = cc in one (subst Judged j (not_outside job o)))
 
 -- if no line has a job outside, a job that acts on them is 1 to 255
-acts_within : (rs : List EventReading) → ((k : ℕ) → k < length rs → outside (get_or rs k (Bad First)) ≡ false) → (before : History) (a : Action) (after : History) → events_in rs ≡ before ++ Does a ∷ after → Judged a.job
+acts_within : (rs : List Reading) → ((k : ℕ) → k < length rs → outside (get_or rs k (Bad First)) ≡ false) → (before : History) (a : Action) (after : History) → events_in rs ≡ before ++ Does a ∷ after → Judged a.job
 unfolding events_in
 acts_within [] all [] a after q = let z : ◌≡◌ {A = ℕ} 0 1 = cc in absurd (omega arith)
 acts_within [] all (b ∷ before) a after q = let z : ◌≡◌ {A = ℕ} 0 1 = cc in absurd (omega arith)
@@ -53,13 +60,13 @@ acts_within (r ∷ rs) all before a after q =
     line_or_later (events_in rs) before a after (λ ahead e. acts_within rs (λ k h. all (suc k) (omega arith)) ahead a after e) r (all 0 (omega arith)) q (λ w. w)
 
 -- no line of a faultless text has a job outside
-all_inside : (rs : List EventReading) → AllFaultless rs → (k : ℕ) → k < length rs → outside (get_or rs k (Bad First)) ≡ false
+all_inside : (rs : List Reading) → AllFaultless rs → (k : ℕ) → k < length rs → outside (get_or rs k (Bad First)) ≡ false
 all_inside rs all k h =
     let less_one : suc k - 1 ≡ k = omega arith in
-    subst (λ i. outside (get_or rs i (Bad First)) ≡ false) less_one (clean_line (place_at rs (suc k)) (all (suc k) (omega arith) h)).inside
+    subst (λ i. outside (get_or rs i (Bad First)) ≡ false) less_one (clean_line (suc k) (lines_before rs (suc k)) (reading_at rs (suc k)) (all (suc k) (omega arith) h)).inside
 
 -- reader and writer of a faultless text's first dirty read are 1 to 255
-pub dirty_within : (rs : List EventReading) → AllFaultless rs → (reader writer : ℕ) → FirstDirty (events_in rs) reader writer → Judged reader × Judged writer
+pub dirty_within : (rs : List Reading) → AllFaultless rs → (reader writer : ℕ) → FirstDirty (events_in rs) reader writer → Judged reader × Judged writer
 dirty_within rs all reader writer f =
     let d = f.dirty_read in (
       subst Judged d.reads_by (acts_within rs (all_inside rs all) (d.before ++ Does d.write ∷ d.between) d.read d.after d.lines),

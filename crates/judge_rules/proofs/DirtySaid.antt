@@ -8,9 +8,9 @@ use lib.ListN.{length}
 use Rattle.conflict.specs.DirtyRuns.{FirstByRuns}
 use Rattle.conflict.proofs.DirtyRuns.{first_by_runs}
 use Rattle.judge_rules.specs.declared.verdict.Verdict.TheVariants.{Dirty}
-use Rattle.history_lines.specs.HistoryText.{readings_of, events_in}
+use Rattle.judge_rules.specs.HistoryText.{readings_of, events_in}
 use Rattle.judge_rules.specs.Judgement.{judgement_of}
-use Rattle.history_lines.specs.LineTable.{AllFaultless}
+use Rattle.judge_rules.specs.LineTable.{AllFaultless}
 use Rattle.judge_rules.proofs.JudgedTexts.{dirty_said_exactly}
 
 -- DIRTY BY RUNS: it is said with this reader and this writer exactly if the runs of the history that the lines say have them

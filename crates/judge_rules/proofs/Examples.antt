@@ -6,25 +6,22 @@ use mathlib.Core.Path.{◌≡◌, refl}
 use mathlib.Core.List.{List, [], ◌∷◌, map}
 use Rattle.laws.specs.Lists.{member, put, filled}
 use Rattle.laws.specs.Sorted.{insert, sorted}
-use Rattle.laws.specs.Tables.{first_due}
+use Rattle.conflict.specs.Modes.{recorded}
 use Rattle.conflict.specs.declared.action.Kind.TheVariants.{Read, Write, Increment}
 use Rattle.conflict.specs.declared.action.Mark.TheVariants.{Commit, Back}
 use Rattle.conflict.specs.declared.action.Event.{Event}
 use Rattle.conflict.specs.declared.action.Event.TheVariants.{Does, Ends}
 use Rattle.conflict.specs.Schedule.{agree, conflicts, keep, touches, edge}
-use Rattle.conflict.specs.History.{History, job_of, cell_of, is_commit, is_back, marked, part_of, committed_part, commits, commit_order}
+use Rattle.conflict.specs.History.{History, is_commit, is_back, marked, part_of, committed_part, commits, commit_order}
 use Rattle.conflict.specs.Runs.{is_end, ended}
 use Rattle.conflict.specs.Dirty.{changes, spoils, look_back, writer_of, read_or_later, dirty_from, dirty_of}
 use Rattle.text_rules.specs.Quoted.{bytes}
-use Rattle.text_rules.specs.Lines.{parts, field_ahead, after_field, is_digit, digits_only, value_from, shortest, is_number, end_ahead}
-use Rattle.text_rules.specs.Alphabets.{at_end, number_ahead, value_ahead, after_number, before, number_then, ending, numbers_in, behind, line_by, read_fields}
-use Rattle.text_rules.specs.HistoryLines.{read_history}
+use Rattle.text_rules.specs.Lines.{parts, field_ahead, after_field, is_digit, digits_only, value_from, shortest, is_number, number_then, ending, cell_part, job_part, letter_in, letter_part, read_line}
 use Rattle.text_rules.specs.Split.{in_front, lines_of}
 use Rattle.judge_rules.specs.Order.{preceded, first, ready, without, ends, leads, taken, order_of, stuck}
 use Rattle.judge_rules.specs.Knot.{predecessor, up_to, from, walk, least, turn_to, turn, knot_in}
 use Rattle.judge_rules.specs.Judged.{Finding, orderly, knotted, finding_by, judged, jobs_of, finding_of}
-use Rattle.history_lines.specs.HistoryText.{readings_of, or_later, first_faulty, events_in, bare}
-use Rattle.history_lines.specs.LineTable.{rows, fault_of, ends as line_ends}
+use Rattle.judge_rules.specs.HistoryText.{readings_of, fault_of_good, fault_of, line_fault, ended_after, or_later, first_faulty, event_of, events_in, bare}
 use Rattle.judge_rules.specs.Judgement.{say_finding, say_history, say_lines, judgement_of, in_numbers}
 use Rattle.judge_rules.specs.JudgedSet.{tells, told, cases}
 
@@ -104,5 +101,5 @@ tried = refl
 
 -- each of these texts is told as listed
 pub all_told : map tells cases ≡ map told cases
-unfolding bytes parts field_ahead after_field is_digit digits_only value_from shortest is_number end_ahead at_end number_ahead value_ahead after_number before number_then ending numbers_in behind line_by read_fields in_front lines_of member put agree conflicts keep touches edge is_commit is_back marked part_of committed_part commit_order preceded first ready without ends leads taken order_of stuck predecessor up_to from walk least turn_to turn knot_in finding_by judged insert sorted jobs_of finding_of read_history rows first_due fault_of line_ends readings_of or_later first_faulty events_in bare commits is_end ended changes spoils look_back writer_of read_or_later dirty_from dirty_of filled say_finding say_history say_lines judgement_of in_numbers
+unfolding bytes parts field_ahead after_field is_digit digits_only value_from shortest is_number number_then ending cell_part job_part letter_in letter_part read_line in_front lines_of member put recorded agree conflicts keep touches edge is_commit is_back marked part_of committed_part commit_order preceded first ready without ends leads taken order_of stuck predecessor up_to from walk least turn_to turn knot_in finding_by judged insert sorted jobs_of finding_of readings_of fault_of_good fault_of line_fault ended_after or_later first_faulty event_of events_in bare commits is_end ended changes spoils look_back writer_of read_or_later dirty_from dirty_of filled say_finding say_history say_lines judgement_of in_numbers
 all_told = refl

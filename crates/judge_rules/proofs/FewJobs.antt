@@ -3,26 +3,28 @@
 use Prim.Native.Nat.{ℕ, zero, suc, ◌-◌, ◌≤◌, ◌<◌}
 use mathlib.Core.Path.{◌≡◌, refl, sym, ap, ◌∙◌, subst}
 use mathlib.Core.Logic.{◌≢◌}
-use mathlib.Core.Bool.{true, false, ◌&&◌}
+use mathlib.Core.Bool.{true, false, not, ◌&&◌}
 use mathlib.Core.List.{List, [], ◌∷◌, ◌++◌}
 use native.Mathlib.Omega.{arith}
-use lib.Dec.{eqb}
+use lib.Dec.{leb, eqb}
 use lib.ListN.{length, get_or}
-use borrow.Author.Tests.{eqb-true, eqb-false}
+use borrow.Author.Tests.{eqb-true, eqb-false, leb-true, not-false}
 use Rattle.laws.specs.Choice.{by_test, not_both}
 use Rattle.laws.specs.Lists.{member, distinct}
-use Rattle.laws.proofs.Parts.{and_first, or_either}
+use Rattle.laws.proofs.Parts.{and_first, and_second, or_either}
+use Rattle.terms.specs.declared.letters.Letter.TheVariants.{Begin, Commit, GiveUp, Retry, Back, Asks}
 use Rattle.terms.specs.declared.refusals.Field.TheVariants.{First}
 use Rattle.terms.specs.Limits.{judged_jobs}
 use Rattle.conflict.specs.declared.action.Mark.{Mark}
-use Rattle.conflict.specs.declared.action.Event.TheVariants.{Does, Ends}
-use Rattle.conflict.specs.History.{History, job_of, is_commit, marked}
+use Rattle.conflict.specs.declared.action.Mark.TheVariants.{Commit as commits, GiveUp as gives_up, Back as goes_back}
+use Rattle.conflict.specs.declared.action.Event.TheVariants.{Ends}
+use Rattle.conflict.specs.History.{History, is_commit, marked}
 use Rattle.conflict.proofs.OneEvent.{marked_none, marked_does, marked_ends}
-use Rattle.text_rules.specs.declared.EventReading.{EventReading}
-use Rattle.text_rules.specs.declared.EventReading.TheVariants.{Says, Bad}
-use Rattle.history_lines.specs.HistoryText.{event_of, events_in}
-use Rattle.history_lines.specs.LineTable.{outside, place_at, AllFaultless}
-use Rattle.history_lines.proofs.CleanLines.{not_outside, clean_line}
+use Rattle.text_rules.specs.declared.Reading.{Reading}
+use Rattle.text_rules.specs.declared.Reading.TheVariants.{Good, Bad}
+use Rattle.judge_rules.specs.HistoryText.{event_of, events_in}
+use Rattle.judge_rules.specs.LineTable.{outside, reading_at, lines_before, AllFaultless}
+use Rattle.judge_rules.proofs.CleanLines.{clean_line}
 use Rattle.judge_rules.proofs.Walking.{no_more}
 
 -- the numbers from n down to 1
@@ -48,6 +50,12 @@ pub at_most_255 : (js : List ℕ) → distinct js ≡ true → ((j : ℕ) → me
 at_most_255 js d within =
     omega (arith, no_more js (countdown judged_jobs) d (λ j m. counted judged_jobs j (within j m).0 (within j m).1), counted_length judged_jobs)
 
+-- a job that is not outside is 1 to 255
+pub not_outside : (job : ℕ) → not (leb 1 job && leb job judged_jobs) ≡ false → (1 ≤ job) × (job ≤ judged_jobs)
+not_outside job e =
+    let both : (leb 1 job && leb job judged_jobs) ≡ true = not-false (leb 1 job && leb job judged_jobs) e in
+    (leb-true 1 job (and_first (leb 1 job) (leb job judged_jobs) both), leb-true job judged_jobs (and_second (leb 1 job) (leb job judged_jobs) both))
+
 -- a job with a c has it on this line, and then it is 1 to 255, or on a later one
 marked_here : {P : Type 0} (m : Mark) (job j : ℕ) (h : History) → marked is_commit j (Ends m job ∷ h) ≡ true → (job ≡ j → P) → (marked is_commit j h ≡ true → P) → P
 marked_here m job j h e one' two' =
@@ -55,24 +63,29 @@ marked_here m job j h e one' two' =
     (λ t. one' (eqb-true job j (and_first (eqb job j) (is_commit m) t))) two'
 
 -- the same, by how the line reads
-marked_line : {P : Type 0} (r : EventReading) (h : History) (j : ℕ) → outside r ≡ false → marked is_commit j (event_of r ++ h) ≡ true →
+marked_line : {P : Type 0} (r : Reading) (h : History) (j : ℕ) → outside r ≡ false → marked is_commit j (event_of r ++ h) ≡ true →
     ((1 ≤ j) × (j ≤ judged_jobs) → P) → (marked is_commit j h ≡ true → P) → P
+unfolding event_of
 marked_line (Bad at) h j o e one' two' = two' e
-marked_line (Says (Does a)) h j o e one' two' = two' (sym (marked_does is_commit j a h) ∙ e)
-marked_line (Says (Ends m job)) h j o e one' two' = marked_here m job j h e (λ q. one' (subst (λ x. (1 ≤ x) × (x ≤ judged_jobs)) q (not_outside job o))) two'
+marked_line (Good Begin job cell) h j o e one' two' = two' e
+marked_line (Good Commit job cell) h j o e one' two' = marked_here commits job j h e (λ q. one' (subst (λ x. (1 ≤ x) × (x ≤ judged_jobs)) q (not_outside job o))) two'
+marked_line (Good GiveUp job cell) h j o e one' two' = marked_here gives_up job j h e (λ q. one' (subst (λ x. (1 ≤ x) × (x ≤ judged_jobs)) q (not_outside job o))) two'
+marked_line (Good Retry job cell) h j o e one' two' = two' e
+marked_line (Good Back job cell) h j o e one' two' = marked_here goes_back job j h e (λ q. one' (subst (λ x. (1 ≤ x) × (x ≤ judged_jobs)) q (not_outside job o))) two'
+marked_line (Good (Asks a) job cell) h j o e one' two' = two' (sym (marked_does is_commit j _ h) ∙ e)
 
 -- if no line has a job outside, a job with a c on them is 1 to 255
-marked_within : (rs : List EventReading) → ((k : ℕ) → k < length rs → outside (get_or rs k (Bad First)) ≡ false) → (j : ℕ) → marked is_commit j (events_in rs) ≡ true → (1 ≤ j) × (j ≤ judged_jobs)
+marked_within : (rs : List Reading) → ((k : ℕ) → k < length rs → outside (get_or rs k (Bad First)) ≡ false) → (j : ℕ) → marked is_commit j (events_in rs) ≡ true → (1 ≤ j) × (j ≤ judged_jobs)
 unfolding events_in
 marked_within [] all j e = not_both e (marked_none is_commit j)
 marked_within (r ∷ rs) all j e =
     marked_line r (events_in rs) j (all 0 (omega arith)) e (λ w. w) (λ m. marked_within rs (λ k h. all (suc k) (omega arith)) j m)
 
 -- the jobs with a c in a faultless text are 1 to 255
-pub committed_within : (rs : List EventReading) → AllFaultless rs → (j : ℕ) → marked is_commit j (events_in rs) ≡ true → (1 ≤ j) × (j ≤ judged_jobs)
+pub committed_within : (rs : List Reading) → AllFaultless rs → (j : ℕ) → marked is_commit j (events_in rs) ≡ true → (1 ≤ j) × (j ≤ judged_jobs)
 committed_within rs all j m =
     marked_within rs
-    (λ k h. subst (λ i. outside (get_or rs i (Bad First)) ≡ false) (less_one k) (clean_line (place_at rs (suc k)) (all (suc k) (omega arith) h)).inside) j m
+    (λ k h. subst (λ i. outside (get_or rs i (Bad First)) ≡ false) (less_one k) (clean_line (suc k) (lines_before rs (suc k)) (reading_at rs (suc k)) (all (suc k) (omega arith) h)).inside) j m
   where
     less_one : (k : ℕ) → suc k - 1 ≡ k
     less_one k = omega arith

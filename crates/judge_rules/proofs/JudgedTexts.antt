@@ -14,9 +14,9 @@ use Rattle.judge_rules.specs.declared.verdict.Verdict.TheVariants.{Orderly, Knot
 use Rattle.judge_rules.specs.Judged.{orderly, knotted, jobs_of}
 use Rattle.judge_rules.specs.Meant.{SmallestFirst}
 use Rattle.judge_rules.specs.Meant.Says.{says_order, says_cycle}
-use Rattle.history_lines.specs.HistoryText.{readings_of, events_in}
+use Rattle.judge_rules.specs.HistoryText.{readings_of, events_in}
 use Rattle.judge_rules.specs.Judgement.{Judgement, judgement_of}
-use Rattle.history_lines.specs.LineTable.{AllFaultless}
+use Rattle.judge_rules.specs.LineTable.{AllFaultless}
 use Rattle.judge_rules.specs.Answers.{InDirt, InOrder, InKnot, Answers}
 use Rattle.judge_rules.specs.Answers.Answers.{short, faulty, in-dirt, in_order, in-knot}
 use Rattle.judge_rules.proofs.SmallestFirst.{smallest_first_unique}

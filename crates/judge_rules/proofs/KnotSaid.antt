@@ -12,9 +12,9 @@ use Rattle.conflict.specs.Dirty.{IsDirty}
 use Rattle.judge_rules.specs.declared.verdict.Verdict.TheVariants.{Knot}
 use Rattle.judge_rules.specs.Judged.{Finding, knotted, jobs_of, finding_of}
 use Rattle.judge_rules.specs.Meant.Says.{says_cycle}
-use Rattle.history_lines.specs.HistoryText.{readings_of, events_in}
+use Rattle.judge_rules.specs.HistoryText.{readings_of, events_in}
 use Rattle.judge_rules.specs.Judgement.{judgement_of}
-use Rattle.history_lines.specs.LineTable.{AllFaultless}
+use Rattle.judge_rules.specs.LineTable.{AllFaultless}
 use Rattle.judge_rules.specs.Answers.{InKnot}
 use Rattle.judge_rules.specs.KnotWorded.{KnotTold}
 use Rattle.judge_rules.proofs.Histories.{knot_refuses, finding_exactly}

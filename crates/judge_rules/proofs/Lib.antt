@@ -18,7 +18,10 @@ pub mod Judging
 pub mod Deciding
 pub mod Histories
 pub mod KnotWorded
+pub mod Readings
+pub mod LineFaults
 pub mod LineBack
+pub mod CleanLines
 pub mod FewJobs
 pub mod DirtyJobs
 pub mod Answering
@@ -28,9 +31,11 @@ pub mod VerdictNumbers
 pub mod JudgedTexts
 pub mod KnotSaid
 pub mod DirtySaid
+pub mod OverBefore
 pub mod BadLines
 pub mod WordedLines
 pub mod AsWorded
+pub mod RecordsSay
 pub mod ReadBack
 pub mod WrittenHistories
 pub mod VerdictLine

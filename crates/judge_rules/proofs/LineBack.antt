@@ -14,12 +14,17 @@ use Rattle.laws.proofs.Parts.{and_first, and_second}
 use Rattle.terms.specs.Words.{newline}
 use Rattle.text_rules.specs.Split.{lines_of, joined, one_line, no_newline, every}
 use Rattle.text_rules.proofs.TextLines.{lines_join, lines_one}
-use Rattle.history_lines.specs.HistoryText.{readings_of, line_at, bare}
-use Rattle.history_lines.specs.LineTable.{lines_before}
+use Rattle.judge_rules.specs.HistoryText.{readings_of, line_at, bare}
+use Rattle.judge_rules.specs.LineTable.{lines_before}
 use Rattle.judge_rules.specs.Answers.{NewlineOff, Stands}
 use Rattle.judge_rules.specs.Answers.NewlineOff.{taken-off, lacks_it}
-use Rattle.history_lines.proofs.Readings.{readings_length}
-use Rattle.history_lines.proofs.PastLines.{joined_append}
+use Rattle.judge_rules.proofs.Readings.{readings_length}
+
+-- joining lines in two parts
+pub joined_append : (ls ms : List (List ℕ)) → joined (ls ++ ms) ≡ joined ls ++ joined ms
+unfolding joined
+joined_append [] ms = refl
+joined_append (l ∷ ls) ms = ap (λ t. l ++ t) (joined_append ls ms) ∙ sym (append_assoc l (joined ls) (joined ms))
 
 -- a line among lines that are each one line is one line
 one_at : (ls : List (List ℕ)) (k : ℕ) → every one_line ls ≡ true → k < length ls → one_line (get_or ls k []) ≡ true

@@ -25,8 +25,8 @@ use Rattle.judge_rules.specs.declared.verdict.Verdict.TheVariants.{Orderly, Knot
 use Rattle.judge_rules.specs.Order.{Edges, preceded, first, ready, without, Taken, ends, leads, taken, order_of, stuck}
 use Rattle.judge_rules.specs.Judged.{orderly, finding_by, judged, jobs_of, finding_of}
 use Rattle.judge_rules.specs.Judgement.{judgement_of}
-use Rattle.history_lines.specs.HistoryText.{readings_of, events_in}
-use Rattle.history_lines.specs.LineTable.{AllFaultless}
+use Rattle.judge_rules.specs.HistoryText.{readings_of, events_in}
+use Rattle.judge_rules.specs.LineTable.{AllFaultless}
 use Rattle.judge_rules.specs.Meant.{SmallestFirst}
 use Rattle.judge_rules.specs.VerdictLine.{verdict_of}
 use Rattle.judge_rules.proofs.Preceded.{preceded_by}

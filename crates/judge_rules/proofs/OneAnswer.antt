@@ -15,29 +15,29 @@ use Rattle.terms.specs.declared.refusals.Refusal.TheVariants.{ShortOrder}
 use Rattle.terms.specs.Limits.{judged_jobs}
 use Rattle.conflict.specs.Dirty.{IsDirty, FirstDirty, dirty_of}
 use Rattle.conflict.proofs.DirtyFound.{dirty_exactly, clean_exactly}
-use Rattle.text_rules.specs.declared.EventReading.{EventReading}
+use Rattle.text_rules.specs.declared.Reading.{Reading}
 use Rattle.text_rules.specs.Split.{lines_of}
 use Rattle.judge_rules.specs.declared.verdict.Verdict.TheVariants.{Orderly, Knot, Dirty, No}
 use Rattle.judge_rules.specs.Judged.{orderly, knotted, finding_of}
 use Rattle.judge_rules.specs.Meant.Says.{says_order, says_cycle}
-use Rattle.history_lines.specs.HistoryText.{readings_of, line_at, Faulty, nobody, first_faulty, events_in, bare, Tells}
+use Rattle.judge_rules.specs.HistoryText.{readings_of, line_at, Faulty, first_faulty, events_in, bare, Tells}
 use Rattle.laws.specs.Lists.{filled}
 use Rattle.laws.proofs.Filled.{fills_only}
 use Rattle.judge_rules.specs.Judgement.{Judgement, say_finding, say_history, say_lines, judgement_of}
-use Rattle.history_lines.specs.LineTable.{Faultless, Due, FirstFault, AllFaultless}
+use Rattle.judge_rules.specs.LineTable.{Faultless, Due, FirstFault, AllFaultless}
 use Rattle.judge_rules.specs.Answers.{Answers}
 use Rattle.judge_rules.specs.Answers.Answers.{short, faulty, in-dirt, in_order, in-knot}
 use Rattle.judge_rules.proofs.Histories.{finding_exactly}
-use Rattle.history_lines.proofs.LineFaults.{finds_fault}
+use Rattle.judge_rules.proofs.LineFaults.{finds_fault}
 use Rattle.judge_rules.proofs.LineBack.{stands_only}
 use Rattle.judge_rules.proofs.Answering.{answers}
 
 -- a line is not both faultless and refused
-never_both : {P : Type 0} (ls : List EventReading) (n : ℕ) (why : Refusal) → Faultless ls n → Due ls n why → P
+never_both : {P : Type 0} (ls : List Reading) (n : ℕ) (why : Refusal) → Faultless ls n → Due ls n why → P
 never_both ls n why f d = let q : ◌≡◌ {A = Option Refusal} none (some why) = sym f ∙ d in let z : ◌≡◌ {A = ℕ} 0 1 = cc in absurd (omega arith)
 
 -- at most one line is the first faulty one, for one reason
-pub one_fault : (ls : List EventReading) (m n : ℕ) (x y : Refusal) → FirstFault ls m x → FirstFault ls n y → (m ≡ n) × (x ≡ y)
+pub one_fault : (ls : List Reading) (m n : ℕ) (x y : Refusal) → FirstFault ls m x → FirstFault ls n y → (m ≡ n) × (x ≡ y)
 one_fault ls m n x y f g =
     by_test (ltb m n) (λ t. never_both ls m x (g.before m f.from (ltb-true m n t)) f.due)
     (λ a. by_test (ltb n m) (λ t. never_both ls n y (f.before n g.from (ltb-true n m t)) g.due)
@@ -50,7 +50,7 @@ one_fault ls m n x y f g =
     (e, cc)))
 
 -- if every line is faultless, none is refused
-pub no_fault : {P : Type 0} (ls : List EventReading) (n : ℕ) (why : Refusal) → AllFaultless ls → FirstFault ls n why → P
+pub no_fault : {P : Type 0} (ls : List Reading) (n : ℕ) (why : Refusal) → AllFaultless ls → FirstFault ls n why → P
 no_fault ls n why all f = never_both ls n why (all n f.from f.to) f.due
 
 -- two answers that say, leave and hand back the same are equal
@@ -65,7 +65,7 @@ module _ (text buffer : List ℕ) where
 
   module _ (room : judged_jobs ≤ length buffer) where
     -- else the lines decide
-    lines_decide : judgement_of text buffer ≡ say_lines buffer text (first_faulty 0 nobody (readings_of text))
+    lines_decide : judgement_of text buffer ≡ say_lines buffer text (first_faulty 1 [] (readings_of text))
     unfolding judgement_of
     lines_decide = rw (le-ltb (length buffer) judged_jobs room)
 
@@ -86,11 +86,11 @@ module _ (text buffer : List ℕ) where
 
     -- so the first faulty line decides
     fault_is : (n : ℕ) (why : Refusal) → FirstFault (readings_of text) n why → judgement_of text buffer ≡ record { said = No n why; order = buffer; line = bare (line_at (lines_of text) n) }
-    fault_is n why f = lines_decide ∙ fault_by n why f (first_faulty 0 nobody (readings_of text)) (finds_fault (readings_of text))
+    fault_is n why f = lines_decide ∙ fault_by n why f (first_faulty 1 [] (readings_of text)) (finds_fault (readings_of text))
 
     -- and a faultless text gets the verdict
     verdict_is : AllFaultless (readings_of text) → judgement_of text buffer ≡ say_history buffer (events_in (readings_of text)) (dirty_of (events_in (readings_of text)))
-    verdict_is all = lines_decide ∙ verdict_by all (first_faulty 0 nobody (readings_of text)) (finds_fault (readings_of text))
+    verdict_is all = lines_decide ∙ verdict_by all (first_faulty 1 [] (readings_of text)) (finds_fault (readings_of text))
 
     -- if it is dirty, reader and writer are told
     dirt_is : AllFaultless (readings_of text) → (i j : ℕ) → FirstDirty (events_in (readings_of text)) i j → judgement_of text buffer ≡ record { said = Dirty i j; order = filled (i ∷ j ∷ []) buffer; line = [] }

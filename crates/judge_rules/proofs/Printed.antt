@@ -23,8 +23,8 @@ use Rattle.judge_rules.specs.declared.verdict.Verdict.{Verdict}
 use Rattle.judge_rules.specs.declared.verdict.Verdict.TheVariants.{Orderly, Knot, Dirty, No}
 use Rattle.judge_rules.specs.Judged.{jobs_of}
 use Rattle.judge_rules.specs.Judgement.{judgement_of}
-use Rattle.history_lines.specs.HistoryText.{readings_of, events_in}
-use Rattle.history_lines.specs.LineTable.{FirstFault, AllFaultless}
+use Rattle.judge_rules.specs.HistoryText.{readings_of, events_in}
+use Rattle.judge_rules.specs.LineTable.{FirstFault, AllFaultless}
 use Rattle.judge_rules.specs.Meant.{SmallestFirst, Takes, Shown}
 use Rattle.judge_rules.specs.VerdictLine.{say_line, judged_line, verdict_of}
 use Rattle.judge_rules.proofs.Refusing.{refused_exactly}

@@ -3,16 +3,19 @@
 use Prim.Native.Nat.{ℕ, ◌≤◌, ◌<◌}
 use mathlib.Core.Path.{◌≡◌, refl, ap}
 use mathlib.Core.Logic.{◌↔◌}
+use mathlib.Core.Bool.{true}
 use mathlib.Core.List.{List, []}
 use native.Mathlib.Omega.{arith}
 use lib.ListN.{length, take, drop}
+use Rattle.laws.proofs.Lists.{first_holds}
 use Rattle.terms.specs.declared.refusals.Refusal.{Refusal}
 use Rattle.terms.specs.declared.refusals.Refusal.TheVariants.{ShortOrder}
+use Rattle.text_rules.specs.declared.Reading.{Reading}
 use Rattle.text_rules.specs.Split.{joined}
 use Rattle.judge_rules.specs.declared.verdict.Verdict.TheVariants.{No}
-use Rattle.history_lines.specs.HistoryText.{readings_of}
+use Rattle.judge_rules.specs.HistoryText.{readings_of}
 use Rattle.judge_rules.specs.Judgement.{Judgement, judgement_of, line_from}
-use Rattle.history_lines.specs.LineTable.{FirstFault}
+use Rattle.judge_rules.specs.LineTable.{reading_at, lines_before, holds, order, table_says, Due, FirstFault}
 use Rattle.judge_rules.specs.Answers.{Stands, Answers}
 use Rattle.judge_rules.specs.Answers.Answers.{short, faulty, in-dirt, in_order, in-knot}
 use Rattle.judge_rules.proofs.Answering.{answers}
@@ -98,3 +101,8 @@ module _ (text buffer : List ℕ) where
   -- after a refusal the order buffer holds what it held
   pub refusal_keeps : (n : ℕ) (why : Refusal) → (judgement_of text buffer).said ≡ No n why → (judgement_of text buffer).order ≡ buffer
   refusal_keeps n why e = refused_cases (judgement_of text buffer) (answers text buffer) n why e (λ z w g l o. o) (λ room f s o. o)
+
+-- a refusal that is due for a line is one whose row of the table holds for it
+pub due_holds : (rs : List Reading) (n : ℕ) (why : Refusal) → Due rs n why → holds n (lines_before rs n) (reading_at rs n) why ≡ true
+unfolding table_says
+due_holds rs n why e = first_holds (holds n (lines_before rs n) (reading_at rs n)) order why e

@@ -18,7 +18,7 @@ use Rattle.conflict.proofs.DirtyFound.{first_is_dirty, dirty_first}
 use Rattle.text_rules.specs.Records.{word_line}
 use Rattle.judge_rules.specs.declared.verdict.Verdict.{Verdict}
 use Rattle.judge_rules.specs.declared.verdict.Verdict.TheVariants.{Orderly, Knot, Dirty, No}
-use Rattle.history_lines.specs.HistoryText.{readings_of, events_in}
+use Rattle.judge_rules.specs.HistoryText.{readings_of, events_in}
 use Rattle.judge_rules.specs.Judgement.{judgement_of}
 use Rattle.judge_rules.specs.AsWorded.{SoundText}
 use Rattle.judge_rules.proofs.AsWorded.{dirty_as_worded, orderly_as_worded, knot_as_worded, no_as_worded}

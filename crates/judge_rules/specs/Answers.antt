@@ -13,8 +13,8 @@ use Rattle.judge_rules.specs.declared.verdict.Verdict.TheVariants.{Orderly, Knot
 use Rattle.judge_rules.specs.Judged.{jobs_of}
 use Rattle.judge_rules.specs.Meant.{SmallestFirst, Knotted, Takes, Shown}
 use Rattle.judge_rules.specs.Judgement.{Judgement}
-use Rattle.history_lines.specs.HistoryText.{readings_of, line_at, events_in}
-use Rattle.history_lines.specs.LineTable.{lines_before, FirstFault, AllFaultless}
+use Rattle.judge_rules.specs.HistoryText.{readings_of, line_at, events_in}
+use Rattle.judge_rules.specs.LineTable.{lines_before, FirstFault, AllFaultless}
 
 -- the bytes are a line without its newline, which the last line of a text may lack
 pub data NewlineOff : List ℕ → List ℕ → Type 0 where

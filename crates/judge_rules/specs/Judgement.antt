@@ -12,8 +12,8 @@ use Rattle.text_rules.specs.Split.{lines_of, joined}
 use Rattle.judge_rules.specs.declared.verdict.Verdict.{Verdict}
 use Rattle.judge_rules.specs.declared.verdict.Verdict.TheVariants.{Orderly, Knot, Dirty, No}
 use Rattle.judge_rules.specs.Judged.{Finding, orderly, knotted, finding_of}
-use Rattle.history_lines.specs.HistoryText.{readings_of, line_at, Faulty, nobody, first_faulty, events_in, bare}
-use Rattle.history_lines.specs.LineTable.{lines_before}
+use Rattle.judge_rules.specs.HistoryText.{readings_of, line_at, Faulty, first_faulty, events_in, bare}
+use Rattle.judge_rules.specs.LineTable.{lines_before}
 
 -- what is said, what the buffer then holds, and the line handed back
 pub record Judgement : Type 0 where
@@ -40,7 +40,7 @@ say_lines buffer text (some f) = record { said = No f.number f.why; order = buff
 unfoldable pub judgement_of : List ℕ → List ℕ → Judgement
 judgement_of text buffer =
     pick (ltb (length buffer) judged_jobs) (record { said = No 0 ShortOrder; order = buffer; line = [] })
-    (say_lines buffer text (first_faulty 0 nobody (readings_of text)))
+    (say_lines buffer text (first_faulty 1 [] (readings_of text)))
 
 -- where the part handed back starts in the text: with a refusal of a line, after all lines before it; in all other answers, and for 14, whose line number is 0,
 -- at the text's start (01, Lines: as it stands in the caller's text)

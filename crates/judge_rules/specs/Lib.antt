@@ -3,7 +3,10 @@ pub mod Knot
 pub mod Judged
 pub mod Meant
 pub mod KnotWorded
+pub mod HistoryText
 pub mod Judgement
+pub mod Arrays
+pub mod LineTable
 pub mod Answers
 pub mod KeepsLimits
 pub mod VerdictLine

@@ -6,9 +6,7 @@ pub mod Functions
 pub mod Sorted
 pub mod Larger
 pub mod Walking
-pub mod DeclaredType
 pub mod Copies
 pub mod Standing
 pub mod Pigeonhole
 pub mod SameOn
-pub mod Tables

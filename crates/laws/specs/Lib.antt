@@ -1,7 +1,6 @@
 pub mod Choice
 pub mod Unique
 pub mod Lists
-pub mod Tables
 pub mod Functions
 pub mod Sorted
 pub mod Larger

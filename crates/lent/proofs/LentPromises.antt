@@ -24,7 +24,7 @@ use Rattle.stamp_rules.specs.Step as request-step
 use Rattle.stamp_rules.proofs.Promised as by-stamps-kept
 use Rattle.stamp_arrays.specs.declared.state.Stamps.{Stamps}
 use Rattle.stamp_arrays.specs.declared.state.Stamped.{Stamped}
-use Rattle.stamp_arrays.specs.Steps as by_number
+use Rattle.stamp_arrays.specs.Steps as by_number_lem
 use Rattle.stamp_arrays.specs.Steps.{empty_stamps}
 use Rattle.stamp_arrays.specs.Seen as stamps
 use Rattle.stamp_arrays.proofs.Faithful as stamps-follow
@@ -38,7 +38,7 @@ pub locks_calls : (d : Desk) (rs : List Request) → (os : List Outcome) × Lent
 locks_calls = calls_for (λ o. o.desk) (λ d r. locks.step_of d r.kind r.job r.cell) (λ d r. refl)
 
 pub stamps_calls : (d : Stamps) (rs : List Request) → (os : List Stamped) × Lent (λ o. o.stamps) OnStamps d rs os
-stamps_calls = calls_for (λ o. o.stamps) (λ d r. by_number.step_of d r.kind r.job r.cell) (λ d r. refl)
+stamps_calls = calls_for (λ o. o.stamps) (λ d r. by_number_lem.step_of d r.kind r.job r.cell) (λ d r. refl)
 
 -- the lock desk
 pub lent_locks : {d : Desk} {h : History} {rs : List Request} {os : List Outcome} → arrays.Started d h → Lent (λ o. o.desk) OnLocks d rs os

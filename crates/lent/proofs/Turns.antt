@@ -149,15 +149,15 @@ module _ (D S X : Part) (O : Pair D S) (K : Asking X) (step_of : Of D → ℕ �
       abbrev pub Left : Out → SProp 𝓤
       Left = after_block 𝓤 H (after_seq 𝓤 H (Wp 𝓤 H C Λ En ending (at_return 𝓤 H En Post)) (at_return 𝓤 H En Post))
 
-      holds_at : (t : ℕ) (d : Of D) (a : Asks) → Facts t d a → ent 𝓤 (⋆ 𝓛 (At d a)) (Inv t)
-      holds_at t d a g =
+      holds_at_lem : (t : ℕ) (d : Of D) (a : Asks) → Facts t d a → ent 𝓤 (⋆ 𝓛 (At d a)) (Inv t)
+      holds_at_lem t d a g =
           via 𝓤 (guard 𝓤 (Facts t d a) (⋆ 𝓛 (At d a))) (guard_i 𝓤 (Facts t d a) (⋆ 𝓛 (At d a)) g)
           (via 𝓤 (ex 𝓤 (λ (b : Asks). guard 𝓤 (Facts t d b) (⋆ 𝓛 (At d b)))) (ex_i 𝓤 (λ (b : Asks). guard 𝓤 (Facts t d b) (⋆ 𝓛 (At d b))) a)
           (ex_i 𝓤 (λ (e : Of D). ex 𝓤 (λ (b : Asks). guard 𝓤 (Facts t e b) (⋆ 𝓛 (At e b)))) d))
 
       below : (t : ℕ) (d : Of D) (a : Asks) → K.left a < t → Is (row_of D) d (machine D d ∷ []) → Is rowK a (asks_at a ∷ []) → ent 𝓤 (⋆ 𝓛 (At d a)) (Below t)
       below t d a less gd ga =
-          via 𝓤 (Inv (K.left a)) (holds_at (K.left a) d a (refl, gd, ga))
+          via 𝓤 (Inv (K.left a)) (holds_at_lem (K.left a) d a (refl, gd, ga))
           (via 𝓤 (guard 𝓤 (K.left a < t) (Inv (K.left a))) (guard_i 𝓤 (K.left a < t) (Inv (K.left a)) less) (ex_i 𝓤 (λ (u : ℕ). guard 𝓤 (u < t) (Inv u)) (K.left a)))
 
       -- a turn that lends the desk
@@ -229,4 +229,4 @@ module _ (D S X : Part) (O : Pair D S) (K : Asking X) (step_of : Of D → ℕ �
 
       -- the loop
       pub loops : (d : Of D) (a : Asks) → Is (row_of D) d (machine D d ∷ []) → Is rowK a (asks_at a ∷ []) → ent 𝓤 (⋆ 𝓛 (At d a)) (Wp 𝓤 H C Λ En (loop body) Left)
-      loops d a gd ga = via 𝓤 (Inv (K.left a)) (holds_at (K.left a) d a (refl, gd, ga)) (loop_rule 𝓤 H 𝓛.laws 𝓣 ◌<◌ lt-wf_rel.wf En body Left Inv turns (K.left a))
+      loops d a gd ga = via 𝓤 (Inv (K.left a)) (holds_at_lem (K.left a) d a (refl, gd, ga)) (loop_rule 𝓤 H 𝓛.laws 𝓣 ◌<◌ lt-wf_rel.wf En body Left Inv turns (K.left a))

@@ -6,12 +6,12 @@ use mathlib.Core.List.{List, [], ◌∷◌}
 use native.Mathlib.Omega.{arith}
 use lib.Dec.{ltb}
 use Rattle.laws.specs.Choice.{by_test}
-use Rattle.terms.specs.Letters.{byte_of}
+use Rattle.terms.specs.Letters.{byte_of, of_requests}
 use Rattle.terms.specs.Limits.{request_lines}
 use Rattle.conflict.specs.History.{History}
 use Rattle.text_rules.specs.declared.Reading.{Reading}
 use Rattle.text_rules.specs.declared.Reading.TheVariants.{Good, Bad}
-use Rattle.text_rules.specs.RequestLines.{read_request}
+use Rattle.text_rules.specs.Lines.{read_line}
 use Rattle.text_rules.specs.Split.{lines_of}
 use Rattle.desks.specs.Request.{Request}
 use Rattle.desk_rules.specs.Desk.{fresh_desk}
@@ -53,7 +53,7 @@ module _ {S T : Type 0} {see : S → T} {does : Stepping S} {new : ℕ → S} {t
   unfolding run_of line_by
   same_run s n [] = refl
   same_run s n (l ∷ ls) =
-      let r = read_request l in
+      let r = read_line of_requests l in
       let e = same_line s n r in
       by_test (ltb request_lines n) (λ t. rw t)
       (λ g. rw g (ap₂ (λ (t : Told) (ts : List Told). t ∷ ts) (ap (λ x. x.told) e)
@@ -64,7 +64,7 @@ module _ {S T : Type 0} {see : S → T} {does : Stepping S} {new : ℕ → S} {t
   unfolding desk_over line_by
   same_desk s n [] = refl
   same_desk s n (l ∷ ls) =
-      let r = read_request l in
+      let r = read_line of_requests l in
       by_test (ltb request_lines n) (λ t. rw t)
       (λ g. rw g (same_desk (line_started s n r) (n + 1) ls ∙ ap (λ x. desk_over theirs x.desk (n + 1) ls) (same_line s n r)))
 

@@ -12,11 +12,11 @@ use Rattle.laws.specs.Choice.{by_test, not_both}
 use Rattle.laws.specs.Lists.{member}
 use Rattle.terms.specs.declared.refusals.Field.{Field}
 use Rattle.terms.specs.declared.refusals.Refusal.TheVariants.{BadLine}
-use Rattle.terms.specs.Letters.{byte_of}
+use Rattle.terms.specs.Letters.{byte_of, of_requests}
 use Rattle.terms.specs.Limits.{request_lines}
 use Rattle.text_rules.specs.declared.Reading.{Reading}
 use Rattle.text_rules.specs.declared.Reading.TheVariants.{Good, Bad}
-use Rattle.text_rules.specs.RequestLines.{refusal_of, read_request}
+use Rattle.text_rules.specs.Lines.{refusal_of, read_line}
 use Rattle.text_rules.specs.Split.{lines_of}
 use Rattle.desks.specs.declared.Answer.TheVariants.{No}
 use Rattle.desks.specs.Request.{Request}
@@ -33,7 +33,7 @@ use Rattle.program_rules.specs.LinesTold.{LinesTold, no_line, no_more, a_line}
 
 module _ {S : Type 0} (step : Stepping S) where
   -- a bad line leaves the desk as it was, and nobody is woken
-  pub bad_line_unseen : (d : S) (n : ℕ) (l : List ℕ) (at : Field) → read_request l ≡ Bad at → ((line_by step d n l).desk ≡ d) × ((line_by step d n l).told.wakes ≡ [])
+  pub bad_line_unseen : (d : S) (n : ℕ) (l : List ℕ) (at : Field) → read_line of_requests l ≡ Bad at → ((line_by step d n l).desk ≡ d) × ((line_by step d n l).told.wakes ≡ [])
   unfolding line_by answered
   bad_line_unseen d n l at e = (ap (λ r. (answered step d n r).desk) e, ap (λ r. (answered step d n r).told.wakes) e)
 
@@ -51,9 +51,9 @@ module _ {S : Type 0} (step : Stepping S) where
     answered_exactly d n (Good l job cell) at = (λ e. absurd (never d (record { kind = byte_of l; job = job; cell = cell }) at e), λ e. let z : ◌≡◌ {A = ℕ} 0 1 = cc in absurd (omega arith))
 
     -- a line is answered with 9 and a field exactly where it is bad at that field
-    pub line_9_exactly : (d : S) (n : ℕ) (l : List ℕ) (at : Field) → ((line_by step d n l).told.said ≡ No (BadLine at)) ↔ (refusal_of (read_request l) ≡ some (BadLine at))
+    pub line_9_exactly : (d : S) (n : ℕ) (l : List ℕ) (at : Field) → ((line_by step d n l).told.said ≡ No (BadLine at)) ↔ (refusal_of (read_line of_requests l) ≡ some (BadLine at))
     unfolding line_by
-    line_9_exactly d n l = answered_exactly d n (read_request l)
+    line_9_exactly d n l = answered_exactly d n (read_line of_requests l)
 
     -- all lines
     pub lines_told : (d : S) (n : ℕ) (ls : List (List ℕ)) → LinesTold n ls (run_of step d n ls)
@@ -61,7 +61,7 @@ module _ {S : Type 0} (step : Stepping S) where
     lines_told d n [] = no_line
     lines_told d n (l ∷ ls) =
         by_test (ltb request_lines n) (λ t. rw t (no_more (ltb-true request_lines n t)))
-        (λ f. rw f (a_line (ltb-false request_lines n f) (line_number d n (read_request l)) (answered_exactly d n (read_request l)) (lines_told (answered step d n (read_request l)).desk (n + 1) ls)))
+        (λ f. rw f (a_line (ltb-false request_lines n f) (line_number d n (read_line of_requests l)) (answered_exactly d n (read_line of_requests l)) (lines_told (answered step d n (read_line of_requests l)).desk (n + 1) ls)))
 
 -- a step of the paper's desk never answers 9
 never_9 : (d : Desk) (r : Request) (at : Field) → (step d r).said ≡ No (BadLine at) → ⊥

@@ -21,11 +21,11 @@ use Rattle.desk_rules.specs.Step.{Started}
 use Rattle.desk_rules.proofs.RecordLimits.{recorded_jobs, recorded_cells}
 use Rattle.desk_rules.proofs.Serial.{serial_history}
 use Rattle.judge_rules.specs.declared.verdict.Verdict.TheVariants.{Orderly, Knot, Dirty, No}
-use Rattle.history_lines.specs.HistoryText.{readings_of, events_in}
+use Rattle.judge_rules.specs.HistoryText.{readings_of, events_in}
 use Rattle.judge_rules.specs.Judged.{jobs_of}
 use Rattle.judge_rules.specs.Judgement.{judgement_of}
 use Rattle.judge_rules.specs.Meant.{SmallestFirst}
-use Rattle.history_lines.specs.LineTable.{FirstFault, AllReadBack, AllFaultless}
+use Rattle.judge_rules.specs.LineTable.{FirstFault, AllReadBack, AllFaultless}
 use Rattle.judge_rules.specs.Answers.{InOrder}
 use Rattle.judge_rules.specs.KeepsLimits.{KeepsLimits}
 use Rattle.judge_rules.specs.VerdictLine.{verdict_of}

@@ -5,12 +5,12 @@ use mathlib.Core.Path.{◌≡◌, refl, ap, ◌∙◌}
 use mathlib.Core.List.{List, [], ◌∷◌, ◌++◌}
 use lib.Dec.{ltb}
 use Rattle.laws.specs.Choice.{by_test}
-use Rattle.terms.specs.Letters.{byte_of}
+use Rattle.terms.specs.Letters.{byte_of, of_requests}
 use Rattle.terms.specs.Limits.{request_lines}
 use Rattle.conflict.specs.History.{History}
 use Rattle.text_rules.specs.declared.Reading.{Reading}
 use Rattle.text_rules.specs.declared.Reading.TheVariants.{Good, Bad}
-use Rattle.text_rules.specs.RequestLines.{read_request}
+use Rattle.text_rules.specs.Lines.{read_line}
 use Rattle.text_rules.specs.Split.{lines_of}
 use Rattle.desks.specs.Request.{Request}
 use Rattle.desk_rules.specs.Desk.{fresh_desk}
@@ -42,7 +42,7 @@ module _ {S : Type 0} (step : Stepping S) where
   run_history d n [] = unfold writes in refl
   run_history d n (l ∷ ls) =
       by_test (ltb request_lines n) (λ t. rw t (unfold writes in refl))
-      (λ f. rw f (line_history d n (read_request l) (requests_from (n + 1) ls) _ (run_history (answered step d n (read_request l)).desk (n + 1) ls)))
+      (λ f. rw f (line_history d n (read_line of_requests l) (requests_from (n + 1) ls) _ (run_history (answered step d n (read_line of_requests l)).desk (n + 1) ls)))
 
   -- the desk after one line: a bad one is no request and changes nothing, and a good one is a step
   line_desk_lem : (d : S) (n : ℕ) (r : Reading) (rs : List Request) → through step (answered step d n r).desk rs ≡ through step d (request_of r ++ rs)
@@ -56,7 +56,7 @@ module _ {S : Type 0} (step : Stepping S) where
   run_desk d n [] = refl
   run_desk d n (l ∷ ls) =
       by_test (ltb request_lines n) (λ t. rw t)
-      (λ f. rw f (run_desk (answered step d n (read_request l)).desk (n + 1) ls ∙ line_desk_lem d n (read_request l) (requests_from (n + 1) ls)))
+      (λ f. rw f (run_desk (answered step d n (read_line of_requests l)).desk (n + 1) ls ∙ line_desk_lem d n (read_line of_requests l) (requests_from (n + 1) ls)))
 
 -- STARTED AT 1: what the history program writes is the history of a desk started at 1 after the requests that the text's lines say
 pub history_from_one : (text : List ℕ) → history_of_run (run_on text) ≡ history_of (fresh_desk 1) (requests_from 1 (lines_of text))

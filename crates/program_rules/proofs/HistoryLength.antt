@@ -7,11 +7,11 @@ use native.Mathlib.Omega.{arith}
 use lib.Dec.{ltb}
 use lib.ListN.{length, length-append}
 use Rattle.laws.specs.Choice.{by_test}
-use Rattle.terms.specs.Letters.{byte_of}
+use Rattle.terms.specs.Letters.{byte_of, of_requests}
 use Rattle.terms.specs.Limits.{cells, request_lines}
 use Rattle.text_rules.specs.declared.Reading.{Reading}
 use Rattle.text_rules.specs.declared.Reading.TheVariants.{Good, Bad}
-use Rattle.text_rules.specs.RequestLines.{read_request}
+use Rattle.text_rules.specs.Lines.{read_line}
 use Rattle.text_rules.specs.Split.{lines_of}
 use Rattle.desks.specs.Request.{Request}
 use Rattle.desks.specs.Stepping.{Stepping}
@@ -37,10 +37,10 @@ module _ {S : Type 0} (step : Stepping S) (waiting : S → ℕ) (few : (d : S) (
   unfolding run_of line_by history_of_run
   run_few d n [] = omega arith
   run_few d n (l ∷ ls) =
-      let o = answered step d n (read_request l) in
+      let o = answered step d n (read_line of_requests l) in
       let rest = history_of_run (run_of step o.desk (n + 1) ls) in
       by_test (ltb request_lines n) (λ e. rw e (omega arith))
-      (λ e. rw e (omega (arith, length-append (recorded o.told) rest, line_few d n (read_request l), run_few o.desk (n + 1) ls)))
+      (λ e. rw e (omega (arith, length-append (recorded o.told) rest, line_few d n (read_line of_requests l), run_few o.desk (n + 1) ls)))
 
 -- on a fresh desk nobody waits: the history of a text has no more records than the text has lines
 pub history_no_longer : (text : List ℕ) → length (history_on text) ≤ length (lines_of text)

@@ -11,19 +11,21 @@ use lib.ListN.{take, set}
 use lib.Seq.{take-suc-set}
 use borrow.Author.Tests.{ltb-true}
 use Rattle.laws.specs.Choice.{pick, by_test, not_both}
+use Rattle.terms.specs.declared.letters.Letter.{Letter}
 use Rattle.terms.specs.declared.refusals.Field.{Field}
-use Rattle.terms.specs.Letters.{byte_of}
+use Rattle.terms.specs.Letters.{byte_of, has_job, has_cell, of_requests}
 use Rattle.terms.specs.Words.{newline}
 use Rattle.terms.specs.Limits.{request_lines}
 use Rattle.text_rules.specs.declared.Reading.{Reading}
 use Rattle.text_rules.specs.declared.Reading.TheVariants.{Good, Bad}
 use Rattle.text_rules.specs.declared.splitter.Splitter.{Splitter}
-use Rattle.text_rules.specs.RequestLines.{request_numbers, lacking, read_request}
-use Rattle.text_rules.specs.Records.{tabbed, line_record}
+use Rattle.text_rules.specs.Fields.{lacking}
+use Rattle.text_rules.specs.Lines.{read_line}
+use Rattle.text_rules.specs.Records.{field, line_record}
 use Rattle.text_rules.specs.Split.{kept, fresh, taken, after_all, Sized, found_at, found_last, has_newline}
 use Rattle.text_rules.proofs.Cuts.{taken_ended}
 use Rattle.text_rules.proofs.Held.{fresh_sized, taken_sized}
-use Rattle.text_rules.proofs.RequestLines.{request_exactly}
+use Rattle.text_rules.proofs.GoodLine.{good_is_record}
 use Rattle.desks.specs.Stepping.{Stepping}
 use Rattle.program_rules.specs.OverLines.{answered, line_by}
 use Rattle.program_rules.specs.Work.{told_bad, unended, owing}
@@ -37,14 +39,14 @@ last_byte (x ∷ []) b = refl
 last_byte (x ∷ y ∷ l) b = last_byte (y ∷ l) b
 
 -- a good line ends in a newline, so what does not is a bad line
-no_newline_bad : (bytes : List ℕ) → has_newline bytes ≡ false → (at : Field) × (read_request bytes ≡ Bad at)
-no_newline_bad bytes f = go (read_request bytes) refl
+no_newline_bad : (which : Letter → Bool) (bytes : List ℕ) → has_newline bytes ≡ false → (at : Field) × (read_line which bytes ≡ Bad at)
+no_newline_bad which bytes f = go (read_line which bytes) refl
   where
-    ends : (letter : ℕ) (ns : List ℕ) → has_newline (line_record letter ns) ≡ true
-    ends letter ns = unfold line_record in last_byte (letter ∷ tabbed ns) newline
+    ends : (l : Letter) (job cell : ℕ) → has_newline (line_record l job cell) ≡ true
+    ends l job cell = unfold line_record in last_byte (byte_of l ∷ (field (has_job l) job ++ field (has_cell l) cell)) newline
 
-    go : (r : Reading) → read_request bytes ≡ r → (at : Field) × (read_request bytes ≡ Bad at)
-    go (Good l job cell) e = not_both (ap has_newline ((request_exactly bytes l job cell).0 e).is ∙ ends (byte_of l) (request_numbers l job cell)) f
+    go : (r : Reading) → read_line which bytes ≡ r → (at : Field) × (read_line which bytes ≡ Bad at)
+    go (Good l job cell) e = not_both (ap has_newline (good_is_record which bytes l job cell e).0 ∙ ends l job cell) f
     go (Bad at) e = (at, e)
 
 -- a line under way does not end in a newline
@@ -91,11 +93,11 @@ pub last_told : {S : Type 0} (step : Stepping S) (d : S) (s : Splitter) → Open
 unfolding tellings telling found_last found_at line_by answered told_bad lacking unended owing
 last_told step d s h =
     by_test s.ended (λ e. rw e)
-    (λ e. by_test (leb s.line request_lines) (λ g. let b = no_newline_bad (take s.len s.kept) (h.ends e) in rw (e, g, b.1)) (λ g. rw (e, g)))
+    (λ e. by_test (leb s.line request_lines) (λ g. let b = no_newline_bad of_requests (take s.len s.kept) (h.ends e) in rw (e, g, b.1)) (λ g. rw (e, g)))
 
 -- and the desk stays as it is, since the line is bad
 pub last_desk : {S : Type 0} (step : Stepping S) (d : S) (s : Splitter) → Open s → desk_after step d (found_last s) ≡ d
 unfolding desk_after telling found_last found_at line_by answered
 last_desk step d s h =
     by_test s.ended (λ e. rw e)
-    (λ e. by_test (leb s.line request_lines) (λ g. let b = no_newline_bad (take s.len s.kept) (h.ends e) in rw (e, g, b.1)) (λ g. rw (e, g)))
+    (λ e. by_test (leb s.line request_lines) (λ g. let b = no_newline_bad of_requests (take s.len s.kept) (h.ends e) in rw (e, g, b.1)) (λ g. rw (e, g)))

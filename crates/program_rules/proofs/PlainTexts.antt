@@ -29,10 +29,10 @@ use Rattle.laws.specs.Standing.{In, first, later}
 use Rattle.text_rules.specs.Decimal.{decimal}
 use Rattle.text_rules.specs.Split.{joined}
 use Rattle.judge_rules.specs.declared.verdict.Verdict.TheVariants.{Orderly, Knot, Dirty, No}
-use Rattle.history_lines.specs.HistoryText.{readings_of, events_in}
+use Rattle.judge_rules.specs.HistoryText.{readings_of, events_in}
 use Rattle.judge_rules.specs.Judged.{jobs_of}
 use Rattle.judge_rules.specs.Judgement.{judgement_of}
-use Rattle.history_lines.specs.LineTable.{FirstFault, AllReadBack, AllFaultless}
+use Rattle.judge_rules.specs.LineTable.{FirstFault, AllReadBack, AllFaultless}
 use Rattle.judge_rules.specs.Meant.{SmallestFirst}
 use Rattle.judge_rules.specs.VerdictLine.{verdict_of}
 use Rattle.judge_rules.specs.Answers.{InOrder}

@@ -3,7 +3,7 @@
 use Prim.Native.Nat.{ℕ}
 use mathlib.Core.Path.{◌≡◌, refl, sym, ap, ap₂, ◌∙◌}
 use mathlib.Core.List.{List, [], ◌∷◌, ◌++◌}
-use Rattle.terms.specs.declared.letters.Letter.TheVariants.{Begin, Commit as commit, GiveUp as give-up, Retry, Asks}
+use Rattle.terms.specs.declared.letters.Letter.TheVariants.{Begin, Commit as commit, GiveUp as give-up, Retry, Back as no-request, Asks}
 use Rattle.terms.specs.declared.letters.Lettered.{Lettered}
 use Rattle.terms.specs.declared.letters.Lettered.TheVariants.{Known, Unknown}
 use Rattle.terms.specs.Letters.{letter_of}
@@ -31,6 +31,7 @@ shows_append (Ends m j ∷ h) k = ap (λ l. ended m j ∷ l) (shows_append h k)
 go_shown : (r : Request) (j : ℕ) (l : Lettered) → history_shows (went_by r j l) ≡ go_shows j l
 unfolding history_shows went_by go_shows
 go_shown r j Unknown = refl
+go_shown r j (Known no-request) = refl
 go_shown r j (Known Begin) = refl
 go_shown r j (Known commit) = refl
 go_shown r j (Known give-up) = refl

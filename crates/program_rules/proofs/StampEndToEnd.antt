@@ -27,10 +27,10 @@ use Rattle.stamp_rules.proofs.NoEventAfterEnd.{started_over}
 use Rattle.stamp_rules.proofs.RecordLimits.{recorded_jobs, recorded_cells, one_record}
 use Rattle.stamp_rules.proofs.Serial.{number_history}
 use Rattle.judge_rules.specs.declared.verdict.Verdict.TheVariants.{Orderly, Knot, Dirty, No}
-use Rattle.history_lines.specs.HistoryText.{readings_of, events_in}
+use Rattle.judge_rules.specs.HistoryText.{readings_of, events_in}
 use Rattle.judge_rules.specs.Judged.{jobs_of}
 use Rattle.judge_rules.specs.Judgement.{judgement_of}
-use Rattle.history_lines.specs.LineTable.{AllReadBack, AllFaultless}
+use Rattle.judge_rules.specs.LineTable.{AllReadBack, AllFaultless}
 use Rattle.judge_rules.specs.KeepsLimits.{KeepsLimits}
 use Rattle.judge_rules.specs.VerdictLine.{verdict_of}
 use Rattle.judge_rules.proofs.JudgedTexts.{dirty_said_exactly}

@@ -8,12 +8,12 @@ use native.Mathlib.Omega.{arith}
 use lib.Dec.{ltb}
 use lib.ListN.{length, length-append}
 use Rattle.laws.specs.Choice.{by_test}
-use Rattle.terms.specs.Letters.{byte_of}
+use Rattle.terms.specs.Letters.{byte_of, of_requests}
 use Rattle.terms.specs.Limits.{request_lines}
 use Rattle.conflict.specs.History.{History, line_of}
 use Rattle.text_rules.specs.declared.Reading.{Reading}
 use Rattle.text_rules.specs.declared.Reading.TheVariants.{Good, Bad}
-use Rattle.text_rules.specs.RequestLines.{read_request}
+use Rattle.text_rules.specs.Lines.{read_line}
 use Rattle.text_rules.specs.Split.{lines_of}
 use Rattle.terms.specs.declared.refusals.Field.{Field}
 use Rattle.terms.specs.declared.refusals.Refusal.TheVariants.{BadLine}
@@ -53,9 +53,9 @@ pub run_started : {S : Type 0} {does : Stepping S} {new : ℕ → S} {d : S} {h 
 unfolding run_of desk_over line_by history_of_run
 run_started {does = does} {new} {d} {h} s n [] = subst (StartedOn does new d) (sym (append-nil h)) s
 run_started {does = does} {new} {d} {h} s n (l ∷ ls) =
-    let o = answered does d n (read_request l) in
+    let o = answered does d n (read_line of_requests l) in
     by_test (ltb request_lines n) (λ e. rw e (subst (StartedOn does new d) (sym (append-nil h)) s))
-    (λ e. rw e (subst (StartedOn does new (desk_over does o.desk (n + 1) ls)) (append_assoc h (recorded o.told) (history_of_run (run_of does o.desk (n + 1) ls))) (run_started (line_started s n (read_request l)) (n + 1) ls)))
+    (λ e. rw e (subst (StartedOn does new (desk_over does o.desk (n + 1) ls)) (append_assoc h (recorded o.told) (history_of_run (run_of does o.desk (n + 1) ls))) (run_started (line_started s n (read_line of_requests l)) (n + 1) ls)))
 
 module _ {S : Type 0} (step : Stepping S) (next : S → ℕ) (each : (d : S) (r : Request) → Gives (next d) (given_by r (step d r).said) (next (step d r).desk)) where
   -- the next number grows by the numbers that a line gives, on any desk whose steps give the next number or none
@@ -73,10 +73,10 @@ module _ {S : Type 0} (step : Stepping S) (next : S → ℕ) (each : (d : S) (r 
   unfolding run_of desk_over line_by given_in
   run_next d n [] = omega arith
   run_next d n (l ∷ ls) =
-      let o = answered step d n (read_request l) in
+      let o = answered step d n (read_line of_requests l) in
       let rest = run_of step o.desk (n + 1) ls in
       by_test (ltb request_lines n) (λ e. rw e (omega arith))
-      (λ e. rw e (omega (arith, run_next o.desk (n + 1) ls, line_next d n (read_request l), length-append (given_by o.told.request o.told.said) (given_in rest))))
+      (λ e. rw e (omega (arith, run_next o.desk (n + 1) ls, line_next d n (read_line of_requests l), length-append (given_by o.told.request o.told.said) (given_in rest))))
 
 -- THE DESK AFTER A TEXT IS A STARTED DESK, and its history is what the history program writes
 pub desk_started : (text : List ℕ) → Started (desk_on text) (history_on text)

@@ -9,9 +9,10 @@ use lib.Dec.{leb, ltb}
 use lib.ListN.{take}
 use borrow.Author.Tests.{ltb-true, ltb-false, le-leb, lt-leb, lt-ltb}
 use Rattle.laws.specs.Choice.{by_test, not_both}
+use Rattle.terms.specs.Letters.{of_requests}
 use Rattle.terms.specs.Limits.{request_lines}
 use Rattle.text_rules.specs.Split.{kept, following, one_line, every, Found, numbered_on}
-use Rattle.text_rules.proofs.RequestLines.{short_request}
+use Rattle.text_rules.proofs.ShortLines.{short_reads}
 use Rattle.desks.specs.Stepping.{Stepping}
 use Rattle.program_rules.specs.OverLines.{answered, line_by, run_of}
 use Rattle.program_rules.specs.Tellings.{telling, tellings, desk_after}
@@ -46,7 +47,7 @@ module _ {S : Type 0} (step : Stepping S) where
   -- a line is told as its first bytes tell it
   pub line_told : (d : S) (n : ℕ) (l : List ℕ) → one_line l ≡ true → line_by step d n (take kept l) ≡ line_by step d n l
   unfolding line_by
-  line_told d n l o = ap (answered step d n) (short_request l o)
+  line_told d n l o = ap (answered step d n) (short_reads of_requests l o)
 
   -- both parts of a test that holds
   pub both : (a b : Bool) → (a && b) ≡ true → (a ≡ true) × (b ≡ true)

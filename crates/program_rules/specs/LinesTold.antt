@@ -4,10 +4,11 @@ use Rattle.std.proofs.Math.Option.{some}
 use Rattle.laws.specs.Choice.{pick}
 use Rattle.terms.specs.declared.refusals.Field.{Field}
 use Rattle.terms.specs.declared.refusals.Refusal.TheVariants.{BadLine}
+use Rattle.terms.specs.Letters.{of_requests}
 use Rattle.terms.specs.Limits.{request_lines}
 use Rattle.text_rules.specs.declared.Reading.{Reading}
 use Rattle.text_rules.specs.declared.Reading.TheVariants.{Good, Bad}
-use Rattle.text_rules.specs.RequestLines.{refusal_of, read_request}
+use Rattle.text_rules.specs.Lines.{refusal_of, read_line}
 use Rattle.desks.specs.declared.Answer.TheVariants.{No}
 use Rattle.desks.specs.Request.{Request}
 use Rattle.program_rules.specs.OverLines.{Told, request_in}
@@ -17,7 +18,7 @@ pub data LinesTold : ℕ → List (List ℕ) → List Told → Type 0 where
   no_line : {n : ℕ} → LinesTold n [] []
   no_more : {n : ℕ} {ls : List (List ℕ)} → request_lines < n → LinesTold n ls []
   a_line : {n : ℕ} {l : List ℕ} {ls : List (List ℕ)} {t : Told} {ts : List Told} → n ≤ request_lines → t.line ≡ n →
-      ((at : Field) → (t.said ≡ No (BadLine at)) ↔ (refusal_of (read_request l) ≡ some (BadLine at))) → LinesTold (n + 1) ls ts → LinesTold n (l ∷ ls) (t ∷ ts)
+      ((at : Field) → (t.said ≡ No (BadLine at)) ↔ (refusal_of (read_line of_requests l) ≡ some (BadLine at))) → LinesTold (n + 1) ls ts → LinesTold n (l ∷ ls) (t ∷ ts)
 
 -- the request in a line; a bad line has none
 unfoldable pub request_of : Reading → List Request
@@ -27,4 +28,4 @@ request_of (Good l job cell) = request_in (Good l job cell) ∷ []
 -- the requests in lines numbered from n on, up to line 1,000,000
 unfoldable pub requests_from : ℕ → List (List ℕ) → List Request
 requests_from n [] = []
-requests_from n (l ∷ ls) = pick (ltb request_lines n) [] (request_of (read_request l) ++ requests_from (n + 1) ls)
+requests_from n (l ∷ ls) = pick (ltb request_lines n) [] (request_of (read_line of_requests l) ++ requests_from (n + 1) ls)

@@ -5,12 +5,12 @@ use Rattle.laws.specs.Choice.{pick}
 use Rattle.terms.specs.declared.letters.Letter.{Letter}
 use Rattle.terms.specs.declared.words.Word.TheVariants.{Wake}
 use Rattle.terms.specs.declared.refusals.Refusal.{Refusal}
-use Rattle.terms.specs.Letters.{byte_of}
+use Rattle.terms.specs.Letters.{byte_of, of_requests}
 use Rattle.terms.specs.Limits.{request_lines}
 use Rattle.conflict.specs.declared.action.Action.{Action}
 use Rattle.text_rules.specs.declared.Reading.{Reading}
 use Rattle.text_rules.specs.declared.Reading.TheVariants.{Good, Bad}
-use Rattle.text_rules.specs.RequestLines.{refusal_of, read_request}
+use Rattle.text_rules.specs.Lines.{refusal_of, read_line}
 use Rattle.text_rules.specs.Records.{answer_record}
 use Rattle.desks.specs.declared.Answer.{Answer}
 use Rattle.desks.specs.declared.Answer.TheVariants.{No}
@@ -60,7 +60,7 @@ answered step d n r = answered_by step d n (request_in r) (refusal_of r)
 
 -- line n, answered
 unfoldable pub line_by : {S : Type 0} → Stepping S → S → ℕ → List ℕ → Lined S
-line_by step d n bytes = answered step d n (read_request bytes)
+line_by step d n bytes = answered step d n (read_line of_requests bytes)
 
 -- the run over lines numbered from n on; nothing is read after line 1,000,000 (01, Lines)
 unfoldable pub run_of : {S : Type 0} → Stepping S → S → ℕ → List (List ℕ) → List Told

@@ -1,6 +1,6 @@
 -- What a line's answer records show, and what its history records show: grants to jobs, and ends of their runs (01, Lines).
 use Rattle.std.specs.Prelude.{ℕ, List, [], ◌∷◌, ◌++◌}
-use Rattle.terms.specs.declared.letters.Letter.TheVariants.{Begin, Commit as commit, GiveUp as give-up, Retry, Asks}
+use Rattle.terms.specs.declared.letters.Letter.TheVariants.{Begin, Commit as commit, GiveUp as give-up, Retry, Back as no-request, Asks}
 use Rattle.terms.specs.declared.letters.Lettered.{Lettered}
 use Rattle.terms.specs.declared.letters.Lettered.TheVariants.{Known, Unknown}
 use Rattle.terms.specs.Letters.{letter_of}
@@ -24,6 +24,7 @@ pub data Shown : Type 0 where
 -- a go shows a grant if the request is a read, write, increment or u, and an end if it is a commit or a give-up
 unfoldable pub go_shows : ℕ → Lettered → List Shown
 go_shows j Unknown = []
+go_shows j (Known no-request) = []
 go_shows j (Known Begin) = []
 go_shows j (Known commit) = ended Commit j ∷ []
 go_shows j (Known give-up) = ended GiveUp j ∷ []

@@ -3,9 +3,11 @@ use Rattle.std.specs.Prelude.{ℕ, zero, suc, ◌+◌, ◌*◌, Bool, true, fals
 use Rattle.laws.specs.Choice.{pick}
 use Rattle.terms.specs.declared.refusals.Field.{Field}
 use Rattle.terms.specs.declared.refusals.Refusal.TheVariants.{BadLine}
+use Rattle.terms.specs.Letters.{of_requests}
 use Rattle.terms.specs.Limits.{places, request_lines}
 use Rattle.text_rules.specs.declared.splitter.Splitter.{Splitter}
-use Rattle.text_rules.specs.RequestLines.{lacking, read_request}
+use Rattle.text_rules.specs.Fields.{lacking}
+use Rattle.text_rules.specs.Lines.{read_line}
 use Rattle.text_rules.specs.Records.{longest_record}
 use Rattle.text_rules.specs.Split.{fresh, cut_of, found_at}
 use Rattle.text_rules.specs.Wrote.{put_from}
@@ -100,7 +102,7 @@ told_bad n at = record { line = n; request = no_request; said = No (BadLine at);
 
 -- what is told of the line in the splitter if the input ends before its newline
 unfoldable pub unended : Splitter → Told
-unended s = told_bad s.line (lacking (read_request (found_at s).bytes))
+unended s = told_bad s.line (lacking (read_line of_requests (found_at s).bytes))
 
 -- whether a line is under way that must be answered although it lacks its newline
 unfoldable pub owing : Splitter → Bool

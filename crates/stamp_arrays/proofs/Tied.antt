@@ -17,7 +17,7 @@ use Rattle.laws.proofs.Functions.{at_all}
 use Rattle.laws.proofs.Parts.{and_second}
 use Rattle.terms.specs.declared.letters.Ask.{Ask}
 use Rattle.terms.specs.declared.letters.Ask.TheVariants.{Read, Write, Increment, Update}
-use Rattle.terms.specs.declared.letters.Letter.TheVariants.{Begin as begins, Commit, GiveUp, Retry, Asks}
+use Rattle.terms.specs.declared.letters.Letter.TheVariants.{Begin as begins, Commit, GiveUp, Retry, Back as no-request, Asks}
 use Rattle.terms.specs.declared.letters.Lettered.{Lettered}
 use Rattle.terms.specs.declared.letters.Lettered.TheVariants.{Known, Unknown}
 use Rattle.terms.specs.Limits.{places, cells, last_number}
@@ -134,6 +134,7 @@ module _ (d : Stamps) (p : Plain d) where
   pub letter_tied : Once d.number → (r : Request) (l : Lettered) → shown view (told d r.job r.cell (move_for d.next d.number d.reader d.writer r.job r.cell l)) ≡ step_by (view d) r l
   unfolding move_for step_by
   letter_tied once r Unknown = unfold carried answer_to refused in refl
+  letter_tied once r (Known no-request) = unfold carried answer_to refused in refl
   letter_tied once r (Known begins) = begin_tied r.job r.cell
   letter_tied once r (Known Commit) = close_tied r.job once r.cell
   letter_tied once r (Known GiveUp) = close_tied r.job once r.cell

@@ -5,7 +5,7 @@ use Rattle.laws.specs.Larger.{larger}
 use Rattle.laws.specs.Lists.{pos}
 use Rattle.terms.specs.declared.letters.Ask.{Ask}
 use Rattle.terms.specs.declared.letters.Ask.TheVariants.{Read, Write, Increment, Update}
-use Rattle.terms.specs.declared.letters.Letter.TheVariants.{Begin as begins, Commit, GiveUp, Retry, Asks}
+use Rattle.terms.specs.declared.letters.Letter.TheVariants.{Begin as begins, Commit, GiveUp, Retry, Back as no-request, Asks}
 use Rattle.terms.specs.declared.letters.Lettered.{Lettered}
 use Rattle.terms.specs.declared.letters.Lettered.TheVariants.{Known, Unknown}
 use Rattle.terms.specs.declared.refusals.Refusal.TheVariants.{UnknownKind, CellAbove, NotOpen, StartedAtZero, NoRetry}
@@ -78,6 +78,7 @@ ask_move reader writer Nowhere job c a = Refuse NotOpen
 -- the move of a request, by its letter; refusal 1 if no request has the letter
 unfoldable pub move_for : ℕ → List ℕ → List ℕ → List ℕ → ℕ → ℕ → Lettered → Move
 move_for next number reader writer job c Unknown = Refuse UnknownKind
+move_for next number reader writer job c (Known no-request) = Refuse UnknownKind
 move_for next number reader writer job c (Known begins) = begin_move next number
 move_for next number reader writer job c (Known Commit) = close_move (found_at number job)
 move_for next number reader writer job c (Known GiveUp) = close_move (found_at number job)

@@ -9,7 +9,7 @@ use borrow.Author.Tests.{ltb-true}
 use Rattle.laws.specs.Choice.{by_test}
 use Rattle.laws.specs.Lists.{pos}
 use Rattle.terms.specs.declared.letters.Ask.{Ask}
-use Rattle.terms.specs.declared.letters.Letter.TheVariants.{Begin as begins, Commit, GiveUp, Retry, Asks}
+use Rattle.terms.specs.declared.letters.Letter.TheVariants.{Begin as begins, Commit, GiveUp, Retry, Back as no-request, Asks}
 use Rattle.terms.specs.declared.letters.Lettered.{Lettered}
 use Rattle.terms.specs.declared.letters.Lettered.TheVariants.{Known, Unknown}
 use Rattle.terms.specs.declared.refusals.Refusal.{Refusal}
@@ -83,6 +83,7 @@ module _ (d : Stamps) (kind job c : ℕ) {letter : Lettered} (of_kind : letter_o
   plan_fits : (l : Lettered) → Fits c (move_for d.next d.number d.reader d.writer job c l)
   unfolding move_for
   plan_fits Unknown = tt
+  plan_fits (Known no-request) = tt
   plan_fits (Known begins) = fits_begin d.next d.number c
   plan_fits (Known Commit) = fits_close c (found_at d.number job) (found_there d.number job)
   plan_fits (Known GiveUp) = fits_close c (found_at d.number job) (found_there d.number job)

@@ -127,6 +127,7 @@ pub fn plan_for<'a>(
     ensures { result ≡ move_for next number.now reader.now writer.now job c (Known letter) }
 {
     match letter {
+        Letter::Back => Move::Refuse(Refusal::UnknownKind),
         Letter::Begin => begin_move(next, number),
         Letter::Commit => close_move(find(number, job)),
         Letter::GiveUp => close_move(find(number, job)),

@@ -8,11 +8,10 @@ use mathlib.Core.Option.{Option, none, some}
 use lib.Dec.{leb}
 use borrow.Author.Tests.{le-leb, leb-true}
 use Rattle.laws.specs.Choice.{pick, by_test, not_both}
-use Rattle.laws.specs.Lists.{member}
-use Rattle.laws.specs.Tables.{first_due}
+use Rattle.laws.specs.Lists.{member, first_of}
 use Rattle.terms.specs.declared.letters.Ask.{Ask}
 use Rattle.terms.specs.declared.letters.Ask.TheVariants.{Read}
-use Rattle.terms.specs.declared.letters.Letter.TheVariants.{Begin, Commit, GiveUp, Retry, Asks}
+use Rattle.terms.specs.declared.letters.Letter.TheVariants.{Begin, Commit, GiveUp, Retry, Back, Asks}
 use Rattle.terms.specs.declared.letters.Lettered.{Lettered}
 use Rattle.terms.specs.declared.letters.Lettered.TheVariants.{Known, Unknown}
 use Rattle.terms.specs.declared.refusals.Refusal.{Refusal}
@@ -29,7 +28,7 @@ use Rattle.desks.specs.AsWorded.{IsOneOf, RefusedAlike, of_other_kind, above, no
 use Rattle.desks.proofs.RequestBytes.{asks, with_cat, listed, ask_listed, ask_with_cat, by_bytes, same_asks}
 use Rattle.desks.proofs.AsWorded.{none_of_eight, other_kind_listed, same_why, some_not_none, none_free, begin_worded, seven_due, six_due}
 use Rattle.stamp_rules.specs.Desk.{Desk, is_open}
-use Rattle.stamp_rules.specs.Table.{table, due_by, due_of, Due}
+use Rattle.stamp_rules.specs.Table.{holds, order, due_by, due_of, Due}
 use Rattle.stamp_rules.specs.Step.{Started}
 use Rattle.stamp_rules.specs.Course.{from}
 use Rattle.stamp_rules.specs.AsWorded.{RefusedAs, alike, no_retry}
@@ -38,13 +37,18 @@ use Rattle.stamp_rules.proofs.NumberLimits.{limits}
 
 -- 1 is due for a request of another kind, whatever else it says
 other_due : (d : Desk) (x : Lettered) (o : Bool) (c : ℕ) → other_kind x ≡ true → due_by d x o c ≡ some UnknownKind
-unfolding due_by table first_due
+unfolding due_by holds order first_of
 other_due d Unknown o c t = refl
-other_due d (Known l) o c t = not_both t refl
+other_due d (Known Back) o c t = refl
+other_due d (Known Begin) o c t = not_both t refl
+other_due d (Known Commit) o c t = not_both t refl
+other_due d (Known GiveUp) o c t = not_both t refl
+other_due d (Known Retry) o c t = not_both t refl
+other_due d (Known (Asks a)) o c t = not_both t refl
 
 -- for one ask of a cell the same is due as for another
 ask_due : (d : Desk) (o : Bool) (c : ℕ) → map (λ b. due_by d (letter_of b) o c) asks ≡ map (λ b. due_by d (Known (Asks Read)) o c) asks
-unfolding due_by table first_due
+unfolding due_by holds order first_of
 ask_due d o c = refl
 
 module _ (d : Desk) (r : Request) (why : Refusal) where
@@ -59,13 +63,13 @@ module _ (d : Desk) (r : Request) (why : Refusal) where
 
   -- that of a retry
   retry_worded : letter_of r.kind ≡ Known Retry → (o : Bool) → is_open d r.job ≡ o → due_by d (Known Retry) o r.cell ≡ some why → RefusedAs d r (number_of why)
-  unfolding due_by table first_due member
+  unfolding due_by holds order first_of member
   retry_worded e true q t = is_due NoRetry (no_retry (sym (byte_of_letter r.kind Retry e)) q) t
   retry_worded e false q t = is_due NotOpen (alike (not_open (listed r Retry with_cat e refl) q)) t
 
   -- and that of a read, a write, an increment and a u
   ask_worded : (a : Ask) → letter_of r.kind ≡ Known (Asks a) → (o : Bool) → is_open d r.job ≡ o → due_by d (Known (Asks a)) o r.cell ≡ some why → RefusedAs d r (number_of why)
-  unfolding due_by table first_due
+  unfolding due_by holds order first_of
   ask_worded a e false q t = is_due NotOpen (alike (not_open (ask_with_cat r a e) q)) t
   ask_worded a e true q t =
       by_test (leb cells r.cell)
@@ -74,8 +78,9 @@ module _ (d : Desk) (r : Request) (why : Refusal) where
 
   -- for every letter
   due_worded : DeskLimits d.next d.jobs (is_open d) → (x : Lettered) → letter_of r.kind ≡ x → due_by d x (is_open d r.job) r.cell ≡ some why → RefusedAs d r (number_of why)
-  unfolding due_by table first_due member
+  unfolding due_by holds order first_of member
   due_worded l Unknown e t = is_due UnknownKind (alike (of_other_kind (other_kind_listed r.kind (ap other_kind e)))) t
+  due_worded l (Known Back) e t = is_due UnknownKind (alike (of_other_kind (other_kind_listed r.kind (ap other_kind e)))) t
   due_worded l (Known Begin) e t = alike (begin_worded l _ r why (sym (byte_of_letter r.kind Begin e)) t)
   due_worded l (Known Commit) e t = close_worded (listed r Commit with_cat e refl) (is_open d r.job) refl t
   due_worded l (Known GiveUp) e t = close_worded (listed r GiveUp with_cat e refl) (is_open d r.job) refl t
@@ -90,7 +95,7 @@ module _ (d : Desk) (r : Request) (l : DeskLimits d.next d.jobs (is_open d)) whe
 
   -- a refusal that every desk gives is due
   alike_due : {n : ℕ} → RefusedAlike (is_open d) d.next (is_open d r.job ≡ true) r n → (why : Refusal) × Due d r why × (number_of why ≡ n)
-  unfolding due_of due_by table first_due
+  unfolding due_of due_by holds order first_of
   alike_due (of_other_kind f) = (UnknownKind, other_due d (letter_of r.kind) (is_open d r.job) r.cell (none_of_eight r.kind f), refl)
   alike_due (above m q p) =
       (CellAbove, by_bytes (due_by d) r q asks CellAbove (ap (λ b. let x : Option Refusal = pick b (some CellAbove) none in x ∷ x ∷ x ∷ x ∷ []) (le-leb cells r.cell p)) m, refl)
@@ -100,7 +105,7 @@ module _ (d : Desk) (r : Request) (l : DeskLimits d.next d.jobs (is_open d)) whe
 
   -- and so is a refusal of this desk
   worded_due : {n : ℕ} → RefusedAs d r n → (why : Refusal) × Due d r why × (number_of why ≡ n)
-  unfolding due_of due_by table first_due
+  unfolding due_of due_by holds order first_of
   worded_due (alike w) = alike_due w
   worded_due (no_retry b q) = (NoRetry, ap (λ k. due_by d (letter_of k) (is_open d r.job) r.cell) b ∙ ap (λ o. due_by d (Known Retry) o r.cell) q, refl)
 

@@ -7,10 +7,9 @@ use mathlib.Core.Option.{some}
 use lib.Dec.{ltb}
 use borrow.Author.Tests.{ltb-true, ltb-false, le-leb}
 use Rattle.laws.specs.Choice.{pick}
-use Rattle.laws.specs.Lists.{member}
-use Rattle.laws.specs.Tables.{first_due}
+use Rattle.laws.specs.Lists.{member, first_of}
 use Rattle.terms.specs.declared.letters.Ask.{Ask}
-use Rattle.terms.specs.declared.letters.Letter.TheVariants.{Begin, Commit, GiveUp, Retry, Asks}
+use Rattle.terms.specs.declared.letters.Letter.TheVariants.{Begin, Commit, GiveUp, Retry, Back as no-request, Asks}
 use Rattle.terms.specs.declared.letters.Lettered.{Lettered}
 use Rattle.terms.specs.declared.letters.Lettered.TheVariants.{Known, Unknown}
 use Rattle.terms.specs.declared.refusals.Refusal.{Refusal}
@@ -22,7 +21,7 @@ use Rattle.desks.specs.Begin.{refused, beginning}
 use Rattle.stamp_rules.specs.Desk.{Desk, is_open}
 use Rattle.stamp_rules.specs.Rules.{Outcome, late, close, ask, begin}
 use Rattle.stamp_rules.specs.Step.{step_begin, step_close, step_retry, step_ask, step_by, step}
-use Rattle.stamp_rules.specs.Table.{table, due_by, due_of}
+use Rattle.stamp_rules.specs.Table.{holds, order, due_by, due_of}
 use Rattle.stamp_rules.specs.Asked.{Asking}
 use Rattle.stamp_rules.specs.Moves.{EndAsked, Moved, refuses, begins, closes, goes, goes_back}
 
@@ -38,14 +37,14 @@ due_by_lem why e q h = refuses why (rw (e, q) h)
 
 -- begin tests 7, then 6
 begin_moved : (d : Desk) (r : Request) → letter_of r.kind ≡ Known Begin → Moved d r (step_begin d)
-unfolding step_begin beginning begin due_by table first_due
+unfolding step_begin beginning begin due_by holds order first_of
 begin_moved d r e =
     either (ltb last_number d.next) (λ t. due_by_lem NoNumberLeft e refl (rw t))
     (λ f. either (member 0 d.jobs) (begins e (ltb-false _ _ f)) (λ n. due_by_lem AllOpen e refl (rw (f, n))))
 
 -- commit and give-up test 3
 close_moved : (d : Desk) (r : Request) → EndAsked r → Moved d r (step_close d r.job)
-unfolding step_close close due_by table first_due
+unfolding step_close close due_by holds order first_of
 close_moved d r l = either (is_open d r.job) (closes l) (by_letter l)
   where
     by_letter : EndAsked r → is_open d r.job ≡ false → Moved d r (refused d NotOpen)
@@ -54,12 +53,12 @@ close_moved d r l = either (is_open d r.job) (closes l) (by_letter l)
 
 -- retry tests 3, then 19
 retry_moved : (d : Desk) (r : Request) → letter_of r.kind ≡ Known Retry → Moved d r (step_retry d r.job)
-unfolding step_retry due_by table first_due
+unfolding step_retry due_by holds order first_of
 retry_moved d r e = either (is_open d r.job) (λ t. due_by_lem NoRetry e t refl) (λ f. due_by_lem NotOpen e f refl)
 
 -- a read, a write, an increment or a u tests 3, then 2
 asked_moved : (d : Desk) (r : Request) (a : Ask) → letter_of r.kind ≡ Known (Asks a) → Moved d r (step_ask d r.job r.cell a)
-unfolding step_ask ask close due_by table first_due
+unfolding step_ask ask close due_by holds order first_of
 asked_moved d r a e =
     either (is_open d r.job)
     (λ o. either (ltb r.cell cells)
@@ -72,7 +71,8 @@ asked_moved d r a e =
 -- by the request's letter
 step_by_lem : (d : Desk) (r : Request) (l : Lettered) → letter_of r.kind ≡ l → Moved d r (step_by d r l)
 unfolding step_by
-step_by_lem d r Unknown e = unfold due_by table first_due in due_by_lem UnknownKind e refl refl
+step_by_lem d r Unknown e = unfold due_by holds order first_of in due_by_lem UnknownKind e refl refl
+step_by_lem d r (Known no-request) e = unfold due_by holds order first_of in due_by_lem UnknownKind e refl refl
 step_by_lem d r (Known Begin) e = begin_moved d r e
 step_by_lem d r (Known Commit) e = close_moved d r (inl e)
 step_by_lem d r (Known GiveUp) e = close_moved d r (inr e)

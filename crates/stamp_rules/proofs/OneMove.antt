@@ -6,7 +6,7 @@ use mathlib.Core.Logic.{inl, inr}
 use mathlib.Core.Option.{Option, none, some}
 use native.Mathlib.Omega.{arith}
 use borrow.Author.Tests.{lt-ltb, le-ltb, lt-leb}
-use Rattle.laws.specs.Tables.{first_due}
+use Rattle.laws.specs.Lists.{first_of}
 use Rattle.terms.specs.declared.letters.Ask.{Ask}
 use Rattle.terms.specs.declared.refusals.Refusal.{Refusal}
 use Rattle.terms.specs.Limits.{cells, last_number}
@@ -15,7 +15,7 @@ use Rattle.desks.specs.Begin.{refused, beginning}
 use Rattle.stamp_rules.specs.Desk.{Desk}
 use Rattle.stamp_rules.specs.Rules.{Outcome, close, ask, begin}
 use Rattle.stamp_rules.specs.Step.{step_begin, step_close, step_ask, step_by, step}
-use Rattle.stamp_rules.specs.Table.{table, due_by, due_of, Due}
+use Rattle.stamp_rules.specs.Table.{holds, order, due_by, due_of, Due}
 use Rattle.stamp_rules.specs.Asked.{Asking}
 use Rattle.stamp_rules.specs.Moves.{Moved, refuses, begins, closes, goes, goes_back}
 use Rattle.stamp_rules.proofs.Moved.{step_moved}
@@ -36,7 +36,7 @@ module _ {d : Desk} {r : Request} where
 
   -- if a refusal is due, every move is that refusal
   due_moves : {o : Outcome} (why : Refusal) → Due d r why → Moved d r o → o ≡ refused d why
-  unfolding due_of due_by table first_due
+  unfolding due_of due_by holds order first_of
   due_moves why x (refuses w y) = ap (refused d) (one_due y x)
   due_moves why x (begins l n m) = not_due (rw (l, le-ltb last_number d.next n, m)) x
   due_moves why x (closes (inl l) o) = not_due (rw (l, o)) x

@@ -2,29 +2,28 @@
 -- Assumes nothing.
 use Prim.Native.Nat.{ℕ}
 use mathlib.Core.Path.{◌≡◌, refl, sym, ap, ap₂, ◌∙◌}
-use mathlib.Core.Logic.{◌↔◌}
-use mathlib.Core.Bool.{Bool, true, false}
-use mathlib.Core.List.{List, [], ◌∷◌, map}
-use Rattle.laws.specs.Choice.{by_test, not_both}
+use mathlib.Core.Bool.{Bool, true}
+use mathlib.Core.List.{[], ◌∷◌}
+use Rattle.laws.specs.Choice.{not_both}
 use Rattle.laws.specs.Lists.{member}
-use Rattle.laws.specs.Tables.{DueIn, given_by}
-use Rattle.laws.proofs.Tables.{due_exactly, due_passes}
-use Rattle.terms.specs.declared.letters.Letter.TheVariants.{Begin, Commit, GiveUp, Retry, Asks}
+use Rattle.laws.proofs.Lists.{first_holds}
+use Rattle.terms.specs.declared.letters.Letter.TheVariants.{Begin, Commit, GiveUp, Retry, Back, Asks}
 use Rattle.terms.specs.declared.letters.Lettered.{Lettered}
 use Rattle.terms.specs.declared.letters.Lettered.TheVariants.{Known, Unknown}
 use Rattle.terms.specs.declared.refusals.Refusal.{Refusal}
+use Rattle.terms.specs.declared.refusals.Refusal.TheVariants.{UnknownKind, CellAbove, NotOpen, Waiting, SentBack, AllOpen, NoNumberLeft, Running, BadLine, StartedAtZero, TooManyLines, JobOutside, Ended, ShortOrder, NoRoom, TooLong, ShortList, NoRetry}
 use Rattle.terms.specs.Letters.{letter_of}
 use Rattle.terms.specs.Refusals.{number_of}
 use Rattle.desks.specs.declared.Answer.TheVariants.{No}
 use Rattle.desks.specs.Request.{Request, Alike}
 use Rattle.desks.specs.Begin.{refused}
-use Rattle.desks.specs.Table.{is_begin, letter_is, asks_no_cell}
+use Rattle.desks.specs.Table.{letter_is, asks_no_cell}
 use Rattle.desks.proofs.Answers.{goesOrRefuses}
 use Rattle.desks.proofs.Refusing.{refused_due, refuses-by}
 use Rattle.stamp_rules.specs.Desk.{Desk, is_open}
 use Rattle.stamp_rules.specs.Rules.{Outcome}
 use Rattle.stamp_rules.specs.Step.{step_close, step_retry, step_ask, step_by, step}
-use Rattle.stamp_rules.specs.Table.{table, due_by, due_of, Due, named}
+use Rattle.stamp_rules.specs.Table.{holds, order, due_by, due_of, Due, named}
 use Rattle.stamp_rules.specs.Course.{from}
 use Rattle.stamp_rules.specs.Refuses.{Refuses}
 use Rattle.stamp_rules.proofs.TableMeant.{step_meant}
@@ -32,27 +31,40 @@ use Rattle.stamp_rules.specs.Moves as moves
 use Rattle.stamp_rules.specs.Moves.{Moved}
 use Rattle.stamp_rules.proofs.Moved.{step_moved}
 
--- a refusal is due exactly if its row is the first whose test holds
-row_holds : (d : Desk) (r : Request) (why : Refusal) → Due d r why ↔ DueIn why (table (letter_of r.kind) (is_open d r.job) r.cell d)
+-- the row of a refusal that is due holds
+row_holds : (d : Desk) (r : Request) (why : Refusal) → Due d r why → holds (letter_of r.kind) (is_open d r.job) r.cell d why ≡ true
 unfolding due_of due_by
-row_holds d r why = due_exactly _ why
+row_holds d r why e = first_holds (holds (letter_of r.kind) (is_open d r.job) r.cell d) (order (letter_of r.kind)) why e
 
--- the numbers of the refusals that a request is tested for, in their order: of a begin, and of any other (02, No. 6)
-abbrev pub tested : Bool → List ℕ
-tested true = 1 ∷ 7 ∷ 6 ∷ []
-tested false = 1 ∷ 3 ∷ 19 ∷ 2 ∷ []
+-- the numbers of the refusals that a step gives
+abbrev Given : Refusal → Type 0
+Given why = member (number_of why) (1 ∷ 2 ∷ 3 ∷ 6 ∷ 7 ∷ 19 ∷ []) ≡ true
 
--- THE ROWS ARE THESE, in this order
-pub rows_numbered : (l : Lettered) (o : Bool) (c : ℕ) (d : Desk) → map number_of (given_by (table l o c d)) ≡ tested (letter_is is_begin l)
-unfolding table
-rows_numbered l o c d = by_test (letter_is is_begin l) (λ t. rw t) (λ f. rw f)
+-- no other row holds for a step
+row_number : (l : Lettered) (o : Bool) (c : ℕ) (d : Desk) (why : Refusal) → holds l o c d why ≡ true → Given why
+unfolding holds member
+row_number l o c d UnknownKind h = refl
+row_number l o c d CellAbove h = refl
+row_number l o c d NotOpen h = refl
+row_number l o c d Waiting h = not_both h refl
+row_number l o c d SentBack h = not_both h refl
+row_number l o c d AllOpen h = refl
+row_number l o c d NoNumberLeft h = refl
+row_number l o c d Running h = not_both h refl
+row_number l o c d (BadLine field) h = not_both h refl
+row_number l o c d StartedAtZero h = not_both h refl
+row_number l o c d TooManyLines h = not_both h refl
+row_number l o c d JobOutside h = not_both h refl
+row_number l o c d Ended h = not_both h refl
+row_number l o c d ShortOrder h = not_both h refl
+row_number l o c d NoRoom h = not_both h refl
+row_number l o c d TooLong h = not_both h refl
+row_number l o c d ShortList h = not_both h refl
+row_number l o c d NoRetry h = refl
 
 -- so only these are due
-due_number : (d : Desk) (r : Request) (why : Refusal) → Due d r why → member (number_of why) (1 ∷ 2 ∷ 3 ∷ 6 ∷ 7 ∷ 19 ∷ []) ≡ true
-unfolding due_of due_by member
-due_number d r why e =
-    let l : Lettered = letter_of r.kind in
-    due_passes number_of (λ n. member n (1 ∷ 2 ∷ 3 ∷ 6 ∷ 7 ∷ 19 ∷ [])) _ (rows_numbered l (is_open d r.job) r.cell d) (by_test (letter_is is_begin l) (λ t. rw t) (λ f. rw f)) why e
+due_number : (d : Desk) (r : Request) (why : Refusal) → Due d r why → Given why
+due_number d r why e = row_number (letter_of r.kind) (is_open d r.job) r.cell d why (row_holds d r why e)
 
 -- and no 9 is among them
 no_nine : (d : Desk) (r : Request) (why : Refusal) → Due d r why → number_of why ≡ 9 → ⊥
@@ -74,6 +86,7 @@ only_cells d r k = by_move (step_moved d r)
 by_alike : (d : Desk) (r s : Request) (l : Lettered) → Alike l r s → step_by d r l ≡ step_by d s l
 unfolding step_by
 by_alike d r s Unknown e = refl
+by_alike d r s (Known Back) e = refl
 by_alike d r s (Known Begin) e = refl
 by_alike d r s (Known Commit) e = ap (step_close d) (e.job refl)
 by_alike d r s (Known GiveUp) e = ap (step_close d) (e.job refl)

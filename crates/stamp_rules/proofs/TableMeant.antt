@@ -6,9 +6,9 @@ use mathlib.Core.Bool.{not}
 use mathlib.Core.Option.{none, some}
 use lib.Dec.{ltb}
 use Rattle.laws.specs.Choice.{pick, by_test}
-use Rattle.laws.specs.Tables.{first_due}
+use Rattle.laws.specs.Lists.{first_of}
 use Rattle.terms.specs.declared.letters.Ask.{Ask}
-use Rattle.terms.specs.declared.letters.Letter.TheVariants.{Begin, Commit, GiveUp, Retry, Asks}
+use Rattle.terms.specs.declared.letters.Letter.TheVariants.{Begin, Commit, GiveUp, Retry, Back, Asks}
 use Rattle.terms.specs.declared.letters.Lettered.{Lettered}
 use Rattle.terms.specs.declared.letters.Lettered.TheVariants.{Known, Unknown}
 use Rattle.terms.specs.declared.refusals.Refusal.TheVariants.{NotOpen}
@@ -20,7 +20,7 @@ use Rattle.desks.proofs.TableMeant.{Meant, answered, begin_means, above}
 use Rattle.stamp_rules.specs.Desk.{Desk, is_open}
 use Rattle.stamp_rules.specs.Rules.{late, close, ask, begin}
 use Rattle.stamp_rules.specs.Step.{step_begin, step_close, step_retry, step_ask, step_by, step}
-use Rattle.stamp_rules.specs.Table.{table, due_by, due_of, named}
+use Rattle.stamp_rules.specs.Table.{holds, order, due_by, due_of, named}
 
 -- a late request is sent back, and every other goes: no request for a cell is refused because of its number
 ask_answered : (d : Desk) (j c : ℕ) (a : Ask) → Answers (ask d j c a).said j
@@ -34,20 +34,21 @@ close_meant d j = by_test (is_open d j) (λ t. rw t (goes j)) (λ f. rw f refl)
 
 -- a retry: 3 if the job is not open, otherwise 19
 retry_meant : (d : Desk) (j c : ℕ) → Meant d j (due_by d (Known Retry) (is_open d j) c) (step_retry d j)
-unfolding step_retry due_by table first_due
+unfolding step_retry due_by holds order first_of
 retry_meant d j c = by_test (is_open d j) (λ t. rw t refl) (λ f. rw f refl)
 
 -- a request for a cell: 3 if the job is not open, then 2 if the cell is above 63
 ask_meant : (d : Desk) (j c : ℕ) (a : Ask) → Meant d j (due_by d (Known (Asks a)) (is_open d j) c) (step_ask d j c a)
-unfolding step_ask due_by table first_due
+unfolding step_ask due_by holds order first_of
 ask_meant d j c a =
     rw (above c) (by_test (is_open d j) (λ t. by_test (ltb c cells) (λ u. rw (t, u) (ask_answered d j c a)) (λ g. rw (t, g) refl))
     (λ f. rw f refl))
 
 -- a request does what the table says, whatever its letter
 step_by_lem : (d : Desk) (r : Request) (l : Lettered) → Meant d (named_by d.next r.job l) (due_by d l (is_open d r.job) r.cell) (step_by d r l)
-unfolding step_by step_begin begin due_by table first_due
+unfolding step_by step_begin begin due_by holds order first_of
 step_by_lem d r Unknown = refl
+step_by_lem d r (Known Back) = refl
 step_by_lem d r (Known Begin) = begin_means d d.next d.jobs (begin d) d.next (goes d.next)
 step_by_lem d r (Known Commit) = close_meant d r.job
 step_by_lem d r (Known GiveUp) = close_meant d r.job

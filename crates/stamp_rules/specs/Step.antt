@@ -2,7 +2,7 @@
 use Rattle.std.specs.Prelude.{ℕ, ltb}
 use Rattle.laws.specs.Choice.{pick}
 use Rattle.terms.specs.declared.letters.Ask.{Ask}
-use Rattle.terms.specs.declared.letters.Letter.TheVariants.{Begin, Commit, GiveUp, Retry, Asks}
+use Rattle.terms.specs.declared.letters.Letter.TheVariants.{Begin, Commit, GiveUp, Retry, Back, Asks}
 use Rattle.terms.specs.declared.letters.Lettered.{Lettered}
 use Rattle.terms.specs.declared.letters.Lettered.TheVariants.{Known, Unknown}
 use Rattle.terms.specs.declared.refusals.Refusal.TheVariants.{UnknownKind, CellAbove, NotOpen, NoRetry}
@@ -32,9 +32,10 @@ step_retry d j = pick (is_open d j) (refused d NoRetry) (refused d NotOpen)
 unfoldable pub step_ask : Desk → ℕ → ℕ → Ask → Outcome
 step_ask d j c a = pick (is_open d j) (pick (ltb c cells) (ask d j c a) (refused d CellAbove)) (refused d NotOpen)
 
--- a request by its letter; 1 for any other byte
+-- a request by its letter; 1 for k and for any other byte, which are not requests
 unfoldable pub step_by : Desk → Request → Lettered → Outcome
 step_by d r Unknown = refused d UnknownKind
+step_by d r (Known Back) = refused d UnknownKind
 step_by d r (Known Begin) = step_begin d
 step_by d r (Known Commit) = step_close d r.job
 step_by d r (Known GiveUp) = step_close d r.job

@@ -8,7 +8,7 @@ use borrow.Author.Tests.{eqb-true}
 use Rattle.laws.specs.Choice.{by_test}
 use Rattle.terms.specs.declared.letters.Ask.TheVariants.{Read, Write, Increment, Update}
 use Rattle.terms.specs.declared.letters.Letter.{Letter}
-use Rattle.terms.specs.declared.letters.Letter.TheVariants.{Begin, Commit, GiveUp, Retry, Asks}
+use Rattle.terms.specs.declared.letters.Letter.TheVariants.{Begin, Commit, GiveUp, Retry, Back, Asks}
 use Rattle.terms.specs.declared.letters.Lettered.{Lettered}
 use Rattle.terms.specs.declared.letters.Lettered.TheVariants.{Known, Unknown}
 use Rattle.terms.specs.Letters.{byte_of, or_else, letter_of}
@@ -19,6 +19,7 @@ letter_of_byte Begin = refl
 letter_of_byte Commit = refl
 letter_of_byte GiveUp = refl
 letter_of_byte Retry = refl
+letter_of_byte Back = refl
 letter_of_byte (Asks Read) = refl
 letter_of_byte (Asks Write) = refl
 letter_of_byte (Asks Increment) = refl
@@ -37,6 +38,7 @@ byte_of_letter b l =
     (or_else_lem Commit l b _
     (or_else_lem GiveUp l b _
     (or_else_lem Retry l b _
+    (or_else_lem Back l b _
     (or_else_lem (Asks Read) l b _
     (or_else_lem (Asks Write) l b _
-    (or_else_lem (Asks Increment) l b _ (or_else_lem (Asks Update) l b Unknown (λ e. let z : ◌≡◌ {A = ℕ} 0 1 = cc in absurd (omega arith)))))))))
+    (or_else_lem (Asks Increment) l b _ (or_else_lem (Asks Update) l b Unknown (λ e. let z : ◌≡◌ {A = ℕ} 0 1 = cc in absurd (omega arith))))))))))

@@ -1,4 +1,4 @@
--- No two refusals share both number and field. Each number is from 1 to 19, and no refusal has 17. A field and its number determine each other.
+-- No two refusals share both number and field. Each number is from 1 to 19, and no refusal has 17.
 -- Assumes nothing.
 use Prim.Native.Nat.{ℕ, ◌≤◌}
 use mathlib.Core.Path.{◌≡◌, refl, sym, ap₂, ◌∙◌}
@@ -6,14 +6,18 @@ use mathlib.Core.Logic.{◌↔◌}
 use mathlib.Core.List.{List, [], ◌∷◌}
 use native.Mathlib.Omega.{arith}
 use lib.ListN.{get_or}
-use lib.Dec.{eqb, leb, lit≤}
-use borrow.Author.Tests.{eqb-true, eqb-false, leb-true, leb-false}
+use lib.Dec.{leb, lit≤}
+use borrow.Author.Tests.{leb-true, leb-false}
 use Rattle.laws.specs.Choice.{by_test}
 use Rattle.terms.specs.declared.refusals.Refusal.{Refusal}
 use Rattle.terms.specs.declared.refusals.Refusal.TheVariants.{UnknownKind, CellAbove, NotOpen, Waiting, SentBack, AllOpen, NoNumberLeft, Running, BadLine, StartedAtZero, TooManyLines, JobOutside, Ended, ShortOrder, NoRoom, TooLong, ShortList, NoRetry}
 use Rattle.terms.specs.declared.refusals.Field.{Field}
 use Rattle.terms.specs.declared.refusals.Field.TheVariants.{First, Second, Third, Fourth}
-use Rattle.terms.specs.Refusals.{number_of, field_number, field_by, field_of}
+use Rattle.terms.specs.Refusals.{number_of, field_number, field_of}
+
+-- the fields by number; 0 is no field's, and any may stand there
+abbrev pub fields : List Field
+fields = First ∷ First ∷ Second ∷ Third ∷ Fourth ∷ []
 
 -- the table read the other way: at each number its refusal, a bad line's with this field; 0 and 17 are nobody's numbers, and any refusal may stand there
 abbrev pub table : Field → List Refusal
@@ -23,7 +27,7 @@ table field =
 
 -- the refusal at a number and a field's number
 abbrev pub refusal_at : ℕ → ℕ → Refusal
-refusal_at n field = get_or (table (field_by field)) n UnknownKind
+refusal_at n field = get_or (table (get_or fields field First)) n UnknownKind
 
 -- the table read so gives each refusal back
 pub at_number : (r : Refusal) → refusal_at (number_of r) (field_of r) ≡ r
@@ -80,21 +84,6 @@ field_within First = (lit≤ tt, lit≤ tt)
 field_within Second = (lit≤ tt, lit≤ tt)
 field_within Third = (lit≤ tt, lit≤ tt)
 field_within Fourth = (lit≤ tt, lit≤ tt)
-
--- a field is the one with its number
-pub field_back : (f : Field) → field_by (field_number f) ≡ f
-field_back First = refl
-field_back Second = refl
-field_back Third = refl
-field_back Fourth = refl
-
--- and each number from 1 to 4 is its field's
-pub number_back : (k : ℕ) → 1 ≤ k → k ≤ 4 → field_number (field_by k) ≡ k
-number_back k low high =
-    by_test (eqb k 1) (λ t. rw t (sym (eqb-true k 1 t)))
-    (λ a. by_test (eqb k 2) (λ t. rw (a, t) (sym (eqb-true k 2 t)))
-    (λ b. by_test (eqb k 3) (λ t. rw (a, b, t) (sym (eqb-true k 3 t)))
-    (λ c. let x = eqb-false k 1 a in let y = eqb-false k 2 b in let z = eqb-false k 3 c in rw (a, b, c) (omega arith))))
 
 -- so what stands beside a refusal's number is at most 4
 pub beside_at_most_4 : (r : Refusal) → field_of r ≤ 4

@@ -6,6 +6,10 @@ use Rattle.terms.proofs.letters.byte_of.Reads as byte_of
 use Rattle.terms.proofs.letters.byte_of.Kinds as byte-ofK
 use Rattle.terms.proofs.letters.letter_of.Reads as letter-of
 use Rattle.terms.proofs.letters.letter_of.Kinds as letter-ofK
+use Rattle.terms.proofs.letters.of_requests.Reads as of-requests
+use Rattle.terms.proofs.letters.of_requests.Kinds as of-requestsK
+use Rattle.terms.proofs.letters.of_histories.Reads as of-histories
+use Rattle.terms.proofs.letters.of_histories.Kinds as of-historiesK
 use Rattle.terms.proofs.letters.has_job.Reads as has-job
 use Rattle.terms.proofs.letters.has_job.Kinds as has-jobK
 use Rattle.terms.proofs.letters.has_cell.Reads as has-cell
@@ -26,6 +30,12 @@ byte_of_unique κs a x y e f p q = p ∙ sym q
 
 pub letter_of_unique : Unique letter-ofK.ps letter-ofK.r letter-of.Post
 letter_of_unique κs a x y e f p q = p ∙ sym q
+
+pub of_requests_unique : Unique of-requestsK.ps of-requestsK.r of-requests.Post
+of_requests_unique κs a x y e f p q = p ∙ sym q
+
+pub of_histories_unique : Unique of-historiesK.ps of-historiesK.r of-histories.Post
+of_histories_unique κs a x y e f p q = p ∙ sym q
 
 pub has_job_unique : Unique has-jobK.ps has-jobK.r has-job.Post
 has_job_unique κs a x y e f p q = p ∙ sym q

@@ -1,6 +1,5 @@
 -- The one table of refusals and their numbers, and the field that a bad line's refusal names (01, Refusals by number; 02, No. 5).
-use Rattle.std.specs.Prelude.{ℕ, eqb}
-use Rattle.laws.specs.Choice.{pick}
+use Rattle.std.specs.Prelude.{ℕ}
 use Rattle.terms.specs.declared.refusals.Field.{Field}
 use Rattle.terms.specs.declared.refusals.Field.TheVariants.{First, Second, Third, Fourth}
 use Rattle.terms.specs.declared.refusals.Refusal.{Refusal}
@@ -51,10 +50,6 @@ field_number First = 1
 field_number Second = 2
 field_number Third = 3
 field_number Fourth = 4
-
--- the field with this number: 1 letter, 2 job, 3 cell, any other what stands after them (02, No. 5)
-abbrev pub field_by : ℕ → Field
-field_by k = pick (eqb k 1) First (pick (eqb k 2) Second (pick (eqb k 3) Third Fourth))
 
 -- the field at fault of a bad line; 0 for any other refusal (02, No. 5)
 abbrev pub field_of : Refusal → ℕ

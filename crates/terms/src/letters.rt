@@ -1,6 +1,6 @@
-// The letters of request lines, and the bytes of request and history lines (01, Lines).
+// The letters of request and history lines (01, Lines).
 ghost use Rattle.std.specs.Prelude.{◌≡◌};
-ghost use Rattle.terms.specs.Letters.{byte_of, letter_of, has_job, has_cell};
+ghost use Rattle.terms.specs.Letters.{byte_of, letter_of, of_requests, of_histories, has_job, has_cell};
 
 // What a job may ask of a cell.
 #[derive(Drop)]
@@ -15,7 +15,7 @@ pub enum Ask {
     Update,
 }
 
-// Every letter of requests.
+// Every letter of the paper.
 #[derive(Drop)]
 pub enum Letter {
     // b: open a new job
@@ -24,18 +24,20 @@ pub enum Letter {
     Commit,
     // a: give up
     GiveUp,
-    // t: retry
+    // t: retry (requests only)
     Retry,
+    // k: sent back, aborted (histories only)
+    Back,
     // r, w, i and u: read, write or increment a cell, or read it with intent to write
     Asks(Ask),
 }
 
-// A byte read as a letter of requests, or as no such letter.
+// A byte read as a letter, or as no letter.
 #[derive(Drop)]
 pub enum Lettered {
     // this letter's byte
     Known(Letter),
-    // the byte of no letter of requests
+    // the byte of no letter
     Unknown,
 }
 
@@ -47,7 +49,6 @@ pub const GIVE_UP: u8 = b'a';
 
 pub const RETRY: u8 = b't';
 
-// The histories' letter for a job sent back. No request begins with it.
 pub const BACK: u8 = b'k';
 
 pub const READ: u8 = b'r';
@@ -67,6 +68,7 @@ pub fn byte_of(l: Letter) -> u8
         Letter::Commit => COMMIT,
         Letter::GiveUp => GIVE_UP,
         Letter::Retry => RETRY,
+        Letter::Back => BACK,
         Letter::Asks(a) => match a {
             Ask::Read => READ,
             Ask::Write => WRITE,
@@ -85,11 +87,45 @@ pub fn letter_of(byte: u8) -> Lettered
         COMMIT => Lettered::Known(Letter::Commit),
         GIVE_UP => Lettered::Known(Letter::GiveUp),
         RETRY => Lettered::Known(Letter::Retry),
+        BACK => Lettered::Known(Letter::Back),
         READ => Lettered::Known(Letter::Asks(Ask::Read)),
         WRITE => Lettered::Known(Letter::Asks(Ask::Write)),
         INCREMENT => Lettered::Known(Letter::Asks(Ask::Increment)),
         UPDATE => Lettered::Known(Letter::Asks(Ask::Update)),
         _ => Lettered::Unknown,
+    }
+}
+
+// Whether a request line may begin with the letter.
+pub fn of_requests(l: Letter) -> bool
+    ensures { result ≡ of_requests l }
+{
+    match l {
+        Letter::Begin => true,
+        Letter::Commit => true,
+        Letter::GiveUp => true,
+        Letter::Retry => true,
+        Letter::Back => false,
+        Letter::Asks(_) => true,
+    }
+}
+
+// Whether a history line may begin with the letter.
+pub fn of_histories(l: Letter) -> bool
+    ensures { result ≡ of_histories l }
+{
+    match l {
+        Letter::Begin => false,
+        Letter::Commit => true,
+        Letter::GiveUp => true,
+        Letter::Retry => false,
+        Letter::Back => true,
+        Letter::Asks(a) => match a {
+            Ask::Read => true,
+            Ask::Write => true,
+            Ask::Increment => true,
+            Ask::Update => false,
+        },
     }
 }
 
@@ -102,6 +138,7 @@ pub fn has_job(l: Letter) -> bool
         Letter::Commit => true,
         Letter::GiveUp => true,
         Letter::Retry => true,
+        Letter::Back => true,
         Letter::Asks(_) => true,
     }
 }
@@ -115,6 +152,7 @@ pub fn has_cell(l: Letter) -> bool
         Letter::Commit => false,
         Letter::GiveUp => false,
         Letter::Retry => false,
+        Letter::Back => false,
         Letter::Asks(_) => true,
     }
 }

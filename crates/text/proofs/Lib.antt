@@ -6,7 +6,3 @@ pub mod WordLaws
 pub mod WriterUnique
 pub mod Holding
 pub mod Placed
-pub mod NextLaws
-pub mod SpareRoom
-pub mod WordLines
-pub mod LinesUnique

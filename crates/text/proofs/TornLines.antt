@@ -1,67 +1,81 @@
--- A line without its newline is read part by part, as the code reads it: the field at fault is the first number that is bad, else the end.
+-- A line without its newline is read part by part, as the code reads it: the field at fault is the first bad part, else the end.
 -- Assumes nothing.
 use Prim.Native.Nat.{ℕ}
 use mathlib.Core.Path.{◌≡◌, refl, sym, ap, ◌∙◌}
-use mathlib.Core.List.{List}
+use mathlib.Core.Bool.{Bool, true, false}
+use mathlib.Core.List.{List, [], ◌∷◌}
+use lib.Dec.{eqb}
 use lib.ListN.{drop}
 use Rattle.laws.specs.Choice.{by_test}
+use Rattle.terms.specs.declared.letters.Letter.{Letter}
+use Rattle.terms.specs.declared.letters.Lettered.{Lettered}
+use Rattle.terms.specs.declared.letters.Lettered.TheVariants.{Known, Unknown}
 use Rattle.terms.specs.declared.refusals.Field.{Field}
 use Rattle.terms.specs.declared.refusals.Field.TheVariants.{First, Second, Third, Fourth}
-use Rattle.text_rules.specs.declared.Span.{Span}
-use Rattle.text_rules.specs.declared.Shape.{Shape}
-use Rattle.text_rules.specs.declared.Shape.TheVariants.{Unknown as NoLetter, Alone, One, Two}
+use Rattle.terms.specs.Letters.{has_job, has_cell}
+use Rattle.terms.specs.Limits.{last_number}
+use Rattle.terms.specs.Words.{tab, newline}
 use Rattle.text_rules.specs.declared.Numeral.{Numeral}
 use Rattle.text_rules.specs.declared.Numeral.TheVariants.{Is, Missing}
-use Rattle.text_rules.specs.Alphabets.{Fields, alone, number as a-number, Numbers, are, not_at, at_end, before, ending, numbers_in}
-use Rattle.text_rules.specs.Fields.{number_at, shape_fields, parts_of, parts_by}
-use Rattle.text.specs.Read.{lacking_parts}
-use Rattle.text.proofs.NumberFields.{number_goes, number_lacks}
-
--- a number in front changes nothing
-before_torn : (v : ℕ) (x : Numbers) → lacking_parts (parts_of x) ≡ lacking_parts (parts_of (before v x))
-unfolding before
-before_torn v (are ns) = refl
-before_torn v (not_at k) = refl
+use Rattle.text_rules.specs.declared.Reading.TheVariants.{Good}
+use Rattle.text_rules.specs.Lines.{last_cell, field_ahead, is_number, number_then, ending, cell_part, job_part, read_line}
+use Rattle.text_rules.specs.Fields.{first_letter, number_at, lacking}
+use Rattle.text.proofs.LineParts.{cell_read, cell_missing, cell_none, job_read, job_missing, job_none, line_read, line_other, line_unknown}
 
 -- whatever the end of a line is, where all before it is right it is at fault
-end_torn : (t : List ℕ) → Fourth ≡ lacking_parts (parts_of (numbers_in alone 2 t))
-unfolding numbers_in ending
-end_torn t = by_test (at_end t) (λ e. rw e) (λ e. rw e)
+end_torn : (t : List ℕ) (l : Letter) (job cell : ℕ) → Fourth ≡ lacking (ending t (Good l job cell))
+unfolding ending lacking
+end_torn [] l job cell = refl
+end_torn (b ∷ []) l job cell = by_test (eqb b newline) (λ e. rw e) (λ e. rw e)
+end_torn (b ∷ c ∷ t) l job cell = refl
 
-end_later : (t : List ℕ) → (Fourth ≡ lacking_parts (parts_of (ending 3 t))) × (Fourth ≡ lacking_parts (parts_of (ending 4 t)))
-unfolding ending
-end_later t = by_test (at_end t) (λ e. rw e (refl, refl)) (λ e. rw e (refl, refl))
+-- a cell that is right
+pub cell_torn : (l : Letter) (at v next : ℕ) (line : List ℕ) (n : Numeral) → has_cell l ≡ true → n ≡ number_at last_cell at (drop at line) → n ≡ Is v next → Fourth ≡ lacking (cell_part l 0 (drop at line))
+cell_torn l at v next line n h e f = end_torn (drop next line) l 0 v ∙ ap lacking (cell_read l 0 at v next line n (ending (drop next line) (Good l 0 v)) h e f refl)
 
--- one number, which is right or not
-pub one_torn : (s : Span) (v next : ℕ) (line : List ℕ) (n : Numeral) → n ≡ number_at s 1 (drop 1 line) → n ≡ Is v next → Fourth ≡ lacking_parts (parts_of (numbers_in (a-number s alone) 2 (drop 1 line)))
-unfolding numbers_in
-one_torn s v next line n e f = (end_later (drop next line)).0 ∙ before_torn v (ending 3 (drop next line)) ∙ sym (ap (λ x. lacking_parts (parts_of x)) (number_goes s alone 2 1 v next line (sym e ∙ f)))
+-- a cell that is not
+pub cell_lacks : (l : Letter) (at : ℕ) (line : List ℕ) (n : Numeral) → has_cell l ≡ true → n ≡ number_at last_cell at (drop at line) → n ≡ Missing → Third ≡ lacking (cell_part l 0 (drop at line))
+unfolding lacking
+cell_lacks l at line n h e f = ap lacking (cell_missing l 0 at line n h e f)
 
-pub one_lacks : (s : Span) (fs : Fields) (line : List ℕ) (n : Numeral) → n ≡ number_at s 1 (drop 1 line) → n ≡ Missing → Second ≡ lacking_parts (parts_of (numbers_in (a-number s fs) 2 (drop 1 line)))
-one_lacks s fs line n e f = sym (ap (λ x. lacking_parts (parts_of x)) (number_lacks s fs 2 1 line (sym e ∙ f)))
+-- a letter that has no cell
+pub cell_unasked : (l : Letter) (at : ℕ) (line : List ℕ) → has_cell l ≡ false → Fourth ≡ lacking (cell_part l 0 (drop at line))
+cell_unasked l at line h = end_torn (drop at line) l 0 0 ∙ ap lacking (cell_none l 0 at line (ending (drop at line) (Good l 0 0)) h refl)
 
--- a second number
-pub second_torn : (s : Span) (at v next : ℕ) (line : List ℕ) (n : Numeral) → n ≡ number_at s at (drop at line) → n ≡ Is v next → Fourth ≡ lacking_parts (parts_of (numbers_in (a-number s alone) 3 (drop at line)))
-unfolding numbers_in
-second_torn s at v next line n e f = (end_later (drop next line)).1 ∙ before_torn v (ending 4 (drop next line)) ∙ sym (ap (λ x. lacking_parts (parts_of x)) (number_goes s alone 3 at v next line (sym e ∙ f)))
+-- which job it is makes no difference
+any_job : (l : Letter) (i j : ℕ) (t : List ℕ) → lacking (cell_part l i t) ≡ lacking (cell_part l j t)
+unfolding cell_part number_then
+any_job l i j [] = by_test (has_cell l) (λ h. rw h) (λ h. rw h (sym (end_torn [] l i 0) ∙ end_torn [] l j 0))
+any_job l i j (b ∷ t) =
+    by_test (has_cell l)
+    (λ h. rw h (by_test (eqb b tab)
+    (λ e. rw e (by_test (is_number last_cell (field_ahead t)) (λ n. rw n (sym (end_torn _ l i _) ∙ end_torn _ l j _)) (λ n. rw n)))
+    (λ e. rw e)))
+    (λ h. rw h (sym (end_torn (b ∷ t) l i 0) ∙ end_torn (b ∷ t) l j 0))
 
-pub second_lacks : (s : Span) (at : ℕ) (line : List ℕ) (n : Numeral) → n ≡ number_at s at (drop at line) → n ≡ Missing → Third ≡ lacking_parts (parts_of (numbers_in (a-number s alone) 3 (drop at line)))
-second_lacks s at line n e f = sym (ap (λ x. lacking_parts (parts_of x)) (number_lacks s alone 3 at line (sym e ∙ f)))
+-- a job that is right
+pub job_torn : (l : Letter) (v next : ℕ) (line : List ℕ) (n : Numeral) (r : Field) → has_job l ≡ true → n ≡ number_at last_number 1 (drop 1 line) → n ≡ Is v next → r ≡ lacking (cell_part l 0 (drop next line)) → r ≡ lacking (job_part l (drop 1 line))
+job_torn l v next line n r h e f g = g ∙ any_job l 0 v (drop next line) ∙ ap lacking (job_read l v next line n (cell_part l v (drop next line)) h e f refl)
 
--- two numbers, of which the first is right
-pub two_torn : (s t : Span) (v next : ℕ) (line : List ℕ) (n : Numeral) (r : Field) → n ≡ number_at s 1 (drop 1 line) → n ≡ Is v next → r ≡ lacking_parts (parts_of (numbers_in (a-number t alone) 3 (drop next line))) → r ≡ lacking_parts (parts_of (numbers_in (a-number s (a-number t alone)) 2 (drop 1 line)))
-two_torn s t v next line n r e f g =
-    g ∙ before_torn v (numbers_in (a-number t alone) 3 (drop next line)) ∙ sym (ap (λ x. lacking_parts (parts_of x)) (number_goes s (a-number t alone) 2 1 v next line (sym e ∙ f)))
+-- a job that is not
+pub job_lacks : (l : Letter) (line : List ℕ) (n : Numeral) → has_job l ≡ true → n ≡ number_at last_number 1 (drop 1 line) → n ≡ Missing → Second ≡ lacking (job_part l (drop 1 line))
+unfolding lacking
+job_lacks l line n h e f = ap lacking (job_missing l line n h e f)
 
--- the field at fault by the letter's shape
-pub unknown_torn : (h : Shape) (t : List ℕ) → h ≡ NoLetter → First ≡ lacking_parts (parts_by (shape_fields h) t)
-unknown_torn h t e = rw e
+-- a letter that has no job
+pub job_unasked : (l : Letter) (line : List ℕ) (r : Field) → has_job l ≡ false → r ≡ lacking (cell_part l 0 (drop 1 line)) → r ≡ lacking (job_part l (drop 1 line))
+job_unasked l line r h g = g ∙ ap lacking (job_none l line (cell_part l 0 (drop 1 line)) h refl)
 
-pub alone_torn : (h : Shape) (t : List ℕ) → h ≡ Alone → Fourth ≡ lacking_parts (parts_by (shape_fields h) t)
-alone_torn h t e = rw e (end_torn t)
+-- a line of a letter that such lines have
+pub line_torn : (which : Letter → Bool) (l : Letter) (line : List ℕ) (n : Lettered) (r : Field) → n ≡ first_letter line → n ≡ Known l → which l ≡ true → r ≡ lacking (job_part l (drop 1 line)) → r ≡ lacking (read_line which line)
+line_torn which l line n r e f w g = g ∙ ap lacking (line_read which l line n (job_part l (drop 1 line)) e f w refl)
 
-pub one_shape : (h : Shape) (s : Span) (t : List ℕ) (r : Field) → h ≡ One s → r ≡ lacking_parts (parts_of (numbers_in (a-number s alone) 2 t)) → r ≡ lacking_parts (parts_by (shape_fields h) t)
-one_shape h s t r e g = rw e g
+-- a line of another letter
+pub other_torn : (which : Letter → Bool) (l : Letter) (line : List ℕ) (n : Lettered) → n ≡ first_letter line → n ≡ Known l → which l ≡ false → First ≡ lacking (read_line which line)
+unfolding lacking
+other_torn which l line n e f w = ap lacking (line_other which l line n e f w)
 
-pub two_shape : (h : Shape) (s u : Span) (t : List ℕ) (r : Field) → h ≡ Two s u → r ≡ lacking_parts (parts_of (numbers_in (a-number s (a-number u alone)) 2 t)) → r ≡ lacking_parts (parts_by (shape_fields h) t)
-two_shape h s u t r e g = rw e g
+-- a line of no letter
+pub unknown_torn : (which : Letter → Bool) (line : List ℕ) (n : Lettered) → n ≡ first_letter line → n ≡ Unknown → First ≡ lacking (read_line which line)
+unfolding lacking
+unknown_torn which line n e f = ap lacking (line_unknown which line n e f)

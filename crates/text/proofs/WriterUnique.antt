@@ -2,10 +2,6 @@
 -- Assumes nothing.
 use mathlib.Core.Path.{sym, ◌∙◌}
 use Rattle.laws.specs.Unique.{Unique, UniqueLent}
-use Rattle.text.proofs.events.kind_byte.Reads as kind-byte
-use Rattle.text.proofs.events.kind_byte.Kinds as kind-byteK
-use Rattle.text.proofs.events.mark_byte.Reads as mark-byte
-use Rattle.text.proofs.events.mark_byte.Kinds as mark-byteK
 use Rattle.text.proofs.writer.width.Reads as width
 use Rattle.text.proofs.writer.width.Kinds as widthK
 use Rattle.text.proofs.writer.has_room.Reads as has_room
@@ -36,12 +32,6 @@ pub write_answer_unique : UniqueLent write-answerK.ps write-answerK.r write-answ
 write_answer_unique κs a x y e f p q = (p.0 ∙ sym q.0, p.1 ∙ sym q.1)
 
 -- what writing a letter's line tells, and what the buffer then holds
-pub kind_byte_unique : Unique kind-byteK.ps kind-byteK.r kind-byte.Post
-kind_byte_unique κs a x y e f p q = p ∙ sym q
-
-pub mark_byte_unique : Unique mark-byteK.ps mark-byteK.r mark-byte.Post
-mark_byte_unique κs a x y e f p q = p ∙ sym q
-
 pub write_line_unique : UniqueLent write-lineK.ps write-lineK.r write_line.Post (λ κs e. e.0.now)
 write_line_unique κs a x y e f p q = (p.0 ∙ sym q.0, p.1 ∙ sym q.1)
 

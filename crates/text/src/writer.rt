@@ -1,14 +1,15 @@
 // The record writer: puts one record into a lent buffer, from the place given and not before it (01, Lines).
 // The buffer's part from that place on is lent, and its later part to one field writer after another; each writes from the first byte of its part.
 ghost use Rattle.std.specs.Prelude.{◌≡◌, true, [], ◌∷◌, ◌++◌, ◌+◌, ◌≤◌, ◌<◌, ltb, leb, length};
+ghost use Rattle.terms.specs.Letters.{has_job, has_cell};
 ghost use Rattle.terms.specs.Words.{tab, newline, spelt};
 ghost use Rattle.text_rules.specs.Decimal.{decimal};
 ghost use Rattle.text_rules.specs.Wrote.{Wrote};
-ghost use Rattle.text_rules.specs.Records.{field, answer_record, line_record, numbers_of, has_first, first_of, has_second, second_of, told, left};
+ghost use Rattle.text_rules.specs.Records.{field, answer_record, line_record, told, left};
 
 use terms::words::{NEWLINE, TAB};
-use terms::{Refusal, Word, spelled};
-use text_rules::{Columns, Written};
+use terms::{Letter, Refusal, Word, byte_of, has_cell, has_job, spelled};
+use text_rules::Written;
 
 // How many digits a number has in shortest decimal: four at a time, then the few that are left.
 pub fn width(n: u64) -> usize
@@ -138,69 +139,21 @@ fn put_answer(
     c + put_last(&mut part[c..], 0 < fault, fault, fourth)
 }
 
-// Whether a line has a first number.
-fn has_first(c: Columns) -> bool
-    ensures { result ≡ has_first c }
-{
-    match c {
-        Columns::None => false,
-        Columns::One(_) => true,
-        Columns::Two(_, _) => true,
-    }
-}
-
-// Its first number, or 0.
-fn first_of(c: Columns) -> u64
-    ensures { result ≡ first_of c }
-{
-    match c {
-        Columns::None => 0,
-        Columns::One(n) => n,
-        Columns::Two(m, _) => m,
-    }
-}
-
-// Whether it has a second one.
-fn has_second(c: Columns) -> bool
-    ensures { result ≡ has_second c }
-{
-    match c {
-        Columns::None => false,
-        Columns::One(_) => false,
-        Columns::Two(_, _) => true,
-    }
-}
-
-// Its second number, or 0.
-fn second_of(c: Columns) -> u64
-    ensures { result ≡ second_of c }
-{
-    match c {
-        Columns::None => 0,
-        Columns::One(_) => 0,
-        Columns::Two(_, n) => n,
-    }
-}
-
 // Writes the line of a letter whose second and third fields have known lengths: each field goes into the part after the one before.
-fn put_line(part: &mut [u8], letter: u8, columns: Columns, second: usize, third: usize) -> usize
-    requires { (second ≡ length (field (has_first columns) (first_of columns))) × (third ≡ length (field (has_second columns) (second_of columns))) × (length (line_record letter (numbers_of columns)) ≤ length part.old) }
-    ensures { Wrote 0 result (line_record letter (numbers_of columns)) part.old part.new }
+fn put_line(
+    part: &mut [u8],
+    letter: Letter,
+    job: u64,
+    second: usize,
+    cell: u64,
+    third: usize,
+) -> usize
+    requires { (second ≡ length (field (has_job letter) job)) × (third ≡ length (field (has_cell letter) cell)) × (length (line_record letter job cell) ≤ length part.old) }
+    ensures { Wrote 0 result (line_record letter job cell) part.old part.new }
 {
-    let a = put_byte(part, letter);
-    let b = a
-        + put_field(
-            &mut part[a..],
-            has_first(columns),
-            first_of(columns),
-            second,
-        );
-    b + put_last(
-        &mut part[b..],
-        has_second(columns),
-        second_of(columns),
-        third,
-    )
+    let a = put_byte(part, byte_of(letter));
+    let b = a + put_field(&mut part[a..], has_job(letter), job, second);
+    b + put_last(&mut part[b..], has_cell(letter), cell, third)
 }
 
 // Writes an answer record: request line number, word, number, and one field more if the fourth number is not 0.
@@ -237,15 +190,15 @@ pub fn write_answer(
     }
 }
 
-// Writes the line of a letter's byte with its numbers: a history record, or a request.
-pub fn write_line(buf: &mut [u8], at: usize, letter: u8, columns: Columns) -> Written
-    ensures { (result ≡ told buf.old at (line_record letter (numbers_of columns))) × (buf.new ≡ left buf.old at (line_record letter (numbers_of columns))) }
+// Writes the line of a letter with the fields that it has: a history record, or a request.
+pub fn write_line(buf: &mut [u8], at: usize, letter: Letter, job: u64, cell: u64) -> Written
+    ensures { (result ≡ told buf.old at (line_record letter job cell)) × (buf.new ≡ left buf.old at (line_record letter job cell)) }
 {
-    let second = field_width(has_first(columns), first_of(columns));
-    let third = field_width(has_second(columns), second_of(columns));
+    let second = field_width(has_job(letter), job);
+    let third = field_width(has_cell(letter), cell);
     let room = buf.len();
     if has_room(room, at, second + third + 2) {
-        let n = put_line(&mut buf[at..], letter, columns, second, third);
+        let n = put_line(&mut buf[at..], letter, job, second, cell, third);
         Written::Next(at + n)
     } else {
         Written::Refused(Refusal::NoRoom)

@@ -1,19 +1,24 @@
--- A line cut off: a fixed number of its first bytes decides how it reads, whatever follows; the number is counted field by field, over any alphabet (01, Lines; 02, No. 5).
+-- A line cut off: a fixed number of its first bytes decides how it reads, whatever follows; sixteen for a line, counted field by field (01, Lines; 02, No. 5).
 -- Assumes nothing.
 use Prim.Native.Nat.{ℕ, suc, ◌+◌, ◌^◌, ◌≤◌, ◌<◌}
-use mathlib.Core.Path.{◌≡◌, refl, sym, ap, ◌∙◌}
+use mathlib.Core.Path.{◌≡◌, refl, sym, ap}
 use mathlib.Core.Bool.{Bool, true, false}
 use mathlib.Core.List.{List, [], ◌∷◌, ◌++◌}
-use mathlib.Core.Option.{Option, none, some}
 use native.Mathlib.Omega.{arith}
 use lib.Dec.{eqb}
 use borrow.Author.Tests.{eqb-true}
 use lib.ListN.{length, length-append}
-use Rattle.laws.specs.Choice.{pick, by_test, not_both}
+use Rattle.laws.specs.Choice.{by_test, not_both}
+use Rattle.terms.specs.declared.letters.Letter.{Letter}
+use Rattle.terms.specs.declared.letters.Lettered.{Lettered}
+use Rattle.terms.specs.declared.letters.Lettered.TheVariants.{Known, Unknown}
+use Rattle.terms.specs.declared.refusals.Field.{Field}
+use Rattle.terms.specs.declared.refusals.Field.TheVariants.{Second, Third}
+use Rattle.terms.specs.Letters.{has_job, has_cell}
+use Rattle.terms.specs.Limits.{last_number}
 use Rattle.terms.specs.Words.{tab, newline}
-use Rattle.text_rules.specs.declared.Span.{Span}
-use Rattle.text_rules.specs.Alphabets.{Fields, alone, number, perhaps, Alphabet, Numbers, Line, at_end, tab_ahead, number_ahead, value_ahead, after_number, number_then, ending, numbers_in, faulty, behind, line_by, read_fields}
-use Rattle.text_rules.specs.Lines.{parts, field_ahead, after_field, value_from, is_number, end_ahead}
+use Rattle.text_rules.specs.declared.Reading.{Reading}
+use Rattle.text_rules.specs.Lines.{last_cell, parts, field_ahead, after_field, value_from, is_number, number_then, ending, cell_part, job_part, letter_in, letter_part, read_line}
 use Rattle.text_rules.specs.Split.{no_newline}
 use Rattle.text_rules.proofs.DigitLaws.{digits_at_most}
 use Rattle.text_rules.proofs.FieldParts.{field_then}
@@ -59,106 +64,102 @@ long_no_number d most f h g =
     (λ n. n)
 
 -- a reading of a text is decided by this many of its bytes, if none is a newline, whatever follows
-abbrev pub Decided : {A : Type 0} → ℕ → (List ℕ → A) → Type 0
+abbrev Decided : ℕ → (List ℕ → Reading) → Type 0
 Decided n f = (t q : List ℕ) → no_newline t ≡ true → n ≤ length t → f (t ++ q) ≡ f t
 
 -- the end of a line
-ending_decided : (at : ℕ) → Decided 1 (ending at)
-unfolding ending at_end no_newline
-ending_decided at [] q h l = absurd (omega arith)
-ending_decided at (b ∷ []) [] h l = refl
-ending_decided at (b ∷ []) (c ∷ q) h l = by_test (eqb b newline) (λ e. not_both (rw e at h) refl) (λ e. rw e)
-ending_decided at (b ∷ c ∷ t) q h l = refl
-
--- a number field and what follows it
-abbrev number_on : Span → ℕ → (List ℕ → Numbers) → List ℕ → Numbers
-number_on s at later t = number_then s at t (later (after_number t))
+ending_decided : (good : Reading) → Decided 1 (λ t. ending t good)
+unfolding ending no_newline
+ending_decided good [] q h l = absurd (omega arith)
+ending_decided good (b ∷ []) [] h l = refl
+ending_decided good (b ∷ []) (c ∷ q) h l = by_test (eqb b newline) (λ e. not_both (rw e at h) refl) (λ e. rw e)
+ending_decided good (b ∷ c ∷ t) q h l = refl
 
 -- the number field of a text, whether its field ends within the text or goes on to its end
-module _ (d n at : ℕ) (s : Span) (few : s.most < 10 ^ suc d) (later : List ℕ → Numbers) (goes_on : Decided (suc n) later) (t q : List ℕ) (plain : no_newline t ≡ true) (long : n + d + 2 ≤ length t) where
+module _ (d most n : ℕ) (at : Field) (few : most < 10 ^ suc d) (rest : ℕ → List ℕ → Reading) (goes_on : (v : ℕ) → Decided (suc n) (rest v)) (t q : List ℕ) (plain : no_newline t ≡ true) (long : n + d + 2 ≤ length t) where
   -- the field goes on: it is too long
-  number_long : after_field t ≡ [] → number_on s at later (tab ∷ t ++ q) ≡ number_on s at later (tab ∷ t)
-  unfolding number_then number_ahead
+  number_long : after_field t ≡ [] → number_then most at (tab ∷ t ++ q) rest ≡ number_then most at (tab ∷ t) rest
+  unfolding number_then
   number_long e =
       let g = field_goes_on t q e in
-      let a : is_number s.most (t ++ field_ahead q) ≡ false = long_no_number d s.most _ few (omega (arith, length-append t (field_ahead q))) in
-      let b : is_number s.most t ≡ false = long_no_number d s.most t few (omega arith) in
+      let a : is_number most (t ++ field_ahead q) ≡ false = long_no_number d most _ few (omega (arith, length-append t (field_ahead q))) in
+      let b : is_number most t ≡ false = long_no_number d most t few (omega arith) in
       rw (g.0, g.1, a, b)
 
   -- the field ends: it is the same, and what follows is long enough if it is a number
-  number_same : (x : ℕ) (v : List ℕ) → after_field t ≡ x ∷ v → number_on s at later (tab ∷ t ++ q) ≡ number_on s at later (tab ∷ t)
-  unfolding number_then number_ahead value_ahead after_number
+  number_same : (x : ℕ) (v : List ℕ) → after_field t ≡ x ∷ v → number_then most at (tab ∷ t ++ q) rest ≡ number_then most at (tab ∷ t) rest
+  unfolding number_then
   number_same x v e =
       let g = field_same t q x v e in
-      by_test (is_number s.most (field_ahead t))
+      by_test (is_number most (field_ahead t))
       (λ k.
-      let i = is_number_lem s.most (field_ahead t) k in
+      let i = is_number_lem most (field_ahead t) k in
       let small = i.1 in
       let most-digits = digits_at_most d (value_from 0 (field_ahead t)) (omega arith) in
       let left : suc n ≤ length (x ∷ v) = omega (arith, parts_length t, ap length i.0, ap length e) in
-      let same : later ((x ∷ v) ++ q) ≡ later (x ∷ v) = goes_on (x ∷ v) q (rw e at (plain_after t plain)) left in
-      rw (g.0, g.1, e, same))
+      rw (g.0, g.1, e, k) (goes_on (value_from 0 (field_ahead t)) (x ∷ v) q (rw e at (plain_after t plain)) left))
       (λ k. rw (g.0, k))
 
   -- in both cases
-  number_tabbed : (u : List ℕ) → after_field t ≡ u → number_on s at later (tab ∷ t ++ q) ≡ number_on s at later (tab ∷ t)
+  number_tabbed : (u : List ℕ) → after_field t ≡ u → number_then most at (tab ∷ t ++ q) rest ≡ number_then most at (tab ∷ t) rest
   number_tabbed [] e = number_long e
   number_tabbed (x ∷ v) e = number_same x v e
 
 -- a number field of at most this many digits, its tab, and what the rest needs
-number_decided : (d n at : ℕ) (s : Span) → s.most < 10 ^ suc d → (later : List ℕ → Numbers) → Decided (suc n) later → Decided (n + d + 3) (number_on s at later)
-unfolding number_then number_ahead no_newline
-number_decided d n at s few later goes_on [] q h l = absurd (omega arith)
-number_decided d n at s few later goes_on (b ∷ t) q h l =
+number_decided : (d most n : ℕ) (at : Field) → most < 10 ^ suc d → (rest : ℕ → List ℕ → Reading) → ((v : ℕ) → Decided (suc n) (rest v)) → Decided (n + d + 3) (λ t. number_then most at t rest)
+unfolding number_then no_newline
+number_decided d most n at few rest goes_on [] q h l = absurd (omega arith)
+number_decided d most n at few rest goes_on (b ∷ t) q h l =
     by_test (eqb b tab)
-    (λ e. rw (eqb-true b tab e) (number_tabbed d n at s few later goes_on t q (rw (eqb-true b tab e) at h) (omega arith) (after_field t) refl))
+    (λ e. rw (eqb-true b tab e) (number_tabbed d most n at few rest goes_on t q (rw (eqb-true b tab e) at h) (omega arith) (after_field t) refl))
     (λ e. rw e)
 
--- how many bytes decide fields: one for the end, and for a number a tab and one more than it can have digits
-pub data Room : ℕ → Fields → Type 0 where
-  end_room : Room 1 alone
-  number_room : (d n : ℕ) {s : Span} {fs : Fields} → s.most < 10 ^ suc d → Room (suc n) fs → Room (n + d + 3) (number s fs)
-  perhaps_room : (d : ℕ) {s : Span} → s.most < 10 ^ suc d → Room (d + 3) (perhaps s)
+-- a cell and the end: four bytes
+cell_decided : (l : Letter) (job : ℕ) → Decided 4 (cell_part l job)
+unfolding cell_part
+cell_decided l job t q h g =
+    by_test (has_cell l)
+    (λ e. rw e (number_decided 1 last_cell 0 Third (omega arith) _ (λ cell. ending_decided _) t q h g))
+    (λ e. rw e (ending_decided _ t q h (omega arith)))
 
--- what needs fewer bytes is decided by more
-decided_more : {A : Type 0} {f : List ℕ → A} (m n : ℕ) → m ≤ n → Decided m f → Decided n f
-decided_more m n le d t q h l = d t q h (omega arith)
+-- a job and what follows it: fifteen
+job_decided : (l : Letter) → Decided 15 (job_part l)
+unfolding job_part
+job_decided l t q h g =
+    by_test (has_job l)
+    (λ e. rw e (number_decided 9 last_number 3 Second (omega arith) (cell_part l) (cell_decided l) t q h g))
+    (λ e. rw e (cell_decided l 0 t q h (omega arith)))
 
--- a tab ahead stays whatever follows
-tab_same : (t q : List ℕ) → 1 ≤ length t → tab_ahead (t ++ q) ≡ tab_ahead t
-unfolding tab_ahead
-tab_same [] q l = absurd (omega arith)
-tab_same (b ∷ t) q l = refl
+-- a field of two bytes is not a letter
+long_no_letter : (f : List ℕ) → 2 ≤ length f → letter_in f ≡ Unknown
+unfolding letter_in
+long_no_letter [] h = refl
+long_no_letter (b ∷ []) h = absurd (omega arith)
+long_no_letter (b ∷ c ∷ f) h = refl
 
--- fields are decided by as many bytes as they have room
-fields_decided : (n : ℕ) (fs : Fields) → Room n fs → (at : ℕ) → Decided n (numbers_in fs at)
-unfolding numbers_in
-fields_decided n alone end_room at = ending_decided at
-fields_decided n (number s fs) (number_room d m few room) at = number_decided d m at s few (numbers_in fs (suc at)) (fields_decided (suc m) fs room (suc at))
-fields_decided n (perhaps s) (perhaps_room d few) at = λ t q h l.
-    by_test (tab_ahead t)
-    (λ e. rw (tab_same t q (omega arith), e) (number_decided d 0 at s few (ending (suc at)) (ending_decided (suc at)) t q h (omega arith)))
-    (λ e. rw (tab_same t q (omega arith), e) (ending_decided at t q h (omega arith)))
+-- a letter has one byte
+letter_one : (f : List ℕ) (l : Letter) → letter_in f ≡ Known l → length f ≤ 1
+unfolding letter_in
+letter_one [] l e = omega arith
+letter_one (b ∷ []) l e = omega arith
+letter_one (b ∷ c ∷ f) l e = let z : ◌≡◌ {A = ℕ} 0 1 = cc in absurd (omega arith)
 
--- in no alphabet do the fields behind a letter need more bytes than this
-abbrev pub RoomFor : ℕ → Alphabet → Type 0
-RoomFor n a = (letter : ℕ) (fs : Fields) → a.fields letter ≡ some fs → (m : ℕ) × (m ≤ n) × Room m fs
-
--- whether a field ends is decided by one byte
-end_same : (t q : List ℕ) → 1 ≤ length t → end_ahead (t ++ q) ≡ end_ahead t
-unfolding end_ahead
-end_same [] q l = absurd (omega arith)
-end_same (b ∷ t) q l = refl
-
--- A LINE IS DECIDED by one byte more than the fields of its alphabet need
-pub line_decided : (n : ℕ) (a : Alphabet) → RoomFor (suc n) a → Decided (n + 2) (read_fields a)
-unfolding read_fields line_by no_newline
-line_decided n a room [] q h g = absurd (omega arith)
-line_decided n a room (b ∷ t) q h g = rw (end_same t q (omega arith)) (ap (λ x. pick (end_ahead t) x (faulty 1)) (by_fields (a.fields b) refl))
+-- a line is decided by sixteen bytes
+pub line_decided : (which : Letter → Bool) → Decided 16 (read_line which)
+unfolding read_line letter_part
+line_decided which t q h g = go (after_field t) refl
   where
-    plain : no_newline t ≡ true
-    plain = by_test (eqb b newline) (λ e. not_both (rw e at h) refl) (λ e. rw e at h)
+    by_letter : (n : Lettered) (x : ℕ) (v : List ℕ) → after_field t ≡ x ∷ v → letter_in (field_ahead t) ≡ n → letter_part which n ((x ∷ v) ++ q) ≡ letter_part which n (x ∷ v)
+    by_letter Unknown x v e k = refl
+    by_letter (Known l) x v e k =
+        let long : 15 ≤ length (x ∷ v) = omega (arith, parts_length t, ap length e, letter_one (field_ahead t) l k) in
+        by_test (which l) (λ w. rw w (job_decided l (x ∷ v) q (rw e at (plain_after t h)) long)) (λ w. rw w)
 
-    by_fields : (o : Option Fields) → a.fields b ≡ o → line_by o b (t ++ q) ≡ line_by o b t
-    by_fields none k = refl
-    by_fields (some fs) k = let r = room b fs k in ap (behind b) (fields_decided r.0 fs r.2 2 t q plain (omega (arith, r.1)))
+    go : (u : List ℕ) → after_field t ≡ u → letter_part which (letter_in (field_ahead (t ++ q))) (after_field (t ++ q)) ≡ letter_part which (letter_in (field_ahead t)) (after_field t)
+    go [] e =
+        let f = field_goes_on t q e in
+        let a = long_no_letter (t ++ field_ahead q) (omega (arith, length-append t (field_ahead q))) in
+        rw (f.0, f.1, a, long_no_letter t (omega arith))
+    go (x ∷ v) e =
+        let f = field_same t q x v e in
+        rw (f.0, f.1, e) (by_letter (letter_in (field_ahead t)) x v e refl)

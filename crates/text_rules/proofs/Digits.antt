@@ -10,8 +10,8 @@ use lib.Dec.{leb}
 use borrow.Author.Tests.{le-leb, lt-leb, leb-true}
 use Rattle.laws.specs.Choice.{by_test, not_both}
 use Rattle.text_rules.specs.declared.Numeral.TheVariants.{Is, Missing}
-use Rattle.text_rules.specs.Lines.{parts, is_digit, value_from, end_ahead}
-use Rattle.text_rules.specs.Fields.{digits_of, after_digits, digit_ahead, digits_at}
+use Rattle.text_rules.specs.Lines.{parts, is_digit, value_from}
+use Rattle.text_rules.specs.Fields.{digits_of, after_digits, digit_ahead, end_ahead, digits_at}
 use Rattle.text_rules.proofs.Places.{byte_here}
 
 -- a number grows with each digit

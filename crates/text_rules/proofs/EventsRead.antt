@@ -1,26 +1,31 @@
--- Events within limits: their numbers fit the fields of their letters, and the text of a history is short (01, Lines).
+-- An event's record reads as its letter and fields, and the text of a history is short (01, Lines).
 -- Assumes nothing.
 use Prim.Native.Nat.{ℕ, ◌*◌, ◌≤◌, ◌<◌}
 use mathlib.Core.Path.{◌≡◌, refl}
-use mathlib.Core.Bool.{true, false, ◌&&◌}
+use mathlib.Core.Bool.{true, ◌&&◌}
 use mathlib.Core.List.{[], ◌∷◌}
 use native.Mathlib.Omega.{arith}
 use lib.Dec.{leb, ltb}
 use lib.ListN.{length, length-append}
 use borrow.Author.Tests.{leb-true, ltb-true, le-leb, lt-ltb}
+use Rattle.laws.specs.Choice.{not_both}
 use Rattle.laws.proofs.Parts.{and_first, and_second, and_both}
+use Rattle.terms.specs.declared.letters.Letter.TheVariants.{Commit, GiveUp, Back, Asks}
+use Rattle.terms.specs.Letters.{of_histories}
 use Rattle.terms.specs.Limits.{cells, last_number}
 use Rattle.conflict.specs.declared.action.Action.{Action}
+use Rattle.conflict.specs.declared.action.Kind.{Kind}
+use Rattle.conflict.specs.declared.action.Kind.TheVariants.{Read, Write, Increment}
 use Rattle.conflict.specs.declared.action.Mark.{Mark}
+use Rattle.conflict.specs.declared.action.Mark.TheVariants.{Commit as commits, GiveUp as gives_up, Back as goes_back}
 use Rattle.conflict.specs.declared.action.Event.{Event}
 use Rattle.conflict.specs.declared.action.Event.TheVariants.{Does, Ends}
 use Rattle.conflict.specs.History.{History}
-use Rattle.text_rules.specs.EventRecords.{kind_byte, mark_byte, event_line, text_of, within, all_within}
-use Rattle.text_rules.specs.declared.Columns.TheVariants.{One, Two}
-use Rattle.text_rules.specs.Alphabets.{alone, number, last_cell, job_span, cell_span}
-use Rattle.text_rules.specs.GoodLine.{Fit, none_left, one_more_lem}
-use Rattle.text_rules.proofs.FieldLaws.{field_at_most, no_field_length}
-use Rattle.text_rules.proofs.Length.{line_length}
+use Rattle.text_rules.specs.declared.Reading.TheVariants.{Good}
+use Rattle.text_rules.specs.Lines.{read_line}
+use Rattle.text_rules.specs.EventRecords.{ask_by, mark_letter, event_line, text_of, within, all_within}
+use Rattle.text_rules.proofs.ReadBack.{reads_record}
+use Rattle.text_rules.proofs.Length.{line_at_most_16}
 
 -- the bounds of an action within the limits
 pub action_within : (last : ℕ) (a : Action) → within last (Does a) ≡ true → (1 ≤ a.job) × (a.job ≤ last) × (a.cell < cells)
@@ -58,23 +63,32 @@ within_more few many le (Ends m j ∷ h) w =
     let b = mark_within few m j (and_first (within few (Ends m j)) (all_within few h) w) in
     and_both (within many (Ends m j)) (all_within many h) (within_mark many m j b.0 (omega (arith, b.1))) (within_more few many le h (and_second (within few (Ends m j)) (all_within few h) w))
 
--- the numbers of an action fit its fields
-pub action_fits : (j c : ℕ) → j ≤ last_number → c ≤ last_cell → Fit (number job_span (number cell_span alone)) (j ∷ c ∷ [])
-action_fits j c h g = one_more_lem {s = job_span} {n = j} (omega arith) h (one_more_lem {s = cell_span} {n = c} (omega arith) g none_left)
+-- the letter of an action is one of histories: r, w or i, and never u (02, No. 1)
+of_history : (k : Kind) → of_histories (Asks (ask_by k)) ≡ true
+unfolding ask_by
+of_history Read = refl
+of_history Write = refl
+of_history Increment = refl
 
--- and so does that of a mark
-pub mark_fits : (j : ℕ) → j ≤ last_number → Fit (number job_span alone) (j ∷ [])
-mark_fits j h = one_more_lem {s = job_span} {n = j} (omega arith) h none_left
+-- an action's record reads as that action
+pub reads_action : (a : Action) → within last_number (Does a) ≡ true → read_line of_histories (event_line (Does a)) ≡ Good (Asks (ask_by a.kind)) a.job a.cell
+unfolding event_line
+reads_action a w =
+    let b = action_within last_number a w in
+    reads_record of_histories (Asks (ask_by a.kind)) a.job a.cell (of_history a.kind) (omega arith) (omega arith) (λ e. not_both refl e) (λ e. not_both refl e)
+
+-- a mark's record reads as that mark
+pub reads_mark : (m : Mark) (j : ℕ) → within last_number (Ends m j) ≡ true → read_line of_histories (event_line (Ends m j)) ≡ Good (mark_letter m) j 0
+unfolding event_line mark_letter
+reads_mark commits j w = let b = mark_within last_number commits j w in reads_record of_histories Commit j 0 refl (omega arith) (omega arith) (λ e. not_both refl e) (λ e. refl)
+reads_mark gives_up j w = let b = mark_within last_number gives_up j w in reads_record of_histories GiveUp j 0 refl (omega arith) (omega arith) (λ e. not_both refl e) (λ e. refl)
+reads_mark goes_back j w = let b = mark_within last_number goes_back j w in reads_record of_histories Back j 0 refl (omega arith) (omega arith) (λ e. not_both refl e) (λ e. refl)
 
 -- an event's record is short
 line_short : (e : Event) → within last_number e ≡ true → length (event_line e) ≤ 16
 unfolding event_line
-line_short (Does a) w =
-    let b = action_within last_number a w in
-    omega (arith, line_length (kind_byte a.kind) (Two a.job a.cell), field_at_most 9 true a.job (omega arith), field_at_most 1 true a.cell (omega arith))
-line_short (Ends m j) w =
-    let b = mark_within last_number m j w in
-    omega (arith, line_length (mark_byte m) (One j), field_at_most 9 true j (omega arith), no_field_length false 0 refl)
+line_short (Does a) w = let b = action_within last_number a w in line_at_most_16 (Asks (ask_by a.kind)) a.job a.cell (omega arith) (omega arith)
+line_short (Ends m j) w = let b = mark_within last_number m j w in line_at_most_16 (mark_letter m) j 0 (omega arith) (omega arith)
 
 -- and the text of a history is short: 16 bytes for each record are enough
 pub text_short : (h : History) → all_within last_number h ≡ true → length (text_of h) ≤ 16 * length h

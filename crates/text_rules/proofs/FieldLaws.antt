@@ -8,13 +8,13 @@ use native.Mathlib.Omega.{arith}
 use lib.Dec.{ltb}
 use lib.ListN.{length}
 use Rattle.laws.specs.Choice.{by_test}
+use Rattle.terms.specs.declared.letters.Letter.{Letter}
 use Rattle.terms.specs.declared.words.Word.{Word}
+use Rattle.terms.specs.Letters.{byte_of, has_job, has_cell}
 use Rattle.terms.specs.Words.{tab, newline, spelt}
-use Rattle.text_rules.specs.declared.Columns.{Columns}
-use Rattle.text_rules.specs.declared.Columns.TheVariants.{None as Nothing, One, Two}
 use Rattle.text_rules.specs.Decimal.{decimal}
 use Rattle.text_rules.proofs.DigitLaws.{decimal_at_most_20, digits_at_most}
-use Rattle.text_rules.specs.Records.{tabbed, word_line, given, field, answer_record, line_record, numbers_of, has_first, first_of, has_second, second_of}
+use Rattle.text_rules.specs.Records.{tabbed, word_line, given, field, answer_record, line_record}
 
 -- a field that is present is a tab and its number
 pub field_there : (there : Bool) (n : ℕ) → there ≡ true → field there n ≡ tab ∷ decimal n
@@ -61,9 +61,7 @@ answer_is line word number fault =
     ∙ sym (append_assoc (decimal line ++ tab ∷ spelt word) n (f ++ newline ∷ []) ∙ append_assoc (decimal line) (tab ∷ spelt word) (n ++ (f ++ newline ∷ [])))
 
 -- a letter's line: the letter, the second field if it has one, and the last field with the newline
-pub line_is : (letter : ℕ) (c : Columns) → line_record letter (numbers_of c) ≡ (letter ∷ []) ++ field (has_first c) (first_of c) ++ (field (has_second c) (second_of c) ++ newline ∷ [])
-unfolding line_record tabbed field
-line_is letter Nothing = refl
-line_is letter (One n) = ap (λ t. letter ∷ tab ∷ t ++ newline ∷ []) (append-nil (decimal n))
-line_is letter (Two m n) =
-    ap (λ t. letter ∷ tab ∷ (decimal m ++ tab ∷ t) ++ newline ∷ []) (append-nil (decimal n)) ∙ append_assoc (letter ∷ tab ∷ decimal m) (tab ∷ decimal n) (newline ∷ [])
+pub line_is : (l : Letter) (job cell : ℕ) →
+    line_record l job cell ≡ (byte_of l ∷ []) ++ field (has_job l) job ++ (field (has_cell l) cell ++ newline ∷ [])
+unfolding line_record
+line_is l job cell = append_assoc (byte_of l ∷ field (has_job l) job) (field (has_cell l) cell) (newline ∷ [])

@@ -3,11 +3,12 @@
 use Prim.Native.Nat.{ℕ}
 use mathlib.Core.Path.{◌≡◌, refl}
 use mathlib.Core.List.{List, [], ◌∷◌}
+use mathlib.Core.Option.{some}
 use lib.Dec.{eqb}
 use borrow.Author.Tests.{eqb-true}
 use Rattle.laws.specs.Choice.{pick, by_test}
 use Rattle.terms.specs.Words.{tab, newline}
-use Rattle.text_rules.specs.FieldFaults.{fields_of, ended}
+use Rattle.text_rules.specs.FieldFaults.{fields_of, ended, field_at}
 use Rattle.text_rules.specs.Lines.{parts, field_ahead, after_field}
 use Rattle.text_rules.specs.Split.{in_front}
 
@@ -23,6 +24,21 @@ fields_are [] = refl
 fields_are (b ∷ t) =
     by_test (eqb b newline) (λ n. rw (eqb-true b newline n))
     (λ n. by_test (eqb b tab) (λ e. rw (eqb-true b tab e)) (λ e. rw (n, e, fields_are t)))
+
+-- the first field is the field that the line begins with
+pub first_is : (t : List ℕ) → field_at 1 (fields_of t) ≡ some (field_ahead t)
+unfolding field_at
+first_is t = rw (fields_are t)
+
+-- the second is the first of those that follow
+pub second_is : (t : List ℕ) → field_at 2 (fields_of t) ≡ field_at 1 (more (after_field t))
+unfolding field_at
+second_is t = rw (fields_are t)
+
+-- and the third is the second of them
+pub third_is : (t : List ℕ) → field_at 3 (fields_of t) ≡ field_at 2 (more (after_field t))
+unfolding field_at
+third_is t = rw (fields_are t)
 
 -- a line ends with its newline if what follows its first field does
 pub ended_after_lem : (t : List ℕ) → ended t ≡ ended (after_field t)

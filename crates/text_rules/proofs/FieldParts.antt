@@ -8,9 +8,15 @@ use native.Mathlib.Omega.{arith}
 use lib.Dec.{eqb}
 use borrow.Author.Tests.{eqb-true}
 use Rattle.laws.specs.Choice.{by_test, not_both}
+use Rattle.terms.specs.declared.letters.Ask.TheVariants.{Read, Write, Increment, Update}
+use Rattle.terms.specs.declared.letters.Letter.{Letter}
+use Rattle.terms.specs.declared.letters.Letter.TheVariants.{Begin, Commit, GiveUp, Retry, Back, Asks}
+use Rattle.terms.specs.declared.letters.Lettered.TheVariants.{Known}
+use Rattle.terms.specs.Letters.{byte_of}
 use Rattle.terms.specs.Words.{tab, newline}
-use Rattle.text_rules.specs.Lines.{parts, field_ahead, after_field, is_digit, digits_only, end_ahead}
-use Rattle.text_rules.specs.Fields.{digits_of, after_digits}
+use Rattle.text_rules.specs.Lines.{parts, field_ahead, after_field, is_digit, digits_only, letter_in}
+use Rattle.text_rules.specs.Fields.{digits_of, after_digits, end_ahead}
+use Rattle.terms.proofs.Alphabet.{byte_of_letter}
 use Rattle.text_rules.proofs.DecimalLaws.{only_parts}
 
 -- the field that a text begins with, and what follows, are the text
@@ -30,6 +36,33 @@ pub field_none : (t : List ℕ) → end_ahead t ≡ true → (field_ahead t ≡ 
 unfolding field_ahead after_field end_ahead
 field_none [] h = (refl, refl)
 field_none (b ∷ t) h = (rw h, rw h)
+
+-- a letter does not end a field
+letter_no_part : (l : Letter) → parts (byte_of l) ≡ false
+unfolding parts
+letter_no_part Begin = refl
+letter_no_part Commit = refl
+letter_no_part GiveUp = refl
+letter_no_part Retry = refl
+letter_no_part Back = refl
+letter_no_part (Asks Read) = refl
+letter_no_part (Asks Write) = refl
+letter_no_part (Asks Increment) = refl
+letter_no_part (Asks Update) = refl
+
+-- a letter before the end of a field is the field
+pub letter_before : (l : Letter) (t : List ℕ) → end_ahead t ≡ true → (field_ahead (byte_of l ∷ t) ≡ byte_of l ∷ []) × (after_field (byte_of l ∷ t) ≡ t)
+unfolding field_ahead after_field
+letter_before l t h =
+    let e = field_none t h in
+    (rw (letter_no_part l) (ap (λ u. byte_of l ∷ u) e.0), rw (letter_no_part l) e.1)
+
+-- a first field that is a letter is its byte
+pub letter_field : (f : List ℕ) (l : Letter) → letter_in f ≡ Known l → f ≡ byte_of l ∷ []
+unfolding letter_in
+letter_field [] l e = let z : ◌≡◌ {A = ℕ} 0 1 = cc in absurd (omega arith)
+letter_field (b ∷ []) l e = ap (λ x. x ∷ []) (sym (byte_of_letter b l e))
+letter_field (b ∷ c ∷ t) l e = let z : ◌≡◌ {A = ℕ} 0 1 = cc in absurd (omega arith)
 
 -- a digit does not end a field
 pub digit_no_part : (b : ℕ) → is_digit b ≡ true → parts b ≡ false

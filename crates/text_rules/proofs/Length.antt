@@ -1,28 +1,27 @@
 -- How many bytes a record has: exactly, and at most (01, Lines: the longest answer record has 24).
 -- Assumes nothing.
-use Prim.Native.Nat.{ℕ, suc, ◌+◌, ◌≤◌, ◌<◌}
-use mathlib.Core.Path.{◌≡◌, refl, ap}
+use Prim.Native.Nat.{ℕ, ◌+◌, ◌≤◌, ◌<◌}
+use mathlib.Core.Path.{◌≡◌, refl}
 use mathlib.Core.Bool.{true}
-use mathlib.Core.List.{List, [], ◌∷◌}
+use mathlib.Core.List.{[], ◌∷◌}
 use native.Mathlib.Omega.{arith}
 use lib.Dec.{ltb}
 use borrow.Author.Tests.{ltb-true}
 use lib.ListN.{length, length-append}
 use Rattle.laws.specs.Choice.{by_test, not_both}
 use Rattle.terms.specs.declared.letters.Ask.TheVariants.{Increment}
+use Rattle.terms.specs.declared.letters.Letter.{Letter}
+use Rattle.terms.specs.declared.letters.Letter.TheVariants.{Asks}
 use Rattle.terms.specs.declared.words.Word.{Word}
 use Rattle.terms.specs.declared.words.Word.TheVariants.{Go, Wait, Back, No, Wake, Orderly, Knot, Dirty}
-use Rattle.terms.specs.Letters.{ask_byte}
-use Rattle.terms.specs.Words.{tab, newline, spelt}
-use Rattle.text_rules.specs.declared.Columns.{Columns}
-use Rattle.text_rules.specs.Alphabets.{Fields, alone, number as a-number, perhaps, Alphabet, last_cell}
+use Rattle.terms.specs.Letters.{has_job, has_cell}
+use Rattle.terms.specs.Words.{spelt}
 use Rattle.text_rules.specs.Decimal.{decimal, digits_in}
-use Rattle.text_rules.specs.GoodLine.{Fit, none_left, one_more_lem, left_out, there, GoodLine}
-use Rattle.text_rules.specs.Records.{of_answers, answer_record, longest_record, field, line_record, numbers_of, has_first, first_of, has_second, second_of, tabbed, word_line, given}
+use Rattle.text_rules.specs.Lines.{last_cell}
+use Rattle.text_rules.specs.Records.{of_answers, answer_record, longest_record, field, line_record, tabbed, word_line, given}
 use Rattle.text_rules.specs.Split.{kept}
-use Rattle.text_rules.proofs.CutLines.{Room, end_room, number_room, perhaps_room, RoomFor}
 use Rattle.text_rules.proofs.DigitLaws.{digits_at_most}
-use Rattle.text_rules.proofs.FieldLaws.{field_at_most, no_field_length, answer_is, line_is}
+use Rattle.text_rules.proofs.FieldLaws.{field_at_most, no_field_length, answer_is}
 
 -- the length of an answer record: its fields, a tab and a newline, and the tabs of the third and fourth fields
 pub answer_length : (line : ℕ) (word : Word) (number fault : ℕ) →
@@ -30,8 +29,9 @@ pub answer_length : (line : ℕ) (word : Word) (number fault : ℕ) →
 answer_length line word number fault = rw (answer_is line word number fault) (simp length-append (omega arith))
 
 -- the length of a letter's line: its letter, its further fields and a newline
-pub line_length : (letter : ℕ) (c : Columns) → length (line_record letter (numbers_of c)) ≡ length (field (has_first c) (first_of c)) + length (field (has_second c) (second_of c)) + 2
-line_length letter c = rw (line_is letter c) (simp length-append (omega arith))
+pub line_length : (l : Letter) (job cell : ℕ) → length (line_record l job cell) ≡ length (field (has_job l) job) + length (field (has_cell l) cell) + 2
+unfolding line_record
+line_length l job cell = simp length-append (omega arith)
 
 -- a word of answer records has at most four bytes
 pub answer_word_at_most_4 : (w : Word) → of_answers w ≡ true → length (spelt w) ≤ 4
@@ -68,26 +68,14 @@ pub answer_24 : length (answer_record 1_000_000 Wake 4_294_967_295 0) ≡ 24
 unfolding answer_record word_line tabbed given decimal digits_in
 answer_24 = refl
 
--- numbers that fit fields, and the newline, have at most as many bytes as the fields have room
-fit_short : (m : ℕ) (fs : Fields) (ns : List ℕ) → Room m fs → Fit fs ns → length (tabbed ns) + 1 ≤ m
-unfolding tabbed
-fit_short m alone [] end_room none_left = omega arith
-fit_short m (a-number s fs) (n ∷ ns) (number_room d k few room) (one_more_lem least most fit) =
-    omega (arith, length-append (tab ∷ decimal n) (tabbed ns), digits_at_most d n (omega arith), fit_short (suc k) fs ns room fit)
-fit_short m (perhaps s) [] (perhaps_room d few) left_out = omega arith
-fit_short m (perhaps s) (n ∷ []) (perhaps_room d few) (there least most) =
-    omega (arith, length-append (tab ∷ decimal n) [], digits_at_most d n (omega arith))
-
--- no good line is longer than 16 bytes, if its alphabet has room for 15 behind a letter
-pub line_at_most_16 : (a : Alphabet) → RoomFor 15 a → (bytes : List ℕ) (letter : ℕ) (ns : List ℕ) → GoodLine a bytes letter ns → length bytes ≤ 16
-unfolding line_record
-line_at_most_16 a room bytes letter ns g =
-    let r = room letter g.fields g.known in
-    omega (arith, ap length g.is, length-append (letter ∷ tabbed ns) (newline ∷ []), r.1, fit_short r.0 g.fields ns r.2 g.fits)
+-- no letter's line that can be read is longer than 16 bytes
+pub line_at_most_16 : (l : Letter) (job cell : ℕ) → job ≤ 4_294_967_295 → cell ≤ 99 → length (line_record l job cell) ≤ 16
+line_at_most_16 l job cell h g =
+    omega (arith, line_length l job cell, field_at_most 9 (has_job l) job (omega arith), field_at_most 1 (has_cell l) cell (omega arith))
 
 -- and one is that long
-pub line_16 : length (line_record (ask_byte Increment) (4_294_967_295 ∷ 99 ∷ [])) ≡ 16
-unfolding line_record tabbed decimal digits_in
+pub line_16 : length (line_record (Asks Increment) 4_294_967_295 99) ≡ 16
+unfolding line_record field decimal digits_in
 line_16 = refl
 
 -- this crate's own numbers: the largest cell that can be read, the bytes kept of a line, the bytes of the longest answer record

@@ -13,13 +13,16 @@ pub mod EnoughPlaces
 pub mod DecimalLaws
 pub mod FieldParts
 pub mod WrittenFields
+pub mod ReadBack
 pub mod GoodLine
 pub mod NumberWords
 pub mod FieldLists
+pub mod FieldSteps
+pub mod LineWalk
 pub mod FieldFaults
 pub mod CutLines
 pub mod ShortLines
-pub mod FewFields
+pub mod LineExamples
 pub mod DigitLaws
 pub mod FieldLaws
 pub mod Length
@@ -30,6 +33,3 @@ pub mod TabbedLaws
 pub mod RecordLines
 pub mod EventsRead
 pub mod RecordBytes
-pub mod HistoryLines
-pub mod RequestLines
-pub mod LineExamples

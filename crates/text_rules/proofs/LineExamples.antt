@@ -1,60 +1,50 @@
--- Lines with what they say, computed for both readers; bad ones with the field at fault (01, Lines; 02, No. 5).
+-- The paper's sentences on lines, each shown on a line of bytes: one list for each reader, and one for both, with what each line says (01, Lines; 02, No. 1 and No. 5).
 -- Assumes nothing.
 use Prim.Native.Nat.{ℕ}
 use mathlib.Core.Path.{◌≡◌, refl}
-use mathlib.Core.List.{List, [], ◌∷◌, ◌++◌, map}
-use lib.ListN.{get_or}
+use mathlib.Core.List.{List, [], ◌∷◌, map}
 use Rattle.terms.specs.declared.letters.Ask.TheVariants.{Read, Write, Increment, Update}
-use Rattle.terms.specs.declared.letters.Letter.TheVariants.{Begin, Commit, GiveUp, Retry, Asks}
-use Rattle.terms.specs.declared.refusals.Field.{Field}
+use Rattle.terms.specs.declared.letters.Letter.TheVariants.{Begin, Commit, GiveUp, Retry, Back, Asks}
 use Rattle.terms.specs.declared.refusals.Field.TheVariants.{First, Second, Third, Fourth}
-use Rattle.conflict.specs.declared.action.Kind.TheVariants.{Read as reads, Write as writes, Increment as increments}
-use Rattle.conflict.specs.declared.action.Mark.TheVariants.{Commit as commits, GiveUp as gives_up, Back as goes_back}
-use Rattle.conflict.specs.declared.action.Event.TheVariants.{Does, Ends}
+use Rattle.terms.specs.Letters.{of_requests, of_histories}
 use Rattle.text_rules.specs.declared.Reading.{Reading}
 use Rattle.text_rules.specs.declared.Reading.TheVariants.{Good, Bad}
-use Rattle.text_rules.specs.declared.EventReading.{EventReading}
-use Rattle.text_rules.specs.declared.EventReading.TheVariants.{Says, Bad as not-Good}
-use Rattle.text_rules.specs.Alphabets.{at_end, tab_ahead, number_ahead, value_ahead, after_number, before, number_then, ending, numbers_in, behind, line_by, read_fields}
-use Rattle.text_rules.specs.HistoryLines.{read_history}
-use Rattle.text_rules.specs.Lines.{parts, field_ahead, after_field, is_digit, digits_only, value_from, shortest, is_number, end_ahead}
-use Rattle.text_rules.specs.RequestLines.{read_request}
+use Rattle.text_rules.specs.Lines.{parts, field_ahead, after_field, is_digit, digits_only, value_from, shortest, is_number, number_then, ending, cell_part, job_part, letter_in, letter_part, read_line}
 
 -- a line and what it says
-pub record Example (A : Type 0) : Type 0 where
+pub record Example : Type 0 where
   pub line : List ℕ
-  pub says : A
+  pub says : Reading
 
 -- bad lines, each at the same field for both readers
-abbrev pub either : List (Example Field)
+abbrev pub either : List Example
 either =
     -- an empty line, and x with no newline
-    record { line = 10 ∷ []; says = First }
-    ∷ record { line = 120 ∷ []; says = First }
+    record { line = 10 ∷ []; says = Bad First }
+    ∷ record { line = 120 ∷ []; says = Bad First }
     -- too few fields: c alone
-    ∷ record { line = 99 ∷ 10 ∷ []; says = Second }
+    ∷ record { line = 99 ∷ 10 ∷ []; says = Bad Second }
     -- no blank: c, 1 with one after it
-    ∷ record { line = 99 ∷ 9 ∷ 49 ∷ 32 ∷ 10 ∷ []; says = Second }
+    ∷ record { line = 99 ∷ 9 ∷ 49 ∷ 32 ∷ 10 ∷ []; says = Bad Second }
     -- the lowest field at fault counts: r with no job, no cell and no newline
-    ∷ record { line = 114 ∷ []; says = Second }
+    ∷ record { line = 114 ∷ []; says = Bad Second }
     -- digits only, up to the tab: r, 7x, 5
-    ∷ record { line = 114 ∷ 9 ∷ 55 ∷ 120 ∷ 9 ∷ 53 ∷ 10 ∷ []; says = Second }
+    ∷ record { line = 114 ∷ 9 ∷ 55 ∷ 120 ∷ 9 ∷ 53 ∷ 10 ∷ []; says = Bad Second }
     -- digits only, up to the newline: r, 1, 5x, and r, 1, 5 with a carriage return
-    ∷ record { line = 114 ∷ 9 ∷ 49 ∷ 9 ∷ 53 ∷ 120 ∷ 10 ∷ []; says = Third }
-    ∷ record { line = 114 ∷ 9 ∷ 49 ∷ 9 ∷ 53 ∷ 13 ∷ 10 ∷ []; says = Third }
+    ∷ record { line = 114 ∷ 9 ∷ 49 ∷ 9 ∷ 53 ∷ 120 ∷ 10 ∷ []; says = Bad Third }
+    ∷ record { line = 114 ∷ 9 ∷ 49 ∷ 9 ∷ 53 ∷ 13 ∷ 10 ∷ []; says = Bad Third }
     -- a cell is missing, with the newline and without it: r, 1
-    ∷ record { line = 114 ∷ 9 ∷ 49 ∷ 10 ∷ []; says = Third }
-    ∷ record { line = 114 ∷ 9 ∷ 49 ∷ []; says = Third }
+    ∷ record { line = 114 ∷ 9 ∷ 49 ∷ 10 ∷ []; says = Bad Third }
+    ∷ record { line = 114 ∷ 9 ∷ 49 ∷ []; says = Bad Third }
     -- a cell of three digits: r, 1, 100
-    ∷ record { line = 114 ∷ 9 ∷ 49 ∷ 9 ∷ 49 ∷ 48 ∷ 48 ∷ 10 ∷ []; says = Third }
+    ∷ record { line = 114 ∷ 9 ∷ 49 ∷ 9 ∷ 49 ∷ 48 ∷ 48 ∷ 10 ∷ []; says = Bad Third }
     -- a field too many: c, 1, 5
-    ∷ record { line = 99 ∷ 9 ∷ 49 ∷ 9 ∷ 53 ∷ 10 ∷ []; says = Fourth }
+    ∷ record { line = 99 ∷ 9 ∷ 49 ∷ 9 ∷ 53 ∷ 10 ∷ []; says = Bad Fourth }
     -- letter, job and cell are right, and only the newline is missing: r, 1, 5
-    ∷ record { line = 114 ∷ 9 ∷ 49 ∷ 9 ∷ 53 ∷ []; says = Fourth }
+    ∷ record { line = 114 ∷ 9 ∷ 49 ∷ 9 ∷ 53 ∷ []; says = Bad Fourth }
     ∷ []
 
--- requests
-abbrev pub requests : List (Example Reading)
+abbrev pub requests : List Example
 requests =
     -- r, 7, 64 is well formed
     record { line = 114 ∷ 9 ∷ 55 ∷ 9 ∷ 54 ∷ 52 ∷ 10 ∷ []; says = Good (Asks Read) 7 64 }
@@ -88,46 +78,42 @@ requests =
     ∷ record { line = 98 ∷ 9 ∷ 10 ∷ []; says = Bad Fourth }
     -- a letter that stands alone, without its newline: b
     ∷ record { line = 98 ∷ []; says = Bad Fourth }
-    ∷ []
+    -- and the lines that are bad for both readers
+    ∷ either
 
--- lines of a history
-abbrev pub histories : List (Example EventReading)
+abbrev pub histories : List Example
 histories =
     -- r, 7, 64 is well formed, and 100 as a cell is bad
-    record { line = 114 ∷ 9 ∷ 55 ∷ 9 ∷ 54 ∷ 52 ∷ 10 ∷ []; says = Says (Does (record { kind = reads; job = 7; cell = 64 })) }
-    ∷ record { line = 114 ∷ 9 ∷ 55 ∷ 9 ∷ 49 ∷ 48 ∷ 48 ∷ 10 ∷ []; says = not-Good Third }
+    record { line = 114 ∷ 9 ∷ 55 ∷ 9 ∷ 54 ∷ 52 ∷ 10 ∷ []; says = Good (Asks Read) 7 64 }
+    ∷ record { line = 114 ∷ 9 ∷ 55 ∷ 9 ∷ 49 ∷ 48 ∷ 48 ∷ 10 ∷ []; says = Bad Third }
     -- no leading zero, as in 05, except the single 0
-    ∷ record { line = 114 ∷ 9 ∷ 55 ∷ 9 ∷ 48 ∷ 53 ∷ 10 ∷ []; says = not-Good Third }
-    ∷ record { line = 114 ∷ 9 ∷ 48 ∷ 9 ∷ 48 ∷ 10 ∷ []; says = Says (Does (record { kind = reads; job = 0; cell = 0 })) }
+    ∷ record { line = 114 ∷ 9 ∷ 55 ∷ 9 ∷ 48 ∷ 53 ∷ 10 ∷ []; says = Bad Third }
+    ∷ record { line = 114 ∷ 9 ∷ 48 ∷ 9 ∷ 48 ∷ 10 ∷ []; says = Good (Asks Read) 0 0 }
     -- no sign, as in c, +1
-    ∷ record { line = 99 ∷ 9 ∷ 43 ∷ 49 ∷ 10 ∷ []; says = not-Good Second }
+    ∷ record { line = 99 ∷ 9 ∷ 43 ∷ 49 ∷ 10 ∷ []; says = Bad Second }
     -- w, 1, 99 and i, 1, 0
-    ∷ record { line = 119 ∷ 9 ∷ 49 ∷ 9 ∷ 57 ∷ 57 ∷ 10 ∷ []; says = Says (Does (record { kind = writes; job = 1; cell = 99 })) }
-    ∷ record { line = 105 ∷ 9 ∷ 49 ∷ 9 ∷ 48 ∷ 10 ∷ []; says = Says (Does (record { kind = increments; job = 1; cell = 0 })) }
+    ∷ record { line = 119 ∷ 9 ∷ 49 ∷ 9 ∷ 57 ∷ 57 ∷ 10 ∷ []; says = Good (Asks Write) 1 99 }
+    ∷ record { line = 105 ∷ 9 ∷ 49 ∷ 9 ∷ 48 ∷ 10 ∷ []; says = Good (Asks Increment) 1 0 }
     -- c, a and k belong to a history, and t, b and u do not
-    ∷ record { line = 99 ∷ 9 ∷ 49 ∷ 10 ∷ []; says = Says (Ends commits 1) }
-    ∷ record { line = 97 ∷ 9 ∷ 49 ∷ 10 ∷ []; says = Says (Ends gives_up 1) }
-    ∷ record { line = 107 ∷ 9 ∷ 49 ∷ 10 ∷ []; says = Says (Ends goes_back 1) }
-    ∷ record { line = 116 ∷ 9 ∷ 49 ∷ 10 ∷ []; says = not-Good First }
-    ∷ record { line = 98 ∷ 10 ∷ []; says = not-Good First }
-    ∷ record { line = 117 ∷ 9 ∷ 55 ∷ 9 ∷ 53 ∷ 10 ∷ []; says = not-Good First }
+    ∷ record { line = 99 ∷ 9 ∷ 49 ∷ 10 ∷ []; says = Good Commit 1 0 }
+    ∷ record { line = 97 ∷ 9 ∷ 49 ∷ 10 ∷ []; says = Good GiveUp 1 0 }
+    ∷ record { line = 107 ∷ 9 ∷ 49 ∷ 10 ∷ []; says = Good Back 1 0 }
+    ∷ record { line = 116 ∷ 9 ∷ 49 ∷ 10 ∷ []; says = Bad First }
+    ∷ record { line = 98 ∷ 10 ∷ []; says = Bad First }
+    ∷ record { line = 117 ∷ 9 ∷ 55 ∷ 9 ∷ 53 ∷ 10 ∷ []; says = Bad First }
     -- b is at fault whatever follows it: a blank, a tab, or no newline
-    ∷ record { line = 98 ∷ 32 ∷ 10 ∷ []; says = not-Good First }
-    ∷ record { line = 98 ∷ 9 ∷ 10 ∷ []; says = not-Good First }
-    ∷ record { line = 98 ∷ []; says = not-Good First }
-    ∷ []
+    ∷ record { line = 98 ∷ 32 ∷ 10 ∷ []; says = Bad First }
+    ∷ record { line = 98 ∷ 9 ∷ 10 ∷ []; says = Bad First }
+    ∷ record { line = 98 ∷ []; says = Bad First }
+    -- and the lines that are bad for both readers
+    ∷ either
 
 -- each of these requests says what stands beside it
-pub requests_say : map (λ e. read_request e.line) requests ≡ map (λ e. e.says) requests
-unfolding parts field_ahead after_field is_digit digits_only value_from shortest is_number end_ahead at_end tab_ahead number_ahead value_ahead after_number before number_then ending numbers_in behind line_by read_fields read_request
+pub requests_say : map (λ e. read_line of_requests e.line) requests ≡ map (λ e. e.says) requests
+unfolding parts field_ahead after_field is_digit digits_only value_from shortest is_number number_then ending cell_part job_part letter_in letter_part read_line
 requests_say = refl
 
 -- each of these lines of a history says what stands beside it
-pub histories_say : map (λ e. read_history e.line) histories ≡ map (λ e. e.says) histories
-unfolding parts field_ahead after_field is_digit digits_only value_from shortest is_number end_ahead at_end tab_ahead number_ahead value_ahead after_number before number_then ending numbers_in behind line_by read_fields read_history
+pub histories_say : map (λ e. read_line of_histories e.line) histories ≡ map (λ e. e.says) histories
+unfolding parts field_ahead after_field is_digit digits_only value_from shortest is_number number_then ending cell_part job_part letter_in letter_part read_line
 histories_say = refl
-
--- and the lines that are bad for both readers are bad at the field that stands beside them
-pub either_bad : (map (λ e. read_request e.line) either ≡ map (λ e. Bad e.says) either) × (map (λ e. read_history e.line) either ≡ map (λ e. not-Good e.says) either)
-unfolding parts field_ahead after_field is_digit digits_only value_from shortest is_number end_ahead at_end tab_ahead number_ahead value_ahead after_number before number_then ending numbers_in behind line_by read_fields read_request read_history
-either_bad = (refl, refl)

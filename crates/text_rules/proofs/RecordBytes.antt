@@ -12,7 +12,7 @@ use Rattle.conflict.specs.declared.action.Kind.TheVariants.{Read, Write, Increme
 use Rattle.conflict.specs.declared.action.Mark.TheVariants.{Commit as commits, GiveUp as gives_up, Back as goes_back}
 use Rattle.conflict.specs.declared.action.Event.TheVariants.{Does, Ends}
 use Rattle.text_rules.specs.Decimal.{decimal, digits_in}
-use Rattle.text_rules.specs.EventRecords.{event_line}
+use Rattle.text_rules.specs.EventRecords.{ask_by, mark_letter, event_line}
 use Rattle.text_rules.specs.Records.{given, answer_record, field, line_record, tabbed, word_line, tabs_between, jobs_line}
 use Rattle.text_rules.specs.Split.{joined}
 
@@ -59,34 +59,34 @@ nine_bytes line Fourth = refl
 module _ (job cell : ℕ) where
   -- a read
   pub read_bytes : event_line (Does (record { kind = Read; job = job; cell = cell })) ≡ 114 ∷ 9 ∷ decimal job ++ 9 ∷ decimal cell ++ 10 ∷ []
-  unfolding event_line line_record tabbed
-  read_bytes = ap (λ t. 114 ∷ 9 ∷ (decimal job ++ 9 ∷ t) ++ 10 ∷ []) (append-nil (decimal cell))
+  unfolding event_line ask_by line_record field
+  read_bytes = refl
 
   -- a write
   pub write_bytes : event_line (Does (record { kind = Write; job = job; cell = cell })) ≡ 119 ∷ 9 ∷ decimal job ++ 9 ∷ decimal cell ++ 10 ∷ []
-  unfolding event_line line_record tabbed
-  write_bytes = ap (λ t. 119 ∷ 9 ∷ (decimal job ++ 9 ∷ t) ++ 10 ∷ []) (append-nil (decimal cell))
+  unfolding event_line ask_by line_record field
+  write_bytes = refl
 
   -- an increment
   pub increment_bytes : event_line (Does (record { kind = Increment; job = job; cell = cell })) ≡ 105 ∷ 9 ∷ decimal job ++ 9 ∷ decimal cell ++ 10 ∷ []
-  unfolding event_line line_record tabbed
-  increment_bytes = ap (λ t. 105 ∷ 9 ∷ (decimal job ++ 9 ∷ t) ++ 10 ∷ []) (append-nil (decimal cell))
+  unfolding event_line ask_by line_record field
+  increment_bytes = refl
 
 -- a history record of an end: c, a or k, a tab, the job, a newline (01, Lines)
 module _ (job : ℕ) where
   -- a commit
   pub commit_bytes : event_line (Ends commits job) ≡ 99 ∷ 9 ∷ decimal job ++ 10 ∷ []
-  unfolding event_line line_record tabbed
+  unfolding event_line mark_letter line_record field
   commit_bytes = ap (λ t. 99 ∷ 9 ∷ t ++ 10 ∷ []) (append-nil (decimal job))
 
   -- a give-up
   pub give_up_bytes : event_line (Ends gives_up job) ≡ 97 ∷ 9 ∷ decimal job ++ 10 ∷ []
-  unfolding event_line line_record tabbed
+  unfolding event_line mark_letter line_record field
   give_up_bytes = ap (λ t. 97 ∷ 9 ∷ t ++ 10 ∷ []) (append-nil (decimal job))
 
   -- a sending back
   pub sent_back_bytes : event_line (Ends goes_back job) ≡ 107 ∷ 9 ∷ decimal job ++ 10 ∷ []
-  unfolding event_line line_record tabbed
+  unfolding event_line mark_letter line_record field
   sent_back_bytes = ap (λ t. 107 ∷ 9 ∷ t ++ 10 ∷ []) (append-nil (decimal job))
 
 -- numbers, a tab before each

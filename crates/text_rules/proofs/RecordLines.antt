@@ -8,21 +8,21 @@ use native.Mathlib.Omega.{arith}
 use lib.Dec.{eqb, leb}
 use borrow.Author.Tests.{leb-true, ne_eqb}
 use Rattle.laws.proofs.Parts.{and_first, and_second, and_both}
+use Rattle.terms.specs.declared.letters.Ask.TheVariants.{Read as asks_read, Write as asks_write, Increment as asks-increment, Update as asks-update}
+use Rattle.terms.specs.declared.letters.Letter.{Letter}
+use Rattle.terms.specs.declared.letters.Letter.TheVariants.{Begin, Commit, GiveUp, Retry, Back, Asks}
+use Rattle.terms.specs.Letters.{byte_of, has_job, has_cell}
 use Rattle.terms.specs.Words.{newline}
-use Rattle.conflict.specs.declared.action.Kind.{Kind}
-use Rattle.conflict.specs.declared.action.Kind.TheVariants.{Read, Write, Increment}
-use Rattle.conflict.specs.declared.action.Mark.{Mark}
-use Rattle.conflict.specs.declared.action.Mark.TheVariants.{Commit as commits, GiveUp as gives_up, Back as goes_back}
 use Rattle.conflict.specs.declared.action.Event.{Event}
 use Rattle.conflict.specs.declared.action.Event.TheVariants.{Does, Ends}
 use Rattle.conflict.specs.History.{History}
 use Rattle.text_rules.specs.Lines.{is_digit, digits_only}
 use Rattle.text_rules.specs.Decimal.{decimal}
-use Rattle.text_rules.specs.Records.{tabbed, line_record}
+use Rattle.text_rules.specs.Records.{field, line_record}
 use Rattle.text_rules.specs.Split.{lines_of, joined, one_line, has_newline, no_newline, every}
 use Rattle.text_rules.proofs.DecimalLaws.{decimal_digits}
 use Rattle.text_rules.proofs.TextLines.{lines_only}
-use Rattle.text_rules.specs.EventRecords.{kind_byte, mark_byte, event_line, text_of}
+use Rattle.text_rules.specs.EventRecords.{ask_by, mark_letter, event_line, text_of}
 
 -- digits are not newlines
 pub digits_plain : (ds : List ℕ) → digits_only ds ≡ true → no_newline ds ≡ true
@@ -41,11 +41,23 @@ plain_append (b ∷ l) m h g =
     and_both (not (eqb b newline)) (no_newline (l ++ m)) (and_first (not (eqb b newline)) (no_newline l) h)
     (plain_append l m (and_second (not (eqb b newline)) (no_newline l) h) g)
 
--- numbers with a tab before each have no newline
-tabbed_plain : (ns : List ℕ) → no_newline (tabbed ns) ≡ true
-unfolding tabbed no_newline
-tabbed_plain [] = refl
-tabbed_plain (n ∷ ns) = plain_append (decimal n) (tabbed ns) (digits_plain (decimal n) (decimal_digits n)) (tabbed_plain ns)
+-- a further field has no newline
+field_plain : (there : Bool) (n : ℕ) → no_newline (field there n) ≡ true
+unfolding field no_newline
+field_plain true n = digits_plain (decimal n) (decimal_digits n)
+field_plain false n = refl
+
+-- a letter is not a newline
+letter_plain : (l : Letter) → eqb (byte_of l) newline ≡ false
+letter_plain Begin = refl
+letter_plain Commit = refl
+letter_plain GiveUp = refl
+letter_plain Retry = refl
+letter_plain Back = refl
+letter_plain (Asks asks_read) = refl
+letter_plain (Asks asks_write) = refl
+letter_plain (Asks asks-increment) = refl
+letter_plain (Asks asks-update) = refl
 
 -- bytes without a newline, and then one, are one line
 plain_one : (l : List ℕ) → no_newline l ≡ true → one_line (l ++ newline ∷ []) ≡ true
@@ -63,28 +75,18 @@ plain_ends [] = refl
 plain_ends (b ∷ []) = refl
 plain_ends (b ∷ c ∷ l) = plain_ends (c ∷ l)
 
--- a record is one line, and has its newline, if its letter is no newline
-pub record_line : (letter : ℕ) (ns : List ℕ) → eqb letter newline ≡ false → (one_line (line_record letter ns) ≡ true) × (has_newline (line_record letter ns) ≡ true)
+-- a record is one line, and has its newline
+pub record_line : (l : Letter) (job cell : ℕ) → (one_line (line_record l job cell) ≡ true) × (has_newline (line_record l job cell) ≡ true)
 unfolding line_record no_newline
-record_line letter ns e = (plain_one (letter ∷ tabbed ns) (rw e (tabbed_plain ns)), plain_ends (letter ∷ tabbed ns))
-
--- no letter of an action is a newline
-kind_plain : (k : Kind) → eqb (kind_byte k) newline ≡ false
-kind_plain Read = refl
-kind_plain Write = refl
-kind_plain Increment = refl
-
--- and none of a mark
-mark_plain : (m : Mark) → eqb (mark_byte m) newline ≡ false
-mark_plain commits = refl
-mark_plain gives_up = refl
-mark_plain goes_back = refl
+record_line l job cell =
+    let bytes : List ℕ = byte_of l ∷ (field (has_job l) job ++ field (has_cell l) cell) in
+    (plain_one bytes (rw (letter_plain l) (plain_append (field (has_job l) job) (field (has_cell l) cell) (field_plain (has_job l) job) (field_plain (has_cell l) cell))), plain_ends bytes)
 
 -- so is an event's record
-pub event_line_lem : (e : Event) → (one_line (event_line e) ≡ true) × (has_newline (event_line e) ≡ true)
+event_line_lem : (e : Event) → (one_line (event_line e) ≡ true) × (has_newline (event_line e) ≡ true)
 unfolding event_line
-event_line_lem (Does a) = record_line (kind_byte a.kind) (a.job ∷ a.cell ∷ []) (kind_plain a.kind)
-event_line_lem (Ends m j) = record_line (mark_byte m) (j ∷ []) (mark_plain m)
+event_line_lem (Does a) = record_line (Asks (ask_by a.kind)) a.job a.cell
+event_line_lem (Ends m j) = record_line (mark_letter m) j 0
 
 -- what holds for every line holds for all but the last
 but_last : (f : List ℕ → Bool) (ls : List (List ℕ)) → every f ls ≡ true → every f (drop_last ls) ≡ true

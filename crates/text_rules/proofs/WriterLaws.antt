@@ -11,6 +11,7 @@ use lib.Dec.{ltb, leb}
 use lib.ListN.{length, take, drop, get_or, length-drop}
 use lib.Seq.{get_or-take, get_or-drop}
 use Rattle.laws.specs.Choice.{by_test}
+use Rattle.terms.specs.declared.letters.Letter.{Letter}
 use Rattle.terms.specs.declared.refusals.Refusal.{Refusal}
 use Rattle.terms.specs.declared.refusals.Refusal.TheVariants.{NoRoom}
 use Rattle.terms.specs.declared.words.Word.{Word}
@@ -18,7 +19,7 @@ use Rattle.text_rules.specs.declared.Written.{Written}
 use Rattle.text_rules.specs.declared.Written.TheVariants.{Next, Refused}
 use Rattle.text_rules.specs.Records.{answer_record, line_record, fits, told, left}
 use Rattle.text_rules.specs.Wrote.{Wrote}
-use Rattle.text_rules.proofs.Length.{answer_length}
+use Rattle.text_rules.proofs.Length.{answer_length, line_length}
 use Rattle.text_rules.proofs.WroteLaws.{wrote_before, wrote_take, wrote_drop, wrote_length}
 
 -- for a record that fits, the place after it is told
@@ -74,9 +75,8 @@ pub answer_at_the_end : (b : List ℕ) (line : ℕ) (word : Word) (number fault 
 answer_at_the_end b line word number fault = too_long b (length b) (answer_record line word number fault) (let n = answer_length line word number fault in omega arith)
 
 -- and so is every letter's line
-pub line_at_the_end : (b : List ℕ) (letter : ℕ) (ns : List ℕ) → told b (length b) (line_record letter ns) ≡ Refused NoRoom
-unfolding line_record
-line_at_the_end b letter ns = too_long b (length b) (line_record letter ns) (omega arith)
+pub line_at_the_end : (b : List ℕ) (l : Letter) (job cell : ℕ) → told b (length b) (line_record l job cell) ≡ Refused NoRoom
+line_at_the_end b l job cell = too_long b (length b) (line_record l job cell) (let n = line_length l job cell in omega arith)
 
 -- a record that fits is written
 left_wrote : (b : List ℕ) (at : ℕ) (bs : List ℕ) → fits b at bs ≡ true → Wrote at (at + length bs) bs b (left b at bs)

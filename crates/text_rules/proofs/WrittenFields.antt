@@ -2,17 +2,20 @@
 -- Assumes nothing.
 use Prim.Native.Nat.{ℕ, ◌≤◌}
 use mathlib.Core.Path.{◌≡◌, refl, sym, ap, ◌∙◌}
-use mathlib.Core.Bool.{true, ◌&&◌}
+use mathlib.Core.Bool.{true}
 use mathlib.Core.List.{List, [], ◌∷◌, ◌++◌}
-use lib.Dec.{eqb, leb}
-use borrow.Author.Tests.{eqb-true, leb-true, le-leb}
+use native.Mathlib.Omega.{arith}
+use lib.Dec.{eqb}
+use borrow.Author.Tests.{eqb-true, le-leb, leb-true}
 use Rattle.laws.specs.Choice.{by_test, not_both}
-use Rattle.laws.proofs.Parts.{and_first, and_second, and_both}
+use Rattle.terms.specs.declared.letters.Letter.{Letter}
+use Rattle.terms.specs.declared.refusals.Field.{Field}
 use Rattle.terms.specs.Words.{tab, newline}
-use Rattle.text_rules.specs.declared.Span.{Span}
-use Rattle.text_rules.specs.Alphabets.{at_end, number_ahead, value_ahead, after_number}
+use Rattle.text_rules.specs.declared.Reading.{Reading}
+use Rattle.text_rules.specs.declared.Reading.TheVariants.{Good, Bad}
 use Rattle.text_rules.specs.Decimal.{decimal}
-use Rattle.text_rules.specs.Lines.{field_ahead, after_field, digits_only, value_from, shortest, is_number, end_ahead}
+use Rattle.text_rules.specs.Lines.{field_ahead, after_field, digits_only, value_from, shortest, is_number, number_then, ending}
+use Rattle.text_rules.specs.Fields.{end_ahead}
 use Rattle.text_rules.proofs.DecimalLaws.{decimal_digits, decimal_shortest, decimal_value, decimal_unique}
 use Rattle.text_rules.proofs.FieldParts.{field_then, digits_before}
 
@@ -31,37 +34,46 @@ is_number_lem most f h =
     (λ s. not_both (rw (d, s) at h) refl))
     (λ d. not_both (rw d at h) refl)
 
--- a number that was written behind a tab is read back
-pub reads_number : (s : Span) (n : ℕ) (t : List ℕ) → s.least ≤ n → n ≤ s.most → end_ahead t ≡ true →
-    (number_ahead s (tab ∷ decimal n ++ t) ≡ true) × (value_ahead (tab ∷ decimal n ++ t) ≡ n) × (after_number (tab ∷ decimal n ++ t) ≡ t)
-unfolding number_ahead value_ahead after_number
-reads_number s n t least most stop =
+-- a number that was written is read back
+pub reads_number : (most n : ℕ) (at : Field) (t : List ℕ) (rest : ℕ → List ℕ → Reading) → n ≤ most → end_ahead t ≡ true → number_then most at (tab ∷ decimal n ++ t) rest ≡ rest n t
+unfolding number_then
+reads_number most n at t rest small stop =
     let e = digits_before (decimal n) t (decimal_digits n) stop in
-    (rw (e.0, number_is s.most n most, decimal_value n) (le-leb s.least n least), rw (e.0, decimal_value n), e.1)
+    rw (e.0, e.1, number_is most n small, decimal_value n)
 
--- what a number field tells: the text was written this way, and the number is within its limits
-pub record Ahead (s : Span) (t : List ℕ) : Type 0 where
-  pub written : t ≡ tab ∷ decimal (value_ahead t) ++ after_number t
-  pub least : s.least ≤ value_ahead t
-  pub most : value_ahead t ≤ s.most
+-- what a good line's number field tells: the number, what is left after it, that the field was written this way, and that what is left leads to the good line
+pub record NumberField (most : ℕ) (t : List ℕ) (rest : ℕ → List ℕ → Reading) (good : Reading) : Type 0 where
+  pub number : ℕ
+  pub left : List ℕ
+  pub written : t ≡ tab ∷ decimal number ++ left
+  pub small : number ≤ most
+  pub goes_on : rest number left ≡ good
+
+-- a good line is not bad
+pub not_bad : {P : Type 0} {at : Field} {l : Letter} {job cell : ℕ} → Bad at ≡ Good l job cell → P
+not_bad e = let z : ◌≡◌ {A = ℕ} 0 1 = cc in absurd (omega arith)
 
 -- a number that is read was written
-pub number_written : (s : Span) (t : List ℕ) → number_ahead s t ≡ true → Ahead s t
-unfolding number_ahead value_ahead after_number
-number_written s [] h = not_both h refl
-number_written s (b ∷ t) h =
-    let f = field_ahead t in
-    let n = and_second (eqb b tab) (is_number s.most f && leb s.least (value_from 0 f)) h in
-    let i = is_number_lem s.most f (and_first (is_number s.most f) (leb s.least (value_from 0 f)) n) in
-    record {
-      written = rw (eqb-true b tab (and_first (eqb b tab) (is_number s.most f && leb s.least (value_from 0 f)) h)) (ap (λ u. tab ∷ u) (sym (field_then t) ∙ ap (λ u. u ++ after_field t) i.0));
-      least = leb-true _ _ (and_second (is_number s.most f) (leb s.least (value_from 0 f)) n);
-      most = i.1;
-    }
+pub number_written : (most : ℕ) (at : Field) (t : List ℕ) (rest : ℕ → List ℕ → Reading) (l : Letter) (job cell : ℕ) → number_then most at t rest ≡ Good l job cell → NumberField most t rest (Good l job cell)
+unfolding number_then
+number_written most at [] rest l job cell e = not_bad e
+number_written most at (b ∷ t) rest l job cell e =
+    by_test (eqb b tab)
+    (λ k. by_test (is_number most (field_ahead t))
+    (λ n. let i = is_number_lem most (field_ahead t) n in record {
+      number = value_from 0 (field_ahead t);
+      left = after_field t;
+      written = rw (eqb-true b tab k) (ap (λ u. tab ∷ u) (sym (field_then t) ∙ ap (λ u. u ++ after_field t) i.0));
+      small = i.1;
+      goes_on = rw (k, n) at e;
+    })
+    (λ n. not_bad (rw (k, n) at e)))
+    (λ k. not_bad (rw k at e))
 
 -- a line that ends well ends in one newline
-pub end_written : (t : List ℕ) → at_end t ≡ true → t ≡ newline ∷ []
-unfolding at_end
-end_written [] h = not_both h refl
-end_written (b ∷ []) h = ap (λ x. x ∷ []) (eqb-true b newline h)
-end_written (b ∷ c ∷ t) h = not_both h refl
+pub ending_written : (t : List ℕ) (good : Reading) (l : Letter) (job cell : ℕ) → ending t good ≡ Good l job cell → (t ≡ newline ∷ []) × (good ≡ Good l job cell)
+unfolding ending
+ending_written [] good l job cell e = not_bad e
+ending_written (b ∷ []) good l job cell e =
+    by_test (eqb b newline) (λ k. (ap (λ x. x ∷ []) (eqb-true b newline k), rw k at e)) (λ k. not_bad (rw k at e))
+ending_written (b ∷ c ∷ t) good l job cell e = not_bad e

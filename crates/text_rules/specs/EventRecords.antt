@@ -1,8 +1,9 @@
 -- The history record of an event, and the text of a history: its records, one after another (01, Lines: History records).
 use Rattle.std.specs.Prelude.{ℕ, Bool, true, ◌&&◌, List, [], ◌∷◌, ◌++◌, leb, ltb}
+use Rattle.terms.specs.declared.letters.Ask.{Ask}
 use Rattle.terms.specs.declared.letters.Ask.TheVariants.{Read as asks_read, Write as asks_write, Increment as asks-increment}
-use Rattle.terms.specs.declared.letters.Letter.TheVariants.{Commit, GiveUp}
-use Rattle.terms.specs.Letters.{ask_byte, byte_of, back_byte}
+use Rattle.terms.specs.declared.letters.Letter.{Letter}
+use Rattle.terms.specs.declared.letters.Letter.TheVariants.{Commit, GiveUp, Back, Asks}
 use Rattle.terms.specs.Limits.{cells}
 use Rattle.conflict.specs.declared.action.Kind.{Kind}
 use Rattle.conflict.specs.declared.action.Kind.TheVariants.{Read, Write, Increment}
@@ -13,31 +14,22 @@ use Rattle.conflict.specs.declared.action.Event.TheVariants.{Does, Ends}
 use Rattle.conflict.specs.History.{History}
 use Rattle.text_rules.specs.Records.{line_record}
 
--- the byte of r, w or i, by the kind of the action (01, Lines)
-abbrev pub kind_byte : Kind → ℕ
-kind_byte Read = ask_byte asks_read
-kind_byte Write = ask_byte asks_write
-kind_byte Increment = ask_byte asks-increment
+-- r, w or i, by the kind of the action
+unfoldable pub ask_by : Kind → Ask
+ask_by Read = asks_read
+ask_by Write = asks_write
+ask_by Increment = asks-increment
 
--- the byte of c, a or k, by the mark that ends the run (01, Lines)
-abbrev pub mark_byte : Mark → ℕ
-mark_byte commits = byte_of Commit
-mark_byte gives_up = byte_of GiveUp
-mark_byte goes_back = back_byte
-
--- the byte of an event's letter
-abbrev pub event_byte : Event → ℕ
-event_byte (Does a) = kind_byte a.kind
-event_byte (Ends m j) = mark_byte m
-
--- its numbers: job and cell of an action, the job of a mark
-abbrev pub event_numbers : Event → List ℕ
-event_numbers (Does a) = a.job ∷ a.cell ∷ []
-event_numbers (Ends m j) = j ∷ []
+-- c, a or k, by the mark that ends the run
+unfoldable pub mark_letter : Mark → Letter
+mark_letter commits = Commit
+mark_letter gives_up = GiveUp
+mark_letter goes_back = Back
 
 -- the history record of an event: r, w, i with job and cell; c, a, k with a job
 unfoldable pub event_line : Event → List ℕ
-event_line e = line_record (event_byte e) (event_numbers e)
+event_line (Does a) = line_record (Asks (ask_by a.kind)) a.job a.cell
+event_line (Ends m j) = line_record (mark_letter m) j 0
 
 -- the text of a history: the record of each event, one after another
 unfoldable pub text_of : History → List ℕ

@@ -1,10 +1,13 @@
--- Which field of a line is at fault, with no way to read it: when each field is right, and the lowest one that is not, over any alphabet (02, No. 5; 01, Lines).
-use Rattle.std.specs.Prelude.{ℕ, suc, ◌≤◌, ◌≡◌, Bool, true, false, List, [], ◌∷◌, eqb}
+-- Which field of a line is at fault, with no way to read it: when each field is right, and the lowest one that is not (02, No. 5; 01, Lines).
+-- The numbers are written out, since these are the words of a promise.
+use Rattle.std.specs.Prelude.{ℕ, zero, suc, ◌+◌, ◌≤◌, ◌≡◌, Bool, true, false, List, [], ◌∷◌, eqb, length}
 use Rattle.std.proofs.Math.Option.{Option, none, some}
 use Rattle.laws.specs.Choice.{pick}
+use Rattle.terms.specs.declared.letters.Letter.{Letter}
+use Rattle.terms.specs.declared.refusals.Field.{Field}
+use Rattle.terms.specs.declared.refusals.Field.TheVariants.{First, Second, Third, Fourth}
+use Rattle.terms.specs.Letters.{byte_of, has_job, has_cell}
 use Rattle.terms.specs.Words.{tab, newline}
-use Rattle.text_rules.specs.declared.Span.{Span}
-use Rattle.text_rules.specs.Alphabets.{Fields, alone, number, perhaps, Alphabet, end_number}
 use Rattle.text_rules.specs.Decimal.{decimal}
 use Rattle.text_rules.specs.Split.{in_front}
 
@@ -19,41 +22,40 @@ ended [] = false
 ended (b ∷ []) = eqb b newline
 ended (b ∷ c ∷ t) = pick (eqb b newline) false (ended (c ∷ t))
 
--- the first of some fields, if there is one
-unfoldable pub next : List (List ℕ) → Option (List ℕ)
-next [] = none
-next (f ∷ fs) = some f
+-- a field by its number from 1, if the line has that many
+unfoldable pub field_at : ℕ → List (List ℕ) → Option (List ℕ)
+field_at n [] = none
+field_at zero (f ∷ fs) = none
+field_at (suc zero) (f ∷ fs) = some f
+field_at (suc (suc n)) (f ∷ fs) = field_at (suc n) fs
 
--- the fields after it
-unfoldable pub others : List (List ℕ) → List (List ℕ)
-others [] = []
-others (f ∷ fs) = fs
+-- the field is there, and is a number in decimal with no leading zero except the single 0, not above the limit given
+abbrev pub Number : ℕ → Option (List ℕ) → Type 0
+Number most field = (n : ℕ) × (n ≤ most) × (field ≡ some (decimal n))
 
--- a field is right: it is there, and is a number in decimal with no leading zero except the single 0, within its limits
-abbrev pub Number : Span → Option (List ℕ) → Type 0
-Number s field = (n : ℕ) × (s.least ≤ n) × (n ≤ s.most) × (field ≡ some (decimal n))
+-- the first field is right: it is this letter, one of those that such lines may begin with
+abbrev pub LetterRight : (Letter → Bool) → List ℕ → Letter → Type 0
+LetterRight which bytes l = (which l ≡ true) × (field_at 1 (fields_of bytes) ≡ some (byte_of l ∷ []))
 
--- the end is right: no field is left, and the line ends with its newline
-abbrev pub EndRight : List (List ℕ) → Bool → Type 0
-EndRight left end = (left ≡ []) × (end ≡ true)
+-- the second field is right for a letter: a job of at most 4,294,967,295, if the letter has one
+abbrev pub JobRight : List ℕ → Letter → Type 0
+JobRight bytes l = has_job l ≡ true → Number 4_294_967_295 (field_at 2 (fields_of bytes))
 
--- given the fields that should follow from field `at` on, those that are left of the line, and whether it ends with its newline: the field at fault. The fields before it are right, and it is not
--- (02, No. 5: the lowest faulty field counts; a field that should be there and is not is faulty)
-pub data FaultIn (end : Bool) : Fields → ℕ → List (List ℕ) → ℕ → Type 0 where
-  number_wrong : {s : Span} {fs : Fields} {at : ℕ} {left : List (List ℕ)} → (Number s (next left) → ⊥) → FaultIn end (number s fs) at left at
-  further_on : {s : Span} {fs : Fields} {at k : ℕ} {left : List (List ℕ)} → Number s (next left) → FaultIn end fs (suc at) (others left) k → FaultIn end (number s fs) at left k
-  end_wrong : {at : ℕ} {left : List (List ℕ)} → (EndRight left end → ⊥) → FaultIn end alone at left (end_number at)
-  -- a field that may be left out: it is, and the line lacks its newline; it is there and not right; it is right, and the end after it is not
-  torn_without : {s : Span} {at : ℕ} {left : List (List ℕ)} → left ≡ [] → (end ≡ true → ⊥) → FaultIn end (perhaps s) at left (end_number at)
-  given_wrong : {s : Span} {at : ℕ} {left : List (List ℕ)} → (left ≡ [] → ⊥) → (Number s (next left) → ⊥) → FaultIn end (perhaps s) at left at
-  given_then : {s : Span} {at : ℕ} {left : List (List ℕ)} → Number s (next left) → (EndRight (others left) end → ⊥) → FaultIn end (perhaps s) at left (end_number (suc at))
+-- the third field is right for a letter: a cell of one or two digits, if the letter has one
+abbrev pub CellRight : List ℕ → Letter → Type 0
+CellRight bytes l = has_cell l ≡ true → Number 99 (field_at 3 (fields_of bytes))
 
--- the first field is right: it is this letter of the alphabet, which these fields should follow; and these are left of the line
-pub record LetterRight (a : Alphabet) (bytes : List ℕ) (letter : ℕ) (fields : Fields) (left : List (List ℕ)) : Type 0 where
-  pub known : a.fields letter ≡ some fields
-  pub first : fields_of bytes ≡ (letter ∷ []) ∷ left
+-- how many fields a letter has
+abbrev pub field_count : Letter → ℕ
+field_count l = 1 + pick (has_job l) 1 0 + pick (has_cell l) 1 0
 
--- the field at fault: 1 if the first field is no letter of the alphabet, else the lowest field behind it that is at fault
-pub data AtFault (a : Alphabet) (bytes : List ℕ) : ℕ → Type 0 where
-  letter_wrong : ((letter : ℕ) (fields : Fields) (left : List (List ℕ)) → LetterRight a bytes letter fields left → ⊥) → AtFault a bytes 1
-  behind_it : {letter : ℕ} {fields : Fields} {left : List (List ℕ)} {k : ℕ} → LetterRight a bytes letter fields left → FaultIn (ended bytes) fields 2 left k → AtFault a bytes k
+-- the end is right: after the last field that the letter has comes the newline and nothing else
+abbrev pub EndRight : List ℕ → Letter → Type 0
+EndRight bytes l = (length (fields_of bytes) ≤ field_count l) × (ended bytes ≡ true)
+
+-- the field at fault: the fields before it are right, and it is not (02, No. 5: the lowest faulty field counts; a field that should be there and is not is faulty)
+pub data AtFault (which : Letter → Bool) (bytes : List ℕ) : Field → Type 0 where
+  letter_wrong : ((l : Letter) → LetterRight which bytes l → ⊥) → AtFault which bytes First
+  job_wrong : (l : Letter) → LetterRight which bytes l → (JobRight bytes l → ⊥) → AtFault which bytes Second
+  cell_wrong : (l : Letter) → LetterRight which bytes l → JobRight bytes l → (CellRight bytes l → ⊥) → AtFault which bytes Third
+  end_wrong : (l : Letter) → LetterRight which bytes l → JobRight bytes l → CellRight bytes l → (EndRight bytes l → ⊥) → AtFault which bytes Fourth

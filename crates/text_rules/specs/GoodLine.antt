@@ -1,20 +1,12 @@
--- What a good line is, with no way to read it: the record of a letter and its numbers, over any alphabet (01, Lines).
-use Rattle.std.specs.Prelude.{ℕ, ◌≤◌, ◌≡◌, List, [], ◌∷◌}
-use Rattle.std.proofs.Math.Option.{some}
-use Rattle.text_rules.specs.declared.Span.{Span}
-use Rattle.text_rules.specs.Alphabets.{Fields, alone, number, perhaps, Alphabet}
+-- What a good line is, with no way to read it: the record of a letter and its fields (01, Lines).
+use Rattle.std.specs.Prelude.{ℕ, ◌≤◌, ◌≡◌, Bool, true, false, List}
+use Rattle.terms.specs.declared.letters.Letter.{Letter}
+use Rattle.terms.specs.Letters.{has_job, has_cell}
+use Rattle.terms.specs.Limits.{last_number}
+use Rattle.text_rules.specs.Lines.{last_cell}
 use Rattle.text_rules.specs.Records.{line_record}
 
--- numbers fit fields: as many as there are fields, each within its limits; the last may be missing if it may be left out
-pub data Fit : Fields → List ℕ → Type 0 where
-  none_left : Fit alone []
-  one_more_lem : {s : Span} {fs : Fields} {n : ℕ} {ns : List ℕ} → s.least ≤ n → n ≤ s.most → Fit fs ns → Fit (number s fs) (n ∷ ns)
-  left_out : {s : Span} → Fit (perhaps s) []
-  there : {s : Span} {n : ℕ} → s.least ≤ n → n ≤ s.most → Fit (perhaps s) (n ∷ [])
-
--- a good line: the record of a letter of the alphabet with numbers that fit its fields
-pub record GoodLine (a : Alphabet) (bytes : List ℕ) (letter : ℕ) (numbers : List ℕ) : Type 0 where
-  pub fields : Fields
-  pub known : a.fields letter ≡ some fields
-  pub is : bytes ≡ line_record letter numbers
-  pub fits : Fit fields numbers
+-- a good line: the record of a letter that such lines may begin with, with fields that are not too large, and 0 for a field that the letter does not have
+abbrev pub GoodLine : (Letter → Bool) → List ℕ → Letter → ℕ → ℕ → Type 0
+GoodLine which bytes l job cell =
+    (bytes ≡ line_record l job cell) × (which l ≡ true) × (job ≤ last_number) × (cell ≤ last_cell) × (has_job l ≡ false → job ≡ 0) × (has_cell l ≡ false → cell ≡ 0)

@@ -3,11 +3,8 @@ pub mod Wrote
 pub mod Records
 pub mod EventRecords
 pub mod Lines
-pub mod Alphabets
 pub mod GoodLine
 pub mod FieldFaults
-pub mod RequestLines
-pub mod HistoryLines
 pub mod Fields
 pub mod Split
 pub mod Quoted

@@ -1,7 +1,28 @@
--- Fields of a line, and numbers in them: where a field ends, and when it is a number (01, Lines).
+-- What a line says: the line reader's answer for every string of bytes, field by field (01, Lines; 02, No. 5).
 use Rattle.std.specs.Prelude.{ℕ, ◌+◌, ◌*◌, ◌-◌, Bool, true, false, ◌&&◌, ◌||◌, not, List, [], ◌∷◌, eqb, leb}
+use Rattle.std.proofs.Math.Option.{Option, none, some}
 use Rattle.laws.specs.Choice.{pick}
+use Rattle.terms.specs.declared.letters.Letter.{Letter}
+use Rattle.terms.specs.declared.letters.Lettered.{Lettered}
+use Rattle.terms.specs.declared.letters.Lettered.TheVariants.{Known, Unknown}
+use Rattle.terms.specs.declared.refusals.Field.{Field}
+use Rattle.terms.specs.declared.refusals.Field.TheVariants.{First, Second, Third, Fourth}
+use Rattle.terms.specs.declared.refusals.Refusal.{Refusal}
+use Rattle.terms.specs.declared.refusals.Refusal.TheVariants.{BadLine}
+use Rattle.terms.specs.Letters.{letter_of, has_job, has_cell}
 use Rattle.terms.specs.Words.{tab, newline}
+use Rattle.terms.specs.Limits.{last_number}
+use Rattle.text_rules.specs.declared.Reading.{Reading}
+use Rattle.text_rules.specs.declared.Reading.TheVariants.{Good, Bad}
+
+-- the refusal of a line, by how it reads: a bad line is refusal 9, with the field at fault, and a good one is not refused (01, Lines: all else is refusal 9; 02, No. 5)
+abbrev pub refusal_of : Reading → Option Refusal
+refusal_of (Good l job cell) = none
+refusal_of (Bad field) = some (BadLine field)
+
+-- the largest cell that can be read: a cell has one or two digits (01, Lines)
+abbrev pub last_cell : ℕ
+last_cell = 99
 
 -- whether a field ends in front of this byte: a tab separates fields, and a newline ends the line (01, Lines)
 unfoldable pub parts : ℕ → Bool
@@ -41,7 +62,38 @@ shortest (d ∷ e ∷ ds) = not (eqb d 48)
 unfoldable pub is_number : ℕ → List ℕ → Bool
 is_number most field = digits_only field && (shortest field && leb (value_from 0 field) most)
 
--- whether a field ends in front of a text: the text begins with a tab or a newline, or is empty
-unfoldable pub end_ahead : List ℕ → Bool
-end_ahead [] = true
-end_ahead (b ∷ t) = parts b
+-- a tab and a number field, and then what the rest says; if the field is missing or is not such a number, the line is bad at this field
+unfoldable pub number_then : ℕ → Field → List ℕ → (ℕ → List ℕ → Reading) → Reading
+number_then most at [] rest = Bad at
+number_then most at (b ∷ t) rest =
+    pick (eqb b tab && is_number most (field_ahead t)) (rest (value_from 0 (field_ahead t)) (after_field t)) (Bad at)
+
+-- after the last field that the letter has: one newline and nothing after it; otherwise the line is bad there (02, No. 5: a missing newline being 4)
+unfoldable pub ending : List ℕ → Reading → Reading
+ending [] r = Bad Fourth
+ending (b ∷ []) r = pick (eqb b newline) r (Bad Fourth)
+ending (b ∷ c ∷ t) r = Bad Fourth
+
+-- the third field, if the letter has one: a cell
+unfoldable pub cell_part : Letter → ℕ → List ℕ → Reading
+cell_part l job t =
+    pick (has_cell l) (number_then last_cell Third t (λ cell rest. ending rest (Good l job cell))) (ending t (Good l job 0))
+
+-- the second field, if the letter has one: a job, at most 4,294,967,295
+unfoldable pub job_part : Letter → List ℕ → Reading
+job_part l t = pick (has_job l) (number_then last_number Second t (cell_part l)) (cell_part l 0 t)
+
+-- the letter of a first field: the field is one byte, a letter's
+unfoldable pub letter_in : List ℕ → Lettered
+letter_in [] = Unknown
+letter_in (b ∷ []) = letter_of b
+letter_in (b ∷ c ∷ t) = Unknown
+
+-- the first field: a letter, one of those that such lines may begin with
+unfoldable pub letter_part : (Letter → Bool) → Lettered → List ℕ → Reading
+letter_part which (Known l) t = pick (which l) (job_part l t) (Bad First)
+letter_part which Unknown t = Bad First
+
+-- what a line of requests or of a history says, given the letters that it may begin with; the lowest field at fault counts (01, Lines: all else is refusal 9; 02, No. 5)
+unfoldable pub read_line : (Letter → Bool) → List ℕ → Reading
+read_line which bytes = letter_part which (letter_in (field_ahead bytes)) (after_field bytes)

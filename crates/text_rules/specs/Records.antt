@@ -1,12 +1,12 @@
 -- The records, and what writing one into a lent buffer tells and leaves (01, Lines).
 use Rattle.std.specs.Prelude.{ℕ, ◌+◌, Bool, true, false, List, [], ◌∷◌, ◌++◌, ltb, leb, length}
 use Rattle.laws.specs.Choice.{pick}
+use Rattle.terms.specs.declared.letters.Letter.{Letter}
 use Rattle.terms.specs.declared.words.Word.{Word}
 use Rattle.terms.specs.declared.words.Word.TheVariants.{Go, Wait, Back, No, Wake, Orderly, Knot, Dirty}
 use Rattle.terms.specs.declared.refusals.Refusal.TheVariants.{NoRoom}
+use Rattle.terms.specs.Letters.{byte_of, has_job, has_cell}
 use Rattle.terms.specs.Words.{tab, newline, spelt}
-use Rattle.text_rules.specs.declared.Columns.{Columns}
-use Rattle.text_rules.specs.declared.Columns.TheVariants.{None as Nothing, One, Two}
 use Rattle.text_rules.specs.declared.Written.{Written}
 use Rattle.text_rules.specs.declared.Written.TheVariants.{Next, Refused}
 use Rattle.text_rules.specs.Decimal.{decimal}
@@ -48,37 +48,9 @@ longest_record = 24
 unfoldable pub field : Bool → ℕ → List ℕ
 field there n = pick there (tab ∷ decimal n) []
 
--- a line that begins with a letter: its byte, its numbers with a tab before each, and the newline; a history record, and also a request line (01, Lines)
-unfoldable pub line_record : ℕ → List ℕ → List ℕ
-line_record letter ns = letter ∷ tabbed ns ++ newline ∷ []
-
--- the numbers that a line is written with
-abbrev pub numbers_of : Columns → List ℕ
-numbers_of Nothing = []
-numbers_of (One n) = n ∷ []
-numbers_of (Two m n) = m ∷ n ∷ []
-
--- whether there is a first one, and which
-abbrev pub has_first : Columns → Bool
-has_first Nothing = false
-has_first (One n) = true
-has_first (Two m n) = true
-
-abbrev pub first_of : Columns → ℕ
-first_of Nothing = 0
-first_of (One n) = n
-first_of (Two m n) = m
-
--- whether there is a second one, and which
-abbrev pub has_second : Columns → Bool
-has_second Nothing = false
-has_second (One n) = false
-has_second (Two m n) = true
-
-abbrev pub second_of : Columns → ℕ
-second_of Nothing = 0
-second_of (One n) = 0
-second_of (Two m n) = n
+-- the line of a letter with its fields: a history record, and also a request line (01, Lines)
+unfoldable pub line_record : Letter → ℕ → ℕ → List ℕ
+line_record l job cell = byte_of l ∷ field (has_job l) job ++ field (has_cell l) cell ++ newline ∷ []
 
 -- numbers, with a tab between them
 unfoldable pub tabs_between : List ℕ → List ℕ

@@ -9,7 +9,6 @@ use desk_arrays::state::{Desk, Said};
 use desk_chain::chain::chain;
 use desk_rules::Chained;
 use desks::Answer;
-use desks::bytes::wide;
 use libc::{STDIN_FILENO, STDOUT_FILENO};
 use stamp_arrays::state::Stamps;
 use terms::letters::{INCREMENT, READ, WRITE};
@@ -57,6 +56,10 @@ const ASKS: u32 = 256;
 const MOST: usize = 64;
 // What the list's first place holds before the call; each further place holds one more. No job here has such a number.
 const BEFORE: u32 = 4_000_000_000;
+
+fn wide(byte: u8) -> u32 {
+    byte as u32
+}
 
 // The next byte of the input, or END.
 fn next_byte() -> u32 {

@@ -5,12 +5,11 @@ ghost use Rattle.std.specs.Prelude.{◌≤◌, length};
 use judge::entry::{judge, judge_text};
 use judge_line::verdict::write_verdict;
 use judge_rules::verdict::Verdict;
-use libc::STDOUT_FILENO;
+use libc::{STDIN_FILENO, STDOUT_FILENO};
 use terms::limits::JUDGED_BYTES;
 use terms::refusals::{Refusal, field_of, number_of};
 use terms::words::NEWLINE;
 use text_rules::Written;
-use whole_input::{keep, read_some, write_out};
 
 // The most places lent.
 const ORDER_PLACES: usize = 300;
@@ -50,6 +49,12 @@ struct Numbers {
     fourth: u32,
 }
 
+fn put_bytes(bytes: &[u8]) {
+    if !io::write_all(STDOUT_FILENO, bytes) {
+        os::fail(b"try_judge: cannot write");
+    }
+}
+
 fn put_mark() {
     io::write_all(STDOUT_FILENO, b"!\n");
 }
@@ -59,7 +64,7 @@ fn put_verdict(said: Verdict, order: &[u8; ORDER_PLACES]) {
     let mut out = io::buffer();
     match write_verdict(said, order, &mut out) {
         Written::Next(next) => {
-            write_out(&out[0..next], b"try_judge: cannot write");
+            put_bytes(&out[0..next]);
         }
         Written::Refused(_) => put_mark(),
     }
@@ -223,6 +228,18 @@ fn in_header(case: Case, byte: u8) -> Case
     }
 }
 
+// Keeps a byte behind those kept so far, if there is room; returns how many are kept.
+fn keep(text: &mut [u8], len: usize, byte: u8) -> usize
+    requires { len ≤ length text.old }
+    ensures { result ≤ length text.new }
+{
+    if len < text.len() {
+        text[len] = byte;
+        return len + 1;
+    }
+    len
+}
+
 // Where the byte after a text byte stands.
 fn spot_after(byte: u8) -> Spot {
     if byte == NEWLINE {
@@ -236,7 +253,7 @@ fn in_text(case: Case, byte: u8, text: &mut [u8]) -> Case
     requires { (case.len ≤ length text.old) × (case.places ≤ 300) }
     ensures { (result.len ≤ length text.new) × (result.places ≤ 300) }
 {
-    let len = keep(text, case.len, &[byte]);
+    let len = keep(text, case.len, byte);
     Case {
         open: case.open,
         places: case.places,
@@ -284,6 +301,17 @@ fn take_chunk(before: Case, chunk: &[u8], text: &mut [u8]) -> Case
     case
 }
 
+// One read of the input; returns how many bytes came.
+fn read_some(input: &mut [u8]) -> usize
+    ensures { result ≤ length input.new }
+{
+    let got = libc::read(STDIN_FILENO, input);
+    if got < 0 {
+        os::fail(b"try_judge: cannot read");
+    }
+    io::count(got, input)
+}
+
 // Reads chunk after chunk. Nothing guarantees that the input ends, so the loop counts down from more turns than any run uses.
 fn take_all(input: &mut [u8], text: &mut [u8]) {
     let mut case = Case {
@@ -294,7 +322,7 @@ fn take_all(input: &mut [u8], text: &mut [u8]) {
     };
     let mut turns = u64::MAX;
     while turns > 0 {
-        let n = read_some(input, b"try_judge: cannot read");
+        let n = read_some(input);
         if n == 0 {
             break;
         }

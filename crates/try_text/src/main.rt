@@ -2,11 +2,10 @@
 ghost use Rattle.std.specs.Prelude.{◌≤◌, length};
 ghost use Rattle.text_rules.specs.Split.{Sized};
 
-use conflict::action::Event;
+use libc::{STDIN_FILENO, STDOUT_FILENO};
 use terms::{Field, Letter, Refusal, Word, byte_of, field_number, has_cell, has_job, number_of};
-use text::{kind_byte, mark_byte, next_or, read_history, read_request, write_answer, write_line};
-use text_rules::{Columns, EventReading, Reading, Splitter};
-use whole_input::{read_some, write_out};
+use text::{read_history, read_request, write_answer, write_line};
+use text_rules::{Reading, Splitter, Written};
 
 // The records of one line take fewer bytes than this, whatever its number.
 const ROOM: usize = 128;
@@ -34,7 +33,10 @@ fn answer(
     if !there {
         return at;
     }
-    next_or(write_answer(out, at, line, word, number, fault), at)
+    match write_answer(out, at, line, word, number, fault) {
+        Written::Next(next) => next,
+        Written::Refused(_) => at,
+    }
 }
 
 // Writes the record of a line that a reader calls bad: refusal 9 and the field at fault.
@@ -69,26 +71,14 @@ fn request(out: &mut [u8], at: usize, line: u64, bytes: &[u8]) -> usize
     }
 }
 
-// Writes a line of a history as a history record.
-fn good_history(out: &mut [u8], at: usize, letter: u8, columns: Columns) -> usize
+// Writes a good history line as a history record.
+fn good_history(out: &mut [u8], at: usize, letter: Letter, job: u32, cell: u32) -> usize
     requires { at ≤ length out.old }
     ensures { result ≤ length out.new }
 {
-    next_or(write_line(out, at, letter, columns), at)
-}
-
-// Writes an event as a history record.
-fn event(out: &mut [u8], at: usize, e: Event) -> usize
-    requires { at ≤ length out.old }
-    ensures { result ≤ length out.new }
-{
-    match e {
-        Event::Does(a) => {
-            let kind = a.kind;
-            let columns = Columns::Two(a.job as u64, a.cell as u64);
-            good_history(out, at, kind_byte(kind), columns)
-        }
-        Event::Ends(mark, job) => good_history(out, at, mark_byte(mark), Columns::One(job as u64)),
+    match write_line(out, at, letter, job as u64, cell as u64) {
+        Written::Next(next) => next,
+        Written::Refused(_) => at,
     }
 }
 
@@ -98,8 +88,8 @@ fn history(out: &mut [u8], at: usize, line: u64, bytes: &[u8]) -> usize
     ensures { result ≤ length out.new }
 {
     match read_history(bytes) {
-        EventReading::Says(e) => event(out, at, e),
-        EventReading::Bad(field) => bad(out, at, line, Word::Wake, field),
+        Reading::Good { letter, job, cell } => good_history(out, at, letter, job, cell),
+        Reading::Bad(field) => bad(out, at, line, Word::Wake, field),
     }
 }
 
@@ -107,7 +97,20 @@ fn history(out: &mut [u8], at: usize, line: u64, bytes: &[u8]) -> usize
 fn flush(out: &[u8], at: usize)
     requires { at ≤ length out.now }
 {
-    write_out(&out[0..at], b"try_text: cannot write");
+    if !io::write_all(STDOUT_FILENO, &out[0..at]) {
+        os::fail(b"try_text: cannot write");
+    }
+}
+
+// One read of the input; returns how many bytes came.
+fn read_some(input: &mut [u8]) -> usize
+    ensures { result ≤ length input.new }
+{
+    let got = libc::read(STDIN_FILENO, input);
+    if got < 0 {
+        os::fail(b"try_text: cannot read");
+    }
+    io::count(got, input)
 }
 
 // A place from which a line's records fit: the place given, or 0 after all before it is written out.
@@ -174,7 +177,7 @@ fn report_all(input: &mut [u8], out: &mut [u8]) {
     };
     let mut turns = u64::MAX;
     while turns > 0 {
-        let n = read_some(input, b"try_text: cannot read");
+        let n = read_some(input);
         if n == 0 {
             break;
         }

@@ -3,9 +3,7 @@
 use Prim.Native.Nat.{ℕ}
 use mathlib.Core.Path.{◌≡◌, refl, sym, ap, ◌∙◌}
 use mathlib.Core.List.{[], ◌∷◌}
-use lib.Dec.{eqb}
 use lib.ListN.{get_or}
-use Rattle.laws.specs.Choice.{pick}
 use Rattle.terms.specs.declared.words.Word.{Word}
 use Rattle.terms.specs.declared.words.Word.TheVariants.{Go, Wait, Back, No, Wake, Orderly, Knot, Dirty}
 use Rattle.terms.specs.declared.letters.Letter.{Letter}
@@ -15,17 +13,8 @@ use Rattle.terms.specs.declared.letters.Lettered.TheVariants.{Known as a-letter,
 use Rattle.terms.specs.declared.refusals.Field.TheVariants.{First, Second, Third, Fourth}
 use Rattle.terms.specs.Letters.{letter_of}
 use Rattle.terms.proofs.Alphabet.{letter_of_byte}
-use Rattle.conflict.specs.declared.action.Kind.{Kind}
-use Rattle.conflict.specs.declared.action.Kind.TheVariants.{Read, Write, Increment}
-use Rattle.conflict.specs.declared.action.Mark.TheVariants.{Commit, GiveUp, Back as goes_back}
-use Rattle.conflict.specs.declared.action.Event.{Event}
-use Rattle.conflict.specs.declared.action.Event.TheVariants.{Does, Ends}
-use Rattle.conflict.specs.History.{job_of, cell_of}
-use Rattle.text_rules.specs.declared.EventReading.{EventReading}
-use Rattle.text_rules.specs.declared.EventReading.TheVariants.{Says, Bad as not-Good}
 use Rattle.text_rules.specs.declared.Reading.{Reading}
 use Rattle.text_rules.specs.declared.Reading.TheVariants.{Good, Bad}
-use Rattle.text_rules.specs.EventRecords.{kind_byte, mark_byte, event_byte}
 use Rattle.desks.specs.declared.Answer.{Answer}
 use Rattle.desks.specs.declared.Answer.TheVariants.{Go as goes, Wait as waits, Back as back, No as refuses}
 use Rattle.desks.specs.AnswerWords.{word_of, field_beside}
@@ -34,7 +23,7 @@ use Rattle.tuyenlomac.specs.declared.answers.Answered.{Answered}
 use Rattle.tuyenlomac.specs.declared.lines.Worded.TheVariants.{Known}
 use Rattle.tuyenlomac.specs.declared.lines.Line.{Line}
 use Rattle.tuyenlomac.specs.Numbers.{word_number, word_at, in_three}
-use Rattle.tuyenlomac.specs.Texts.{line_in, history_in}
+use Rattle.tuyenlomac.specs.Texts.{line_in}
 
 -- the word of a number, among the eight
 abbrev word_by : ℕ → Word
@@ -83,37 +72,3 @@ at_reading (Bad Fourth) = refl
 -- EQUAL NUMBERS, EQUAL LINES
 pub same_line : (r s : Reading) → line_in r ≡ line_in s → r ≡ s
 same_line r s e = sym (at_reading r) ∙ ap reading_by e ∙ at_reading s
-
--- the event of a history line from its byte, its job and its cell
-abbrev event_by : ℕ → ℕ → ℕ → Event
-event_by byte job cell =
-    pick (eqb byte 114) (Does (record { kind = Read; job = job; cell = cell }))
-    (pick (eqb byte 119) (Does (record { kind = Write; job = job; cell = cell }))
-    (pick (eqb byte 105) (Does (record { kind = Increment; job = job; cell = cell }))
-    (pick (eqb byte 99) (Ends Commit job) (pick (eqb byte 97) (Ends GiveUp job) (Ends goes_back job)))))
-
-at_action : (k : Kind) (job cell : ℕ) → event_by (kind_byte k) job cell ≡ Does (record { kind = k; job = job; cell = cell })
-at_action Read job cell = refl
-at_action Write job cell = refl
-at_action Increment job cell = refl
-
-at_event : (e : Event) → event_by (event_byte e) (job_of e) (cell_of e) ≡ e
-at_event (Does a) = at_action a.kind a.job a.cell
-at_event (Ends Commit j) = refl
-at_event (Ends GiveUp j) = refl
-at_event (Ends goes_back j) = refl
-
-abbrev told_by : Line → EventReading
-told_by l = get_or (Says (event_by l.kind l.job l.cell) ∷ not-Good First ∷ not-Good Second ∷ not-Good Third ∷ []) l.field (not-Good Fourth)
-
-at_told : (r : EventReading) → told_by (history_in r) ≡ r
-unfolding history_in
-at_told (Says e) = ap Says (at_event e)
-at_told (not-Good First) = refl
-at_told (not-Good Second) = refl
-at_told (not-Good Third) = refl
-at_told (not-Good Fourth) = refl
-
--- and so for a history's lines
-pub same_history_line : (r s : EventReading) → history_in r ≡ history_in s → r ≡ s
-same_history_line r s e = sym (at_told r) ∙ ap told_by e ∙ at_told s

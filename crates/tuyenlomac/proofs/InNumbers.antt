@@ -13,20 +13,13 @@ use Rattle.terms.specs.Refusals.{number_of, field_of, field_number}
 use Rattle.desk_rules.specs.declared.Chained.{Chained}
 use Rattle.desk_rules.specs.declared.Chained.TheVariants.{Jobs, No}
 use Rattle.desk_rules.specs.AskedChain.{chain_numbers}
-use Rattle.conflict.specs.declared.action.Action.{Action}
-use Rattle.conflict.specs.declared.action.Mark.{Mark}
-use Rattle.conflict.specs.declared.action.Event.{Event}
-use Rattle.conflict.specs.declared.action.Event.TheVariants.{Does, Ends}
-use Rattle.text_rules.specs.declared.EventReading.{EventReading}
-use Rattle.text_rules.specs.declared.EventReading.TheVariants.{Says, Bad as not-Good}
 use Rattle.text_rules.specs.declared.Reading.{Reading}
 use Rattle.text_rules.specs.declared.Reading.TheVariants.{Good, Bad}
 use Rattle.text_rules.specs.declared.Written.{Written}
 use Rattle.text_rules.specs.declared.Written.TheVariants.{Next, Refused}
-use Rattle.text_rules.specs.EventRecords.{kind_byte, mark_byte, event_byte}
 use Rattle.tuyenlomac.specs.declared.lines.Line.{Line}
 use Rattle.text_rules.specs.Records.{told, left}
-use Rattle.tuyenlomac.specs.Texts.{line_in, history_in, written_numbers, told_of, left_of}
+use Rattle.tuyenlomac.specs.Texts.{line_in, written_numbers, told_of, left_of}
 
 -- a good line
 pub good_told : {r : Reading} {k : ℕ} (l : Letter) (job cell : ℕ) → r ≡ Good l job cell → k ≡ byte_of l → ◌≡◌ {A = Line} (record { job = job; cell = cell; kind = k; field = 0 }) (line_in r)
@@ -37,23 +30,6 @@ good_told l job cell e h = rw (e, h)
 pub bad_told : {r : Reading} {n : ℕ} (which : Field) → r ≡ Bad which → n ≡ field_number which → ◌≡◌ {A = Line} (record { job = 0; cell = 0; kind = 0; field = n }) (line_in r)
 unfolding line_in
 bad_told which e h = rw (e, h)
-
--- a good line of a history, by its event: an action, and a mark
-pub does_told : {e : Event} {k : ℕ} (a : Action) → e ≡ Does a → k ≡ kind_byte a.kind → ◌≡◌ {A = Line} (record { job = a.job; cell = a.cell; kind = k; field = 0 }) (history_in (Says e))
-unfolding history_in
-does_told a e h = rw (e, h)
-
-pub ends_told : {e : Event} {k : ℕ} (m : Mark) (j : ℕ) → e ≡ Ends m j → k ≡ mark_byte m → ◌≡◌ {A = Line} (record { job = j; cell = 0; kind = k; field = 0 }) (history_in (Says e))
-unfolding history_in
-ends_told m j e h = rw (e, h)
-
-pub says_told : {r : EventReading} {l : Line} (e : Event) → r ≡ Says e → l ≡ history_in (Says e) → l ≡ history_in r
-says_told e q h = rw q h
-
--- a bad one
-pub torn_told : {r : EventReading} {n : ℕ} (which : Field) → r ≡ not-Good which → n ≡ field_number which → ◌≡◌ {A = Line} (record { job = 0; cell = 0; kind = 0; field = n }) (history_in r)
-unfolding history_in
-torn_told which e h = rw (e, h)
 
 -- a record that was written, and one that was not
 pub next_told : {w : Written} (place : ℕ) → w ≡ Next place → (0 ∷ place ∷ []) ≡ written_numbers w

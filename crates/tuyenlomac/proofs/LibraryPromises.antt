@@ -28,7 +28,7 @@ use Rattle.stamp_rules.specs.Desk as request
 use Rattle.stamp_rules.specs.Step as request-step
 use Rattle.stamp_arrays.specs.declared.state.Stamps.{Stamps}
 use Rattle.stamp_arrays.specs.declared.state.Stamped.{Stamped}
-use Rattle.stamp_arrays.specs.Steps as by_number
+use Rattle.stamp_arrays.specs.Steps as by_number_lem
 use Rattle.stamp_arrays.specs.Seen as stamps
 use Rattle.stamp_arrays.proofs.Faithful as stamps-follow
 use Rattle.lent.specs.Entries.{locks_told, stamps_told}
@@ -53,7 +53,7 @@ pub locks_calls : (lists : Lists) (d : Desk) (rs : List Request) → (ks : List 
 locks_calls lists = calls_for (λ k. k.desk) (λ d r. telling_locks lists (locks.step_of d r.kind r.job r.cell)) (λ d r. record { desk = refl; answer = refl; wakes = refl })
 
 pub stamps_calls : (d : Stamps) (rs : List Request) → (ks : List StampsCall) × Lent (λ k. k.desk) OnStamps d rs ks
-stamps_calls = calls_for (λ k. k.desk) (λ d r. telling_stamps (by_number.step_of d r.kind r.job r.cell)) (λ d r. record { desk = refl; answer = refl })
+stamps_calls = calls_for (λ k. k.desk) (λ d r. telling_stamps (by_number_lem.step_of d r.kind r.job r.cell)) (λ d r. record { desk = refl; answer = refl })
 
 -- if each call tells what an entry of the lent desk gives, the calls are calls of that entry
 module _ {S O K : Type 0} {leaves : O → S} {entry : S → Request → O → Type 0} {left : K → S} {call : S → Request → K → Type 0} {tells : O → K → Type 0}
@@ -70,7 +70,7 @@ locks_one : (d : Desk) (r : Request) (k : LocksCall) → OnLocks d r k → (o : 
 locks_one d r k s = (locks.step_of d r.kind r.job r.cell, refl, s)
 
 stamps_one : (d : Stamps) (r : Request) (k : StampsCall) → OnStamps d r k → (o : Stamped) × entries.OnStamps d r o × TellsStamps o k
-stamps_one d r k s = (by_number.step_of d r.kind r.job r.cell, refl, s)
+stamps_one d r k s = (by_number_lem.step_of d r.kind r.job r.cell, refl, s)
 
 -- so calls through the library are calls of the lent desk, told in numbers
 locks_lent : {d : Desk} {rs : List Request} {ks : List LocksCall} → Lent (λ k. k.desk) OnLocks d rs ks → (os : List Outcome) × Lent (λ o. o.desk) entries.OnLocks d rs os × Each TellsLocks os ks
@@ -124,7 +124,7 @@ module _ (n : ℕ) (some : 0 < n) (last : n ≤ last_number) where
   pub locks_start : (d : Desk) → (start_number (locks.start_of n) ≡ 0) × arrays.Started (start_leaves d (locks.start_of n)) []
   locks_start d = let s = locks_started d n not_zero in (sym s.0, subst (λ e. arrays.Started e []) s.1 (fresh n some last))
 
-  pub stamps_start : (d : Stamps) → (stamps_number (by_number.start_of n) ≡ 0) × stamps.Started (stamps_leaves d (by_number.start_of n)) []
+  pub stamps_start : (d : Stamps) → (stamps_number (by_number_lem.start_of n) ≡ 0) × stamps.Started (stamps_leaves d (by_number_lem.start_of n)) []
   stamps_start d = let s = stamps_started d n not_zero in (sym s.0, subst (λ e. stamps.Started e []) s.1 (fresh n some last))
 
   -- from a start on, each call on the lock desk says, in numbers, what the paper's desk says in its turn: the answer, and which jobs it wakes
@@ -135,7 +135,7 @@ module _ (n : ℕ) (some : 0 < n) (last : n ≤ last_number) where
       (called_says arrays-follow.faithful SaysLocks locks_says (fresh n some last) (subst (λ e. Lent (λ k. k.desk) OnLocks e rs ks) (sym (locks_started d n not_zero).1) c))
 
   -- and each call on the timestamp desk says what the request's desk says
-  pub library_stamp_says : (d : Stamps) {rs : List Request} {ks : List StampsCall} → Lent (λ k. k.desk) OnStamps (stamps_leaves d (by_number.start_of n)) rs ks →
+  pub library_stamp_says : (d : Stamps) {rs : List Request} {ks : List StampsCall} → Lent (λ k. k.desk) OnStamps (stamps_leaves d (by_number_lem.start_of n)) rs ks →
       Each (λ o. SaysStamps o.said o.wakes) (steps_of request-step.step (request.fresh_desk n) rs) ks
   library_stamp_says d {rs} {ks} c =
       subst (λ e. Each (λ o. SaysStamps o.said o.wakes) (steps_of request-step.step e rs) ks) ((stamps-follow.faithful).starts n some last)

@@ -7,34 +7,27 @@ use mathlib.Core.Option.{none, some}
 use Rattle.laws.specs.Lists.{filled}
 use Rattle.terms.specs.declared.words.Word.TheVariants.{Go, Wait, Back, No, Wake}
 use Rattle.terms.specs.declared.refusals.Refusal.TheVariants.{NotOpen, NoRoom}
-use Rattle.terms.specs.Letters.{letter_of}
-use Rattle.terms.specs.declared.refusals.Field.TheVariants.{Third}
+use Rattle.terms.specs.Letters.{letter_of, of_requests}
 use Rattle.conflict.specs.declared.action.Kind.TheVariants.{Read, Write, Increment}
-use Rattle.conflict.specs.declared.action.Mark.TheVariants.{Commit, GiveUp, Back as goes_back}
-use Rattle.conflict.specs.declared.action.Event.TheVariants.{Does, Ends}
-use Rattle.conflict.specs.History.{job_of, cell_of}
-use Rattle.text_rules.specs.declared.EventReading.TheVariants.{Says, Bad as not-Good}
 use Rattle.text_rules.specs.declared.Written.TheVariants.{Next, Refused}
 use Rattle.text_rules.specs.Decimal.{digits_in, decimal}
-use Rattle.text_rules.specs.EventRecords.{kind_byte, mark_byte, event_byte}
-use Rattle.text_rules.specs.Lines.{parts, field_ahead, after_field, is_digit, digits_only, value_from, shortest, is_number, end_ahead}
-use Rattle.text_rules.specs.Alphabets.{at_end, number_ahead, value_ahead, after_number, before, number_then, ending, numbers_in, behind, line_by, read_fields}
-use Rattle.text_rules.specs.RequestLines.{read_request}
+use Rattle.text_rules.specs.EventRecords.{ask_by}
+use Rattle.text_rules.specs.Lines.{parts, field_ahead, after_field, is_digit, digits_only, value_from, shortest, is_number, number_then, ending, cell_part, job_part, letter_in, letter_part, read_line}
 use Rattle.text_rules.specs.Quoted.{bytes}
 use Rattle.text_rules.specs.Records.{tabbed, word_line, given, answer_record, field, line_record, fits, told, left}
 use Rattle.desks.specs.declared.Answer.TheVariants.{Go as goes, Wait as waits, Back as back, No as refuses}
 use Rattle.desks.specs.AnswerWords.{word_of, number_beside}
 use Rattle.tuyenlomac.specs.declared.lines.Worded.TheVariants.{Known, Unknown}
-use Rattle.tuyenlomac.specs.Desks.{lists_of, wakes_in}
+use Rattle.tuyenlomac.specs.Desks.{lists_of, kind_byte, wakes_in}
 use Rattle.tuyenlomac.specs.Numbers.{word_at, in_three}
-use Rattle.tuyenlomac.specs.Texts.{line_in, history_in, written_numbers, answer_bytes, line_bytes, told_of, left_of}
+use Rattle.tuyenlomac.specs.Texts.{line_in, written_numbers, answer_bytes, line_bytes, told_of, left_of}
 
 -- three wakes in three lists of four places: their jobs, their cells, and r, w or i as bytes; the fourth place of each stays
 pub wakes_are :
     wakes_in (record { job = 7; cell = 5; kind = Read } ∷ record { job = 8; cell = 0; kind = Write } ∷ record { job = 9; cell = 63; kind = Increment } ∷ [])
     (lists_of (1 ∷ 1 ∷ 1 ∷ 1 ∷ []) (2 ∷ 2 ∷ 2 ∷ 2 ∷ []) (3 ∷ 3 ∷ 3 ∷ 3 ∷ []))
     ≡ lists_of (7 ∷ 8 ∷ 9 ∷ 1 ∷ []) (5 ∷ 0 ∷ 63 ∷ 2 ∷ []) (114 ∷ 119 ∷ 105 ∷ 3 ∷ [])
-unfolding wakes_in filled
+unfolding wakes_in kind_byte ask_by filled
 wakes_are = refl
 
 -- answers: 0 go, 1 wait and 2 back with the job, 3 no with the refusal; and the number of wakes
@@ -50,20 +43,10 @@ words_are = refl
 
 -- what lines say: a write of job 7 at cell 5; a commit of job 7; a begin; the field at fault of a line that lacks its cell
 pub lines_are :
-    map (λ l. line_in (read_request (bytes l))) ("w\t7\t5\n" ∷ "c\t7\n" ∷ "b\n" ∷ "r\t7\n" ∷ [])
+    map (λ l. line_in (read_line of_requests (bytes l))) ("w\t7\t5\n" ∷ "c\t7\n" ∷ "b\n" ∷ "r\t7\n" ∷ [])
     ≡ record { job = 7; cell = 5; kind = 119; field = 0 } ∷ record { job = 7; cell = 0; kind = 99; field = 0 } ∷ record { job = 0; cell = 0; kind = 98; field = 0 } ∷ record { job = 0; cell = 0; kind = 0; field = 3 } ∷ []
-unfolding line_in bytes parts field_ahead after_field is_digit digits_only value_from shortest is_number end_ahead at_end number_ahead value_ahead after_number before number_then ending numbers_in behind line_by read_fields read_request
+unfolding line_in bytes parts field_ahead after_field is_digit digits_only value_from shortest is_number number_then ending cell_part job_part letter_in letter_part read_line
 lines_are = refl
-
--- what lines of a history say: r, w and i with a job and a cell; c, a and k with a job; and the field at fault of a bad line
-pub history_lines_are :
-    map history_in
-    (Says (Does (record { kind = Read; job = 7; cell = 5 })) ∷ Says (Does (record { kind = Write; job = 7; cell = 5 })) ∷ Says (Does (record { kind = Increment; job = 7; cell = 5 }))
-    ∷ Says (Ends Commit 7) ∷ Says (Ends GiveUp 7) ∷ Says (Ends goes_back 7) ∷ not-Good Third ∷ [])
-    ≡ record { job = 7; cell = 5; kind = 114; field = 0 } ∷ record { job = 7; cell = 5; kind = 119; field = 0 } ∷ record { job = 7; cell = 5; kind = 105; field = 0 }
-    ∷ record { job = 7; cell = 0; kind = 99; field = 0 } ∷ record { job = 7; cell = 0; kind = 97; field = 0 } ∷ record { job = 7; cell = 0; kind = 107; field = 0 } ∷ record { job = 0; cell = 0; kind = 0; field = 3 } ∷ []
-unfolding history_in
-history_lines_are = refl
 
 -- answer records: the line's number, the word, the number, and the field at fault if it is not 0; a number that stands for no word has no record
 pub answer_bytes_are :
@@ -74,9 +57,9 @@ answer_bytes_are = refl
 
 -- lines of letters, with the job and the cell that the letter has; a byte that is not a letter's has no line
 pub line_bytes_are :
-    line_bytes (letter_of 119) 119 7 5 ∷ line_bytes (letter_of 107) 107 7 5 ∷ line_bytes (letter_of 98) 98 7 5 ∷ line_bytes (letter_of 120) 120 7 5 ∷ []
+    line_bytes (letter_of 119) 7 5 ∷ line_bytes (letter_of 107) 7 5 ∷ line_bytes (letter_of 98) 7 5 ∷ line_bytes (letter_of 120) 7 5 ∷ []
     ≡ some (bytes "w\t7\t5\n") ∷ some (bytes "k\t7\n") ∷ some (bytes "b\n") ∷ none ∷ []
-unfolding line_bytes line_record tabbed decimal digits_in bytes
+unfolding line_bytes line_record field decimal digits_in bytes
 line_bytes_are = refl
 
 -- what writing tells: the refusal's number, or 0, and then the place after the record; a record that does not exist gets 1, and every byte stays, whatever the buffer and the place
@@ -90,7 +73,7 @@ none_such buffer at = (refl, refl)
 
 -- and a line of four bytes, written into nine zeros from place 3
 pub write_is :
-    (written_numbers (told_of (0 ∷ 0 ∷ 0 ∷ 0 ∷ 0 ∷ 0 ∷ 0 ∷ 0 ∷ 0 ∷ []) 3 (line_bytes (letter_of 99) 99 7 5)) ≡ 0 ∷ 7 ∷ [])
-    × (left_of (0 ∷ 0 ∷ 0 ∷ 0 ∷ 0 ∷ 0 ∷ 0 ∷ 0 ∷ 0 ∷ []) 3 (line_bytes (letter_of 99) 99 7 5) ≡ 0 ∷ 0 ∷ 0 ∷ 99 ∷ 9 ∷ 55 ∷ 10 ∷ 0 ∷ 0 ∷ [])
-unfolding written_numbers told_of left_of line_bytes line_record tabbed decimal digits_in told left fits
+    (written_numbers (told_of (0 ∷ 0 ∷ 0 ∷ 0 ∷ 0 ∷ 0 ∷ 0 ∷ 0 ∷ 0 ∷ []) 3 (line_bytes (letter_of 99) 7 5)) ≡ 0 ∷ 7 ∷ [])
+    × (left_of (0 ∷ 0 ∷ 0 ∷ 0 ∷ 0 ∷ 0 ∷ 0 ∷ 0 ∷ 0 ∷ []) 3 (line_bytes (letter_of 99) 7 5) ≡ 0 ∷ 0 ∷ 0 ∷ 99 ∷ 9 ∷ 55 ∷ 10 ∷ 0 ∷ 0 ∷ [])
+unfolding written_numbers told_of left_of line_bytes line_record field decimal digits_in told left fits
 write_is = (refl, refl)

@@ -19,10 +19,9 @@ use Rattle.desk_arrays.specs.Steps.{wake_at, step_of}
 use Rattle.desk_arrays.specs.Stands.{wakes_told}
 use Rattle.desk.specs.InPlace.{StepsTo}
 use Rattle.desk.proofs.Woken.{count_told, wakes_first}
-use Rattle.text_rules.specs.EventRecords.{kind_byte, mark_byte, event_byte}
 use Rattle.tuyenlomac.specs.declared.answers.Answered.{Answered}
 use Rattle.tuyenlomac.specs.Numbers.{in_three}
-use Rattle.tuyenlomac.specs.Desks.{Lists, lists_of, wakes_in}
+use Rattle.tuyenlomac.specs.Desks.{Lists, lists_of, kind_byte, wakes_in}
 use Rattle.tuyenlomac.specs.Calls.{LocksCall, locks_call, OnLocks}
 
 module _ (g : ℕ → Action) (l : List ℕ) where

@@ -6,7 +6,7 @@ use Rattle.terms.specs.Letters.{byte_of}
 use Rattle.terms.specs.Refusals.{number_of}
 use Rattle.conflict.specs.declared.action.Action.{Action}
 use Rattle.conflict.specs.declared.action.Kind.{Kind}
-use Rattle.text_rules.specs.EventRecords.{kind_byte}
+use Rattle.text_rules.specs.EventRecords.{ask_by}
 use Rattle.desk_arrays.specs.declared.state.Desk.{Desk}
 use Rattle.desk_arrays.specs.declared.state.Start.{Start}
 use Rattle.desk_arrays.specs.declared.state.Start.TheVariants.{Ready, Refused}
@@ -43,6 +43,10 @@ pub record Lists : Type 0 where
 -- three lists as one record
 abbrev pub lists_of : List ℕ → List ℕ → List ℕ → Lists
 lists_of jobs cells kinds = record { jobs = jobs; cells = cells; kinds = kinds }
+
+-- the byte of the letter that a history record has for an action: r, w or i (01, Lines: History records)
+unfoldable pub kind_byte : Kind → ℕ
+kind_byte k = byte_of (Asks (ask_by k))
 
 -- wakes told in three lists: they fill the first places of each, in order, and the rest stay
 unfoldable pub wakes_in : List Action → Lists → Lists

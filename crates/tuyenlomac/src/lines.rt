@@ -1,20 +1,16 @@
 // Lines in and records out, in numbers: the line reader and the record writer (01, Lines; 02, No. 5).
 ghost use Rattle.std.specs.Prelude.{◌≡◌, [], ◌∷◌};
-ghost use Rattle.terms.specs.Letters.{letter_of};
-ghost use Rattle.text_rules.specs.HistoryLines.{read_history};
-ghost use Rattle.text_rules.specs.Records.{numbers_of};
-ghost use Rattle.text_rules.specs.RequestLines.{read_request, request_numbers};
+ghost use Rattle.terms.specs.Letters.{letter_of, of_requests, of_histories};
+ghost use Rattle.text_rules.specs.Lines.{read_line};
 ghost use Rattle.tuyenlomac.specs.Numbers.{word_at};
-ghost use Rattle.tuyenlomac.specs.Texts.{line_in, history_in, written_numbers, answer_bytes, line_bytes, told_of, left_of};
+ghost use Rattle.tuyenlomac.specs.Texts.{line_in, written_numbers, answer_bytes, line_bytes, told_of, left_of};
 
-use conflict::action::Event;
-use terms::letters::{BACK, Letter, Lettered, byte_of, letter_of};
+use terms::letters::{Lettered, byte_of, letter_of};
 use terms::refusals::{Refusal, field_number, number_of};
 use terms::words::Word;
-use text::events::{kind_byte, mark_byte};
 use text::reader::{read_history, read_request};
 use text::writer::{write_answer, write_line};
-use text_rules::{Columns, EventReading, Reading, Written};
+use text_rules::{Reading, Written};
 
 // What a line says. For a good line `field` is 0 and `kind` is its letter's byte; `job` and `cell` are 0 if the letter has none. For a bad line `field` is the field at fault, 1 to 4, and the others are 0.
 #[repr(C)]
@@ -57,7 +53,7 @@ fn word_at(n: u32) -> Worded
     }
 }
 
-// What a line of requests says, in numbers.
+// What a line says, in numbers.
 fn line_in(r: Reading) -> Line
     ensures { result ≡ line_in r }
 {
@@ -69,44 +65,6 @@ fn line_in(r: Reading) -> Line
             field: 0,
         },
         Reading::Bad(field) => Line {
-            job: 0,
-            cell: 0,
-            kind: 0,
-            field: field_number(field),
-        },
-    }
-}
-
-// A good line of a history, in numbers.
-fn event_in(e: Event) -> Line
-    ensures { result ≡ history_in (EventReading.Says e) }
-{
-    match e {
-        Event::Does(a) => {
-            let kind = a.kind;
-            Line {
-                job: a.job,
-                cell: a.cell,
-                kind: kind_byte(kind),
-                field: 0,
-            }
-        }
-        Event::Ends(mark, job) => Line {
-            job,
-            cell: 0,
-            kind: mark_byte(mark),
-            field: 0,
-        },
-    }
-}
-
-// What a line of a history says, in numbers.
-fn history_in(r: EventReading) -> Line
-    ensures { result ≡ history_in r }
-{
-    match r {
-        EventReading::Says(e) => event_in(e),
-        EventReading::Bad(field) => Line {
             job: 0,
             cell: 0,
             kind: 0,
@@ -131,7 +89,7 @@ fn placed_at(w: Written) -> Placed
 // What a line of requests says; the line comes with its newline.
 #[unsafe(no_mangle)]
 pub extern "C" fn tuyenlomac_read_request(line: &[u8]) -> Line
-    ensures { result ≡ line_in (read_request line.now) }
+    ensures { result ≡ line_in (read_line of_requests line.now) }
 {
     line_in(read_request(line))
 }
@@ -139,9 +97,9 @@ pub extern "C" fn tuyenlomac_read_request(line: &[u8]) -> Line
 // What a line of a history says; the line comes with its newline.
 #[unsafe(no_mangle)]
 pub extern "C" fn tuyenlomac_read_history(line: &[u8]) -> Line
-    ensures { result ≡ history_in (read_history line.now) }
+    ensures { result ≡ line_in (read_line of_histories line.now) }
 {
-    history_in(read_history(line))
+    line_in(read_history(line))
 }
 
 // Writes an answer record from a place: 1 if no word has that number, then 15 if the record does not fit; after either every byte stays.
@@ -163,19 +121,6 @@ pub extern "C" fn tuyenlomac_write_answer(
     }
 }
 
-// The numbers of a request's line, as many as its letter has fields.
-fn columns_of(l: Letter, job: u64, cell: u64) -> Columns
-    ensures { numbers_of result ≡ request_numbers l job cell }
-{
-    match l {
-        Letter::Begin => Columns::None,
-        Letter::Commit => Columns::One(job),
-        Letter::GiveUp => Columns::One(job),
-        Letter::Retry => Columns::One(job),
-        Letter::Asks(_) => Columns::Two(job, cell),
-    }
-}
-
 // Writes the line of a letter from a place, a history record or a request: 1 if no letter has that byte, then 15 if the line does not fit; after either every byte stays.
 #[unsafe(no_mangle)]
 pub extern "C" fn tuyenlomac_write_line(
@@ -185,18 +130,11 @@ pub extern "C" fn tuyenlomac_write_line(
     job: u64,
     cell: u64,
 ) -> Placed
-    ensures said { (result.refusal ∷ result.next ∷ []) ≡ written_numbers (told_of buffer.old at (line_bytes (letter_of kind) kind job cell)) }
-    ensures buffer { buffer.new ≡ left_of buffer.old at (line_bytes (letter_of kind) kind job cell) }
+    ensures said { (result.refusal ∷ result.next ∷ []) ≡ written_numbers (told_of buffer.old at (line_bytes (letter_of kind) job cell)) }
+    ensures buffer { buffer.new ≡ left_of buffer.old at (line_bytes (letter_of kind) job cell) }
 {
     match letter_of(kind) {
-        Lettered::Known(l) => {
-            placed_at(write_line(buffer, at, byte_of(l), columns_of(l, job, cell)))
-        }
-        Lettered::Unknown => {
-            if kind == BACK {
-                return placed_at(write_line(buffer, at, BACK, Columns::One(job)));
-            }
-            placed_at(Written::Refused(Refusal::UnknownKind))
-        }
+        Lettered::Known(l) => placed_at(write_line(buffer, at, l, job, cell)),
+        Lettered::Unknown => placed_at(Written::Refused(Refusal::UnknownKind)),
     }
 }

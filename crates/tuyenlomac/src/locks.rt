@@ -5,19 +5,20 @@ ghost use Rattle.desks.specs.Told.{request};
 ghost use Rattle.desk_rules.specs.AskedChain.{chain_numbers};
 ghost use Rattle.desk_arrays.specs.Steps.{desk_of, start_of, wake_at};
 ghost use Rattle.desk_chain.specs.Chains.{asked_on};
-ghost use Rattle.tuyenlomac.specs.Desks.{start_number, start_leaves, lists_of, wakes_in};
+ghost use Rattle.tuyenlomac.specs.Desks.{start_number, start_leaves, kind_byte, lists_of, wakes_in};
 ghost use Rattle.tuyenlomac.specs.Calls.{locks_call, OnLocks};
 
 use crate::answers::{Answered, in_three};
+use conflict::action::Kind;
 use desk::step::step_on;
 use desk::wakes::wake_at;
 use desk_arrays::codes::FREE;
 use desk_arrays::state::{Desk, SPOTS};
 use desk_chain::chain::chain;
 use desk_rules::Chained;
+use terms::letters::{INCREMENT, READ, WRITE};
 use terms::limits::PLACES;
 use terms::refusals::{Refusal, field_of, number_of};
-use text::events::kind_byte;
 
 // The answer to a question for a job's chain: 0 and how many jobs it has, or the refusal's number and 0.
 #[repr(C)]
@@ -25,6 +26,17 @@ use text::events::kind_byte;
 pub struct ChainSaid {
     pub refusal: u32,
     pub jobs: usize,
+}
+
+// The byte of the letter that the history has for a woken job's action.
+fn kind_byte(k: Kind) -> u8
+    ensures { result ≡ kind_byte k }
+{
+    match k {
+        Kind::Read => READ,
+        Kind::Write => WRITE,
+        Kind::Increment => INCREMENT,
+    }
 }
 
 // Lists have as many places as stated, which a lent array does not say by itself.

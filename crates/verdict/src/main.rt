@@ -1,41 +1,113 @@
 // The program `verdict`: the judge's verdict on the history on standard input, as one line (01, What is delivered).
-ghost use Rattle.std.specs.Prelude.{◌≡◌, ◌≤◌, length, take};
+ghost use Rattle.std.specs.Prelude.{◌≡◌, ◌+◌, ◌≤◌, length, take};
 ghost use Rattle.terms.specs.Limits.{judged_bytes};
 ghost use Rattle.judge_rules.specs.VerdictLine.{verdict_of, line_limit};
-ghost use Rattle.whole_input.specs.Taking.{Within, Makes};
+ghost use Rattle.verdict.specs.Taking.{fitting, kept, Took, Judges};
 
 use judge_line::verdict::verdict_line;
+use libc::{STDIN_FILENO, STDOUT_FILENO};
 use terms::limits::JUDGED_BYTES;
-use terms::refusals::{Refusal, number_of};
-use text::lines::write_no;
-use text::next::next_or;
-use whole_input::{Taken, take_all, write_out};
+use text_rules::Written;
 
-// Puts the line on what was read before the place told; there is room for the longest, so none is refused. If a read failed there is no line: half a history gets no verdict.
-fn put_line(taken: Taken, text: &[u8], out: &mut [u8]) -> usize
-    requires { (length text.now ≡ judged_bytes) × (Within taken text.now) × (line_limit ≤ length out.old) }
-    ensures { (result ≤ length out.new) × (Makes verdict_of text.now taken (take result out.new)) }
+// As many bytes as are read: one more than a text may have shows that it is too long.
+const READ: usize = JUDGED_BYTES + 1;
+
+// How many bytes of the text were read, and whether reading ended well: at the input's end or at a text that is too long, with no read failed.
+#[derive(Drop)]
+struct Taken {
+    len: usize,
+    whole: bool,
+}
+
+// The line on a text, put before the place told. There is room for the longest, so none is refused.
+fn put_line(text: &[u8], out: &mut [u8]) -> usize
+    requires { line_limit ≤ length out.old }
+    ensures { (result ≤ length out.new) × (take result out.new ≡ verdict_of text.now) }
 {
-    match taken {
-        Taken::Whole(n) => next_or(verdict_line(&text[0..n], out), 0),
-        Taken::Longer => next_or(write_no(out, 0, number_of(Refusal::TooLong) as u64, 0), 0),
-        Taken::Unread => 0,
+    match verdict_line(text, out) {
+        Written::Next(next) => next,
+        Written::Refused(_) => 0,
     }
 }
 
-// The part of the buffer to be written: the line on all that was read.
-fn to_write<'a>(taken: Taken, text: &[u8], out: &'a mut [u8]) -> &'a [u8]
-    requires { (length text.now ≡ judged_bytes) × (Within taken text.now) × (line_limit ≤ length out.old) }
-    ensures { Makes verdict_of text.now taken result.now }
+// The line on a text, as the part of the buffer that holds it.
+fn line_on<'a>(text: &[u8], out: &'a mut [u8]) -> &'a [u8]
+    requires { line_limit ≤ length out.old }
+    ensures { result.now ≡ verdict_of text.now }
 {
-    let next = put_line(taken, text, out);
+    let next = put_line(text, out);
     let all = &out[..];
     &all[0..next]
 }
 
+// Keeps a chunk's bytes after those already kept, as far as there is room, and tells how many are kept then.
+fn keep(text: &mut [u8], before: usize, chunk: &[u8]) -> usize
+    requires { before ≤ length text.old }
+    ensures { (result ≡ before + fitting text.old before chunk.now) × (text.new ≡ kept text.old before chunk.now) }
+{
+    let mut len = before;
+    let mut i = 0;
+    while i < chunk.len() {
+        if text.len() <= len {
+            break;
+        }
+        text[len] = chunk[i];
+        len += 1;
+        i += 1;
+    }
+    len
+}
+
+// Reads until the input ends or the text's buffer is full. No contract says that input ends, so the loop counts down from a number of turns that no run uses up.
+fn take_all(input: &mut [u8], text: &mut [u8]) -> Taken
+    ensures { Took text.old text.new result.len }
+{
+    let mut len = 0;
+    let mut turns = u64::MAX;
+    while turns > 0 {
+        if text.len() <= len {
+            return Taken { len, whole: true };
+        }
+        let got = libc::read(STDIN_FILENO, input);
+        if got < 0 {
+            return Taken { len, whole: false };
+        }
+        let n = io::count(got, input);
+        if n == 0 {
+            return Taken { len, whole: true };
+        }
+        len = keep(text, len, &input[0..n]);
+        turns -= 1;
+    }
+    Taken { len, whole: false }
+}
+
+// The part of the buffer to be written: the line on all that was read.
+fn to_write<'a>(taken: Taken, text: &[u8], out: &'a mut [u8]) -> &'a [u8]
+    requires { (length text.now ≡ judged_bytes + 1) × (taken.len ≤ length text.now) × (line_limit ≤ length out.old) }
+    ensures { Judges text.now taken.len result.now }
+{
+    let n = taken.len;
+    line_on(&text[0..n], out)
+}
+
+// Writes out the line on what was read, and says on standard error what failed. If a read fails there is no text to judge and no line: half a history gets no verdict.
+fn report(input: &mut [u8], text: &mut [u8], out: &mut [u8])
+    requires { (length text.old ≡ judged_bytes + 1) × (line_limit ≤ length out.old) }
+{
+    let taken = take_all(input, text);
+    if !taken.whole {
+        os::fail(b"verdict: cannot read");
+        return;
+    }
+    if !io::write_all(STDOUT_FILENO, to_write(taken, text, out)) {
+        os::fail(b"verdict: cannot write");
+    }
+}
+
 fn main() {
-    let mut text = [0u8; JUDGED_BYTES];
+    let mut input = io::large_buffer();
+    let mut text = [0u8; READ];
     let mut out = io::buffer();
-    let taken = take_all(&mut text, b"verdict: cannot read");
-    write_out(to_write(taken, &text, &mut out), b"verdict: cannot write");
+    report(&mut input, &mut text, &mut out);
 }

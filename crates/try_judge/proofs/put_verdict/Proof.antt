@@ -19,20 +19,17 @@ write-verdict-requires c κs = search rules
 enum-known-next : tie.Need-enum-known-next
 enum-known-next c = search rules
 
-sub-write-out : tie.Need-overflow-sub-write-out
-sub-write-out c = search rules
+sub-put-bytes : tie.Need-overflow-sub-put-bytes
+sub-put-bytes c = search rules
 
-part-write-out-start : tie.Need-slice-bounds-write-out-start
-part-write-out-start c = search rules
+part-put-bytes-start : tie.Need-slice-bounds-put-bytes-start
+part-put-bytes-start c = search rules
 
-part-write-out-end : tie.Need-slice-bounds-write-out-end
-part-write-out-end c = let h = next_told _ _ _ _ (sym c.before.before.before.before.before.write-verdict.ensures.0 ∙ c.before.before.next.given.1) in omega arith
+part-put-bytes-end : tie.Need-slice-bounds-put-bytes-end
+part-put-bytes-end c = let h = next_told _ _ _ _ (sym c.before.before.before.before.before.write-verdict.ensures.0 ∙ c.before.before.next.given.1) in omega arith
 
-slice-aggregate-write-out : tie.Need-slice-aggregate-write-out
-slice-aggregate-write-out c = search rules
-
-write-out-requires : tie.Need-write-out-requires
-write-out-requires c κs = search rules
+put-bytes-requires : tie.Need-put-bytes-requires
+put-bytes-requires c κs = search rules
 
 enum_told : tie.Need-enum-told
 enum_told c = search rules
@@ -48,5 +45,5 @@ returns-2 c = search rules
 
 pub put-verdict-spec : {M : Type 1} → statement M
 put-verdict-spec =
-    let first = tie.spec buffer-requires slice-aggregate-write-verdict write-verdict-requires enum-known-next sub-write-out part-write-out-start in
-    tie.close (first part-write-out-end slice-aggregate-write-out write-out-requires enum_told put-mark-requires returns returns-2)
+    let first = tie.spec buffer-requires slice-aggregate-write-verdict write-verdict-requires enum-known-next sub-put-bytes part-put-bytes-start in
+    tie.close (first part-put-bytes-end put-bytes-requires enum_told put-mark-requires returns returns-2)

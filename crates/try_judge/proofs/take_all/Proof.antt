@@ -10,17 +10,14 @@ use Rattle.try_judge.proofs.take_all.Statement.{statement}
 use Rattle.try_judge.proofs.take_all.Tie as tie
 
 abbrev invariant-loop : tie.invariant-loop
-invariant-loop input₀ text₀ case₀ turns₀ words input text case turns =
+invariant-loop input₀ text₀ case₀ turns₀ input text case turns =
     (case.len ≤ length text) × (case.places ≤ 300) × (length text ≡ length text₀) × (length input ≡ length input₀)
 
 abbrev decreases-loop : tie.decreases-loop
-decreases-loop input₀ text₀ case₀ turns₀ words input text case turns = turns
+decreases-loop input₀ text₀ case₀ turns₀ input text case turns = turns
 
 loop-holds : tie.Need-loop-init invariant-loop decreases-loop
 loop-holds c = search rules
-
-slice-aggregate-read-some : tie.Need-slice-aggregate-read-some invariant-loop decreases-loop
-slice-aggregate-read-some c = search rules
 
 read-some-requires : tie.Need-read-some-requires invariant-loop decreases-loop
 read-some-requires c κs = search rules
@@ -50,7 +47,7 @@ close-requires : tie.Need-close-requires invariant-loop decreases-loop
 close-requires c κs = search rules
 
 same_length : tie.Need-same-length invariant-loop decreases-loop
-same_length c = ⊎_elim (λ w. omega (arith, ap length w.1)) (λ w. omega (arith, ap length w.7)) c.before.before.loop-test.branch
+same_length c = ⊎_elim (λ w. omega (arith, ap length w.1)) (λ w. omega (arith, ap length w.6)) c.before.before.loop-test.branch
 
 same-length-2 : tie.Need-same-length-2 invariant-loop decreases-loop
 same-length-2 c = search rules
@@ -60,5 +57,5 @@ returns c = search rules
 
 pub take_all_spec : {M : Type 1} → statement M
 take_all_spec =
-    let first = tie.spec invariant-loop decreases-loop loop-holds slice-aggregate-read-some read-some-requires sub-take-chunk part-take-chunk-start part-take-chunk-end take-chunk-requires in
+    let first = tie.spec invariant-loop decreases-loop loop-holds read-some-requires sub-take-chunk part-take-chunk-start part-take-chunk-end take-chunk-requires in
     tie.close (first sub-turns loop-less loop-again close-requires same_length same-length-2 returns)

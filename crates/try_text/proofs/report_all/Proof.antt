@@ -12,20 +12,17 @@ use Rattle.try_text.proofs.report_all.Statement.{statement}
 use Rattle.try_text.proofs.report_all.Tie as tie
 
 abbrev invariant-loop : tie.invariant-loop
-invariant-loop input₀ out₀ progress₀ turns₀ words input out progress turns =
+invariant-loop input₀ out₀ progress₀ turns₀ input out progress turns =
     (Sized progress.splitter) × (progress.at ≤ length out) × (length out ≡ length out₀) × (length input ≡ length input₀)
 
 abbrev decreases-loop : tie.decreases-loop
-decreases-loop input₀ out₀ progress₀ turns₀ words input out progress turns = turns
+decreases-loop input₀ out₀ progress₀ turns₀ input out progress turns = turns
 
 started-requires : tie.Need-started-requires invariant-loop decreases-loop
 started-requires c κs = search rules
 
 loop-holds : tie.Need-loop-init invariant-loop decreases-loop
 loop-holds c = (rw c.started.ensures fresh_sized, search rules, refl, refl)
-
-slice-aggregate-read-some : tie.Need-slice-aggregate-read-some invariant-loop decreases-loop
-slice-aggregate-read-some c = search rules
 
 read-some-requires : tie.Need-read-some-requires invariant-loop decreases-loop
 read-some-requires c κs = search rules
@@ -55,7 +52,7 @@ finish-requires : tie.Need-finish-requires invariant-loop decreases-loop
 finish-requires c κs = search rules
 
 same_length : tie.Need-same-length invariant-loop decreases-loop
-same_length c = ⊎_elim (λ w. omega (arith, ap length w.1)) (λ w. omega (arith, ap length w.7)) c.before.before.before.before.loop-test.branch
+same_length c = ⊎_elim (λ w. omega (arith, ap length w.1)) (λ w. omega (arith, ap length w.6)) c.before.before.before.before.loop-test.branch
 
 same-length-2 : tie.Need-same-length-2 invariant-loop decreases-loop
 same-length-2 c = search rules
@@ -65,5 +62,5 @@ returns c = search rules
 
 pub report-all-spec : {M : Type 1} → statement M
 report-all-spec =
-    let first = tie.spec invariant-loop decreases-loop started-requires loop-holds slice-aggregate-read-some read-some-requires sub-report-chunk part-report-chunk-start part-report-chunk-end in
+    let first = tie.spec invariant-loop decreases-loop started-requires loop-holds read-some-requires sub-report-chunk part-report-chunk-start part-report-chunk-end in
     tie.close (first report-chunk-requires sub-turns loop-less loop-again finish-requires same_length same-length-2 returns)

@@ -1,25 +1,25 @@
--- `verdict::to_write` meets its contract: the part of the buffer that is handed back is the line on all that was read.
+-- `verdict::to_write` meets its contract: the line on what is kept is the line on all that was read.
 -- Assumes nothing.
-use native.Mathlib.Nat.{sub-zero}
+use Rattle.verdict.proofs.Keeping.{took_judged}
 use borrow.Author.Rules.{rules}
 use Rattle.verdict.proofs.to_write.Statement.{statement}
 use Rattle.verdict.proofs.to_write.Tie as tie
 
-put-line-requires : tie.Need-put-line-requires
-put-line-requires c κs = search rules
+sub-line-on : tie.Need-overflow-sub-line-on
+sub-line-on c = search rules
 
-sub-result : tie.Need-overflow-sub-result
-sub-result c = search rules
+part-line-on-start : tie.Need-slice-bounds-line-on-start
+part-line-on-start c = search rules
 
-part-result-start : tie.Need-slice-bounds-result-start
-part-result-start c = search rules
+part-line-on-end : tie.Need-slice-bounds-line-on-end
+part-line-on-end c = search rules
 
-part-result-end : tie.Need-slice-bounds-result-end
-part-result-end c = search rules
+line-on-requires : tie.Need-line-on-requires
+line-on-requires c κs = search rules
 
 returns : tie.Need-returns
-returns c = rw sub-zero c.before.before.before.before.put-line.ensures.1
+returns c = took_judged (search rules) (search rules)
 
 pub to-write-spec : {M : Type 1} → statement M
 to-write-spec =
-    tie.close (tie.spec put-line-requires sub-result part-result-start part-result-end returns)
+    tie.close (tie.spec sub-line-on part-line-on-start part-line-on-end line-on-requires returns)

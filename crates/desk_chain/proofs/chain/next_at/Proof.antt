@@ -30,11 +30,11 @@ returns : tie.Need-returns
 unfolding next_at
 returns c = simp (ne_eqb _ _ c.if1.true)
 
-element-copy-out-as-index : tie.Need-element-copy-out-as-index
-element-copy-out-as-index c = search rules
+element-copy-out-wide : tie.Need-element-copy-out-wide
+element-copy-out-wide c = search rules
 
-as-index-requires : tie.Need-as-index-requires
-as-index-requires c κs = search rules
+wide-requires : tie.Need-wide-requires
+wide-requires c κs = search rules
 
 mul-holder-above : tie.Need-overflow-mul-holder-above
 mul-holder-above c = search rules
@@ -53,5 +53,5 @@ returns-3 c = search next-outside
 
 pub next-at-spec : {M : Type 1} → statement M
 next-at-spec =
-    let first = tie.spec element-copy-out-if1 returns element-copy-out-as-index as-index-requires mul-holder-above in
+    let first = tie.spec element-copy-out-if1 returns element-copy-out-wide wide-requires mul-holder-above in
     tie.close (first element-copy-out-holder-above holder-above-requires returns-2 returns-3)

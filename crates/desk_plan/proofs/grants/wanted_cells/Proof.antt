@@ -22,11 +22,11 @@ loop-holds c = (omega arith, refl)
 element-copy-out-if1 : tie.Need-element-copy-out-if1 invariant-loop decreases-loop
 element-copy-out-if1 c = omega arith
 
-element-copy-out-as-index : tie.Need-element-copy-out-as-index invariant-loop decreases-loop
-element-copy-out-as-index c = omega arith
+element-copy-out-wide : tie.Need-element-copy-out-wide invariant-loop decreases-loop
+element-copy-out-wide c = omega arith
 
-as-index-requires : tie.Need-as-index-requires invariant-loop decreases-loop
-as-index-requires c κs = tt
+wide-requires : tie.Need-wide-requires invariant-loop decreases-loop
+wide-requires c κs = tt
 
 array-write-cells : tie.Need-array-write-cells invariant-loop decreases-loop
 array-write-cells c = omega arith
@@ -45,4 +45,4 @@ returns : tie.Need-returns invariant-loop decreases-loop
 returns c = let e : c.before.loop.q ≡ 32 = omega arith in c.before.loop.invariant.1 ∙ ap (wanted _ _) e
 
 pub wanted-cells-spec : {M : Type 1} → statement M
-wanted-cells-spec = tie.close (tie.spec invariant-loop decreases-loop loop-holds element-copy-out-if1 element-copy-out-as-index as-index-requires array-write-cells add-q loop-less loop-again returns)
+wanted-cells-spec = tie.close (tie.spec invariant-loop decreases-loop loop-holds element-copy-out-if1 element-copy-out-wide wide-requires array-write-cells add-q loop-less loop-again returns)

@@ -9,11 +9,14 @@ use Rattle.stamp_desk.proofs.plan.plan_for.Tie as tie
 enum_told : tie.Need-enum-told
 enum_told c = search rules
 
+enum-told-2 : tie.Need-enum-told-2
+enum-told-2 c = search rules
+
 begin-move-requires : tie.Need-begin-move-requires
 begin-move-requires c κs = search rules
 
-enum-told-2 : tie.Need-enum-told-2
-enum-told-2 c = search rules
+enum-told-3 : tie.Need-enum-told-3
+enum-told-3 c = search rules
 
 find-requires : tie.Need-find-requires
 find-requires c κs = search rules
@@ -21,8 +24,8 @@ find-requires c κs = search rules
 close-move-requires : tie.Need-close-move-requires
 close-move-requires c κs = search rules
 
-enum-told-3 : tie.Need-enum-told-3
-enum-told-3 c = search rules
+enum-told-4 : tie.Need-enum-told-4
+enum-told-4 c = search rules
 
 find-requires-2 : tie.Need-find-requires-2
 find-requires-2 c κs = search rules
@@ -30,8 +33,8 @@ find-requires-2 c κs = search rules
 close-move-requires-2 : tie.Need-close-move-requires-2
 close-move-requires-2 c κs = search rules
 
-enum-told-4 : tie.Need-enum-told-4
-enum-told-4 c = search rules
+enum-told-5 : tie.Need-enum-told-5
+enum-told-5 c = search rules
 
 find-requires-3 : tie.Need-find-requires-3
 find-requires-3 c κs = search rules
@@ -50,37 +53,42 @@ ask-move-requires c κs = search rules
 
 returns : tie.Need-returns
 unfolding move_for
-returns c = rw c.before.enum_told.given.1 c.begin-move.ensures
+returns c = rw c.enum_told.given.1
 
 returns-2 : tie.Need-returns-2
 unfolding move_for
-returns-2 c = rw c.before.before.enum-told2.given.1 (c.close-move.ensures ∙ ap close_move c.before.find.ensures)
+returns-2 c = rw c.before.enum-told2.given.1 c.begin-move.ensures
 
 returns-3 : tie.Need-returns-3
 unfolding move_for
-returns-3 c = rw c.before.before.enum-told3.given.1 (c.close-move2.ensures ∙ ap close_move c.before.find2.ensures)
+returns-3 c = rw c.before.before.enum-told3.given.1 (c.close-move.ensures ∙ ap close_move c.before.find.ensures)
 
 returns-4 : tie.Need-returns-4
 unfolding move_for
-returns-4 c = rw c.before.before.enum-told4.given.1 (c.retry-move.ensures ∙ ap retry_move c.before.find3.ensures)
+returns-4 c = rw c.before.before.enum-told4.given.1 (c.close-move2.ensures ∙ ap close_move c.before.find2.ensures)
 
 returns-5 : tie.Need-returns-5
 unfolding move_for
-returns-5 c = rw (c.before.before.before.letter.given.1, ← c.before.find4.ensures) c.ask-move.ensures
+returns-5 c = rw c.before.before.enum-told5.given.1 (c.retry-move.ensures ∙ ap retry_move c.before.find3.ensures)
+
+returns-6 : tie.Need-returns-6
+unfolding move_for
+returns-6 c = rw (c.before.before.before.letter.given.1, ← c.before.find4.ensures) c.ask-move.ensures
 
 pub plan-for-spec : {M : Type 1} → statement M
 plan-for-spec =
     tie.close
     (tie.spec
     enum_told
-    begin-move-requires
     enum-told-2
+    begin-move-requires
+    enum-told-3
     find-requires
     close-move-requires
-    enum-told-3
+    enum-told-4
     find-requires-2
     close-move-requires-2
-    enum-told-4
+    enum-told-5
     find-requires-3
     retry-move-requires
     enum-known-letter
@@ -90,4 +98,5 @@ plan-for-spec =
     returns-2
     returns-3
     returns-4
-    returns-5)
+    returns-5
+    returns-6)

@@ -29,7 +29,10 @@ returns-8 : tie.Need-returns-8
 returns-8 c = rw c.match.keys8
 
 returns-9 : tie.Need-returns-9
-returns-9 c =
+returns-9 c = rw c.match.keys9
+
+returns-10 : tie.Need-returns-10
+returns-10 c =
     let n = c.match.rest in
     simp (
       ne_eqb _ _ n.1,
@@ -40,8 +43,9 @@ returns-9 c =
       ne_eqb _ _ n.0.0.0.0.0.1,
       ne_eqb _ _ n.0.0.0.0.0.0.1,
       ne_eqb _ _ n.0.0.0.0.0.0.0.1,
+      ne_eqb _ _ n.0.0.0.0.0.0.0.0.1,
     )
 
 pub letter-of-spec : {M : Type 1} → statement M
 letter-of-spec =
-    tie.close (tie.spec returns returns-2 returns-3 returns-4 returns-5 returns-6 returns-7 returns-8 returns-9)
+    tie.close (tie.spec returns returns-2 returns-3 returns-4 returns-5 returns-6 returns-7 returns-8 returns-9 returns-10)

@@ -4,8 +4,9 @@ use mathlib.Core.Path.{◌≡◌}
 use native.Mathlib.Omega.{arith}
 use lib.ListN.{length}
 use borrow.Author.Rules.{rules}
-use Rattle.text_rules.specs.RequestLines.{lacking}
-use Rattle.text_rules.specs.RequestLines.{read_request}
+use Rattle.terms.specs.Letters.{of_requests}
+use Rattle.text_rules.specs.Fields.{lacking}
+use Rattle.text_rules.specs.Lines.{read_line}
 use Rattle.text.proofs.Holding.{held_part, held_whole}
 use Rattle.text.proofs.held.torn_held.Statement.{statement}
 use Rattle.text.proofs.held.torn_held.Tie as tie
@@ -23,7 +24,7 @@ torn-request-requires : tie.Need-torn-request-requires
 torn-request-requires c κs = search rules
 
 returns : tie.Need-returns
-returns c = held_part (λ bytes. lacking (read_request bytes)) c.before.before.before.before.before.args.s _ c.torn-request.ensures
+returns c = held_part (λ bytes. lacking (read_line of_requests bytes)) c.before.before.before.before.before.args.s _ c.torn-request.ensures
 
 slice-aggregate-torn-request : tie.Need-slice-aggregate-torn-request
 slice-aggregate-torn-request c = search rules
@@ -34,7 +35,7 @@ torn-request-requires-2 c κs = search rules
 returns-2 : tie.Need-returns-2
 returns-2 c =
     let n : length c.before.before.before.before.args.s.kept ≡ 16 = search rules in
-    held_whole (λ bytes. lacking (read_request bytes)) c.before.before.before.before.args.s _ (omega arith) c.torn-request2.ensures
+    held_whole (λ bytes. lacking (read_line of_requests bytes)) c.before.before.before.before.args.s _ (omega arith) c.torn-request2.ensures
 
 pub torn-held-spec : {M : Type 1} → statement M
 torn-held-spec =

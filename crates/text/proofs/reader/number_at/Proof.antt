@@ -1,9 +1,8 @@
 -- `text::reader::number_at` meets its contract: code and definition branch on the byte at the place and the digits after it.
 -- Assumes nothing.
+use borrow.Author.Rules.{rules}
 use Rattle.laws.specs.Choice.{cases}
 use Rattle.text_rules.proofs.Places.{number_placed}
-use Rattle.text.proofs.NumberFields.{least_of}
-use borrow.Author.Rules.{rules}
 use Rattle.text.proofs.reader.number_at.Statement.{statement}
 use Rattle.text.proofs.reader.number_at.Tie as tie
 
@@ -19,11 +18,8 @@ shortest-at-requires c κs = search rules
 digits-at-requires : tie.Need-digits-at-requires
 digits-at-requires c κs = search rules
 
-from-least-requires : tie.Need-from-least-requires
-from-least-requires c κs = search rules
-
 returns : tie.Need-returns
-returns c = search (number_placed, least_of, cases)
+returns c = search (number_placed, cases)
 
 returns-2 : tie.Need-returns-2
 returns-2 c = search (number_placed, cases)
@@ -36,14 +32,4 @@ returns-4 c = search (number_placed, cases)
 
 pub number-at-spec : {M : Type 1} → statement M
 number-at-spec =
-    tie.close
-    (tie.spec
-    shared-slice-read-if2
-    add_start
-    shortest-at-requires
-    digits-at-requires
-    from-least-requires
-    returns
-    returns-2
-    returns-3
-    returns-4)
+    tie.close (tie.spec shared-slice-read-if2 add_start shortest-at-requires digits-at-requires returns returns-2 returns-3 returns-4)

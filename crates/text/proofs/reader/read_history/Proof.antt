@@ -1,35 +1,35 @@
--- `text::reader::read_history` meets its contract: the first byte and the fields behind it.
+-- `text::reader::read_history` meets its contract: code and definition branch on the first letter.
 -- Assumes nothing.
-use Rattle.text.proofs.LineParts.{event_read}
 use borrow.Author.Rules.{rules}
+use Rattle.laws.specs.Choice.{cases}
+use Rattle.text.proofs.LineParts.{line_read, line_other, line_unknown}
 use Rattle.text.proofs.reader.read_history.Statement.{statement}
 use Rattle.text.proofs.reader.read_history.Tie as tie
 
-first-byte-requires : tie.Need-first-byte-requires
-first-byte-requires c κs = search rules
+first-letter-requires : tie.Need-first-letter-requires
+first-letter-requires c κs = search rules
 
-mentioned-by-requires : tie.Need-mentioned-by-requires
-mentioned-by-requires c κs = search rules
+enum-known-letter : tie.Need-enum-known-letter
+enum-known-letter c = search rules
 
-history-shape-requires : tie.Need-history-shape-requires
-history-shape-requires c κs = search rules
+of-histories-requires : tie.Need-of-histories-requires
+of-histories-requires c κs = search rules
 
-fields-at-requires : tie.Need-fields-at-requires
-fields-at-requires c κs = search rules
+job-part-requires : tie.Need-job-part-requires
+job-part-requires c κs = search rules
 
-event-from-requires : tie.Need-event-from-requires
-event-from-requires c κs = search rules
+enum_told : tie.Need-enum-told
+enum_told c = search rules
 
 returns : tie.Need-returns
-returns c = search event_read
+returns c = search (line_read, cases)
+
+returns-2 : tie.Need-returns-2
+returns-2 c = search (line_other, cases)
+
+returns-3 : tie.Need-returns-3
+returns-3 c = search (line_unknown, cases)
 
 pub read-history-spec : {M : Type 1} → statement M
 read-history-spec =
-    tie.close
-    (tie.spec
-    first-byte-requires
-    mentioned-by-requires
-    history-shape-requires
-    fields-at-requires
-    event-from-requires
-    returns)
+    tie.close (tie.spec first-letter-requires enum-known-letter of-histories-requires job-part-requires enum_told returns returns-2 returns-3)

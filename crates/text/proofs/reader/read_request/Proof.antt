@@ -1,35 +1,35 @@
--- `text::reader::read_request` meets its contract: the first byte and the fields behind it.
+-- `text::reader::read_request` meets its contract: code and definition branch on the first letter.
 -- Assumes nothing.
-use Rattle.text.proofs.LineParts.{request_read}
 use borrow.Author.Rules.{rules}
+use Rattle.laws.specs.Choice.{cases}
+use Rattle.text.proofs.LineParts.{line_read, line_other, line_unknown}
 use Rattle.text.proofs.reader.read_request.Statement.{statement}
 use Rattle.text.proofs.reader.read_request.Tie as tie
 
-first-byte-requires : tie.Need-first-byte-requires
-first-byte-requires c κs = search rules
+first-letter-requires : tie.Need-first-letter-requires
+first-letter-requires c κs = search rules
 
-letter-of-requires : tie.Need-letter-of-requires
-letter-of-requires c κs = search rules
+enum-known-letter : tie.Need-enum-known-letter
+enum-known-letter c = search rules
 
-request-shape-requires : tie.Need-request-shape-requires
-request-shape-requires c κs = search rules
+of-requests-requires : tie.Need-of-requests-requires
+of-requests-requires c κs = search rules
 
-fields-at-requires : tie.Need-fields-at-requires
-fields-at-requires c κs = search rules
+job-part-requires : tie.Need-job-part-requires
+job-part-requires c κs = search rules
 
-request-from-requires : tie.Need-request-from-requires
-request-from-requires c κs = search rules
+enum_told : tie.Need-enum-told
+enum_told c = search rules
 
 returns : tie.Need-returns
-returns c = search request_read
+returns c = search (line_read, cases)
+
+returns-2 : tie.Need-returns-2
+returns-2 c = search (line_other, cases)
+
+returns-3 : tie.Need-returns-3
+returns-3 c = search (line_unknown, cases)
 
 pub read-request-spec : {M : Type 1} → statement M
 read-request-spec =
-    tie.close
-    (tie.spec
-    first-byte-requires
-    letter-of-requires
-    request-shape-requires
-    fields-at-requires
-    request-from-requires
-    returns)
+    tie.close (tie.spec first-letter-requires enum-known-letter of-requests-requires job-part-requires enum_told returns returns-2 returns-3)

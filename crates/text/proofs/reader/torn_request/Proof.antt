@@ -1,31 +1,35 @@
--- `text::reader::torn_request` meets its contract: the first byte and the fields behind it.
+-- `text::reader::torn_request` meets its contract: code and definition branch on the first letter.
 -- Assumes nothing.
-use Rattle.text.proofs.LineParts.{request_torn}
 use borrow.Author.Rules.{rules}
+use Rattle.laws.specs.Choice.{cases}
+use Rattle.text.proofs.TornLines.{line_torn, other_torn, unknown_torn}
 use Rattle.text.proofs.reader.torn_request.Statement.{statement}
 use Rattle.text.proofs.reader.torn_request.Tie as tie
 
-first-byte-requires : tie.Need-first-byte-requires
-first-byte-requires c κs = search rules
+first-letter-requires : tie.Need-first-letter-requires
+first-letter-requires c κs = search rules
 
-letter-of-requires : tie.Need-letter-of-requires
-letter-of-requires c κs = search rules
+enum-known-letter : tie.Need-enum-known-letter
+enum-known-letter c = search rules
 
-request-shape-requires : tie.Need-request-shape-requires
-request-shape-requires c κs = search rules
+of-requests-requires : tie.Need-of-requests-requires
+of-requests-requires c κs = search rules
 
-torn-at-requires : tie.Need-torn-at-requires
-torn-at-requires c κs = search rules
+torn-job-requires : tie.Need-torn-job-requires
+torn-job-requires c κs = search rules
+
+enum_told : tie.Need-enum-told
+enum_told c = search rules
 
 returns : tie.Need-returns
-returns c = search request_torn
+returns c = search (line_torn, cases)
+
+returns-2 : tie.Need-returns-2
+returns-2 c = search (other_torn, cases)
+
+returns-3 : tie.Need-returns-3
+returns-3 c = search (unknown_torn, cases)
 
 pub torn-request-spec : {M : Type 1} → statement M
 torn-request-spec =
-    tie.close
-    (tie.spec
-    first-byte-requires
-    letter-of-requires
-    request-shape-requires
-    torn-at-requires
-    returns)
+    tie.close (tie.spec first-letter-requires enum-known-letter of-requests-requires torn-job-requires enum_told returns returns-2 returns-3)

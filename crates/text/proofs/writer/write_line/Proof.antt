@@ -1,11 +1,12 @@
 -- `text::writer::write_line` meets its contract: a line that fits is written into the lent later part, and one that does not is refused.
 -- Assumes nothing.
 use Prim.Native.Nat.{◌+◌, ◌≤◌}
-use mathlib.Core.Path.{◌≡◌, ap₂, ◌∙◌}
+use mathlib.Core.Path.{◌≡◌, ap, ◌∙◌}
 use native.Mathlib.Omega.{arith}
 use borrow.Author.Rules.{rules}
 use lib.ListN.{length}
-use Rattle.text_rules.specs.Records.{field, line_record, numbers_of, has_first, first_of, has_second, second_of}
+use Rattle.terms.specs.Letters.{has_job, has_cell}
+use Rattle.text_rules.specs.Records.{field, line_record}
 use Rattle.text_rules.proofs.FieldLaws.{field_at_most_21}
 use Rattle.text_rules.proofs.Length.{line_length}
 use Rattle.text_rules.proofs.RoomLaws.{room_for, no_room_for, written, refused}
@@ -14,51 +15,45 @@ use Rattle.text.proofs.writer.write_line.Statement.{statement}
 use Rattle.text.proofs.writer.write_line.Tie as tie
 
 -- how many bytes the second field has
-second : (c : tie.After-field-width) → let s = c.before.before.before.before.args in c.field-width.result ≡ length (field (has_first s.columns) (first_of s.columns))
-second c = c.field-width.ensures ∙ ap₂ (λ b n. length (field b n)) c.before.before.has_first.ensures c.before.first_of.ensures
+second : (c : tie.After-field-width) → let s = c.before.before.before.args in c.field-width.result ≡ length (field (has_job s.letter) s.job)
+second c = c.field-width.ensures ∙ ap (λ b. length (field b c.before.before.before.args.job)) c.before.has-job.ensures
 
 -- how many bytes the third field has
-third : (c : tie.After-field-width2) → let s = c.before.before.before.before.before.before.before.args in c.field-width2.result ≡ length (field (has_second s.columns) (second_of s.columns))
-third c = c.field-width2.ensures ∙ ap₂ (λ b n. length (field b n)) c.before.before.has-second.ensures c.before.second-of.ensures
+third : (c : tie.After-field-width2) → let s = c.before.before.before.before.before.args in c.field-width2.result ≡ length (field (has_cell s.letter) s.cell)
+third c = c.field-width2.ensures ∙ ap (λ b. length (field b c.before.before.before.before.before.args.cell)) c.before.has-cell.ensures
 
 -- how many bytes the record has
 long : (c : tie.After-field-width2) →
-    let s = c.before.before.before.before.before.before.before.args in
-    c.before.before.before.field-width.result + c.field-width2.result + 2 ≡ length (line_record s.letter (numbers_of s.columns))
+    let s = c.before.before.before.before.before.args in
+    c.before.before.field-width.result + c.field-width2.result + 2 ≡ length (line_record s.letter s.job s.cell)
 long c =
-    let s = c.before.before.before.before.before.before.before.args in
-    omega (arith, line_length s.letter s.columns, second c.before.before.before, third c)
+    let s = c.before.before.before.before.before.args in
+    omega (arith, line_length s.letter s.job s.cell, second c.before.before, third c)
 
 -- it is short
-short : (c : tie.After-field-width2) → c.before.before.before.field-width.result + c.field-width2.result + 2 ≤ 44
+short : (c : tie.After-field-width2) → c.before.before.field-width.result + c.field-width2.result + 2 ≤ 44
 short c =
-    let f = c.before.before.before in
+    let s = c.before.before.before.before.before in
     omega (
       arith,
-      field_at_most_21 f.before.before.has_first.result f.before.first_of.result (search rules),
-      field_at_most_21 c.before.before.has-second.result c.before.second-of.result (search rules),
-      f.field-width.ensures,
-      c.field-width2.ensures,
+      field_at_most_21 (has_job s.args.letter) s.args.job s.ranges.job.fits,
+      field_at_most_21 (has_cell s.args.letter) s.args.cell s.ranges.cell.fits,
+      second c.before.before,
+      third c,
     )
 
 -- where the test holds, the record fits
-fitting : (c : tie.Then1) → let s = c.before.before.before.before.before.before.before.before.before.args in s.at + length (line_record s.letter (numbers_of s.columns)) ≤ length s.buf.now
+fitting : (c : tie.Then1) → let s = c.before.before.before.before.before.before.before.args in s.at + length (line_record s.letter s.job s.cell) ≤ length s.buf.now
 fitting c = room_for _ _ _ _ c.before.has_room.ensures c.if1.true (long c.before.before)
 
-has-first-requires : tie.Need-has-first-requires
-has-first-requires c κs = search rules
-
-first-of-requires : tie.Need-first-of-requires
-first-of-requires c κs = search rules
+has-job-requires : tie.Need-has-job-requires
+has-job-requires c κs = search rules
 
 field-width-requires : tie.Need-field-width-requires
 field-width-requires c κs = search rules
 
-has-second-requires : tie.Need-has-second-requires
-has-second-requires c κs = search rules
-
-second-of-requires : tie.Need-second-of-requires
-second-of-requires c κs = search rules
+has-cell-requires : tie.Need-has-cell-requires
+has-cell-requires c κs = search rules
 
 field-width-requires-2 : tie.Need-field-width-requires-2
 field-width-requires-2 c κs = search rules
@@ -83,9 +78,9 @@ part-put-line-end c = search rules
 
 put-line-requires : tie.Need-put-line-requires
 put-line-requires c κs =
-    let s = c.before.before.before.before.before.before.before.before.before.before in
+    let s = c.before.before.before.before.before.before.before.before in
     let f = fitting c.before in
-    (second c.before.before.before.before.before.before, third c.before.before.before, lent_fits (wrote_none {b = s.args.buf.now} (omega arith)) (omega arith))
+    (second c.before.before.before.before.before, third c.before.before.before, lent_fits (wrote_none {b = s.args.buf.now} (omega arith)) (omega arith))
 
 add-t16 : tie.Need-overflow-add-t16
 add-t16 c = omega (arith, fitting c.before.before.before.before, c.before.before.put-line.ensures.ends)
@@ -95,7 +90,7 @@ same_length c = search rules
 
 returns : tie.Need-returns
 returns c =
-    let s = c.before.before.before.before.before.before.before.before.before.before.before.before.before in
+    let s = c.before.before.before.before.before.before.before.before.before.before.before in
     let f = fitting c.before.before.before.before in
     written (wrote_more (wrote_none {b = s.args.buf.now} (omega arith)) c.before.before.put-line.ensures)
 
@@ -104,5 +99,5 @@ returns-2 c = refused _ _ _ (no_room_for _ _ _ _ c.before.has_room.ensures c.if1
 
 pub write-line-spec : {M : Type 1} → statement M
 write-line-spec =
-    let first = tie.spec has-first-requires first-of-requires field-width-requires has-second-requires second-of-requires field-width-requires-2 add-has-room add-has-room-2 has-room-requires in
+    let first = tie.spec has-job-requires field-width-requires has-cell-requires field-width-requires-2 add-has-room add-has-room-2 has-room-requires in
     tie.close (first sub-put-line part-put-line-start part-put-line-end put-line-requires add-t16 same_length returns returns-2)

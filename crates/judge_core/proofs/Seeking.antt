@@ -1,0 +1,110 @@
+-- The smallest remaining job that passes a test, searched from the smallest number on.
+-- Assumes nothing.
+use Prim.Native.Nat.{ℕ, zero, suc, ◌+◌, ◌-◌, ◌≤◌, ◌<◌}
+use mathlib.Core.Path.{◌≡◌, refl, sym, ap, ◌∙◌, subst}
+use mathlib.Core.Bool.{Bool, true, false}
+use mathlib.Core.List.{List}
+use mathlib.Core.Option.{Option, none, some}
+use native.Mathlib.Numerals.{add-one}
+use native.Mathlib.Omega.{arith}
+use lib.ListN.{length, get_or}
+use Rattle.laws.specs.Choice.{by_test, not_both}
+use Rattle.laws.specs.Lists.{member, put}
+use Rattle.judge_rules.specs.Order.{first}
+use Rattle.judge_rules.proofs.Firsts.{by_one, first_is}
+use Rattle.judge_core.specs.Lists.{listed}
+use Rattle.judge_core.specs.Left.{left_of, left_from, or_nobody}
+use Rattle.judge_core.proofs.Listing.{listed_is, listed_has, listed_few}
+
+module _ (left : List Bool) where
+  -- the next number, if it is left, and those behind it
+  left_next : (i : ℕ) → i < 256 → left_from left i ≡ put (get_or left i false) i (left_from left (i + 1))
+  unfolding left_from listed
+  left_next i h =
+      let e : 256 - i ≡ suc (256 - (i + 1)) = omega arith in
+      rw (e, add-one i)
+
+  module _ (test : ℕ → Bool) where
+    -- at first all are looked at
+    pub seek_start : first test (left_of left) ≡ first test (left_from left 0)
+    unfolding left_of left_from
+    seek_start = refl
+
+    -- a job that is not left is passed
+    pub seek_gone : (i : ℕ) (o : Option ℕ) → i < 256 → get_or left i false ≡ false → o ≡ first test (left_from left i) → o ≡ first test (left_from left (i + 1))
+    unfolding put
+    seek_gone i o h f e = e ∙ rw (left_next i h, f)
+
+    -- and so is one that does not pass the test
+    pub seek_past : (i : ℕ) (o : Option ℕ) → i < 256 → test i ≡ false → o ≡ first test (left_from left i) → o ≡ first test (left_from left (i + 1))
+    unfolding put first
+    seek_past i o h f e =
+        e ∙ rw (left_next i h) (by_test (get_or left i false) (λ t. rw (t, f)) (λ g. rw g))
+
+    -- one that is left and passes is found
+    pub seek_found : (i : ℕ) (o : Option ℕ) → i < 256 → get_or left i false ≡ true → test i ≡ true → o ≡ first test (left_from left i) → i ≡ or_nobody o
+    unfolding put first or_nobody
+    seek_found i o h t p e =
+        let there : first test (left_from left i) ≡ some i = rw (left_next i h, t, p) in
+        sym (ap or_nobody (e ∙ there))
+
+    -- when all numbers are passed there is none
+    pub seek_none : (i : ℕ) (o : Option ℕ) → 256 ≤ i → o ≡ first test (left_from left i) → 256 ≡ or_nobody o
+    unfolding left_from listed first or_nobody
+    seek_none i o h e =
+        let z : 256 - i ≡ 0 = omega arith in
+        let empty : first test (left_from left i) ≡ none = rw z in
+        sym (ap or_nobody (e ∙ empty))
+
+    -- where none of the first i passes, the others are looked at
+    pub seek_behind : (i : ℕ) → i ≤ 256 → ((k : ℕ) → k < i → get_or left k false ≡ true → test k ≡ false) → first test (left_of left) ≡ first test (left_from left i)
+    seek_behind zero b h = seek_start
+    seek_behind (suc i) b h =
+        let before : first test (left_of left) ≡ first test (left_from left i) = seek_behind i (omega arith) (λ k l t. h k (omega arith) t) in
+        subst (λ m. first test (left_of left) ≡ first test (left_from left m)) (add-one i)
+        (by_test (get_or left i false) (λ t. seek_past i (first test (left_of left)) (omega arith) (h i (omega arith) t) before) (λ f. seek_gone i (first test (left_of left)) (omega arith) f before))
+
+  -- a job that is left is one of 256
+  pub left_small : (j : ℕ) → member j (left_of left) ≡ true → j < 256
+  unfolding left_of
+  left_small j m = let r = listed_is (λ i. get_or left i false) 0 256 j m in omega (arith, r.1)
+
+  -- its flag is set
+  pub left_is : (j : ℕ) → member j (left_of left) ≡ true → get_or left j false ≡ true
+  unfolding left_of
+  left_is j m = (listed_is (λ i. get_or left i false) 0 256 j m).2
+
+  -- and one whose flag is set is left
+  pub left_has : (j : ℕ) → j < 256 → get_or left j false ≡ true → member j (left_of left) ≡ true
+  unfolding left_of
+  left_has j b t = listed_has (λ i. get_or left i false) 0 256 j (omega arith) (omega arith) t
+
+  -- where job 0 is not left, one that is is not 0
+  pub left_not_0 : (j : ℕ) → get_or left 0 false ≡ false → get_or left j false ≡ true → 0 < j
+  left_not_0 zero z t = not_both t z
+  left_not_0 (suc j) z t = omega arith
+
+  -- and they are no more
+  pub left_few : length (left_of left) ≤ 256
+  unfolding left_of
+  left_few = listed_few (λ i. get_or left i false) 0 256
+
+  -- the job found is one of those left
+  pub found_left : (test : ℕ → Bool) (j : ℕ) → j ≡ or_nobody (first test (left_of left)) → (j ≡ 256 → ⊥) → (first test (left_of left) ≡ some j) × (j < 256)
+  unfolding or_nobody
+  found_left test j h n =
+      by_one (first test (left_of left))
+      (λ q. absurd (n (h ∙ ap or_nobody q)))
+      (λ i q.
+      let same' : j ≡ i = h ∙ ap or_nobody q in
+      (q ∙ ap some (sym same'), rw same' (left_small i (first_is test (left_of left) i q).0)))
+
+  -- where nobody is found there is none
+  pub none_left : (test : ℕ → Bool) (j : ℕ) → j ≡ or_nobody (first test (left_of left)) → j ≡ 256 → first test (left_of left) ≡ none
+  unfolding or_nobody
+  none_left test j h n =
+      by_one (first test (left_of left)) (λ q. q)
+      (λ i q.
+      let small : i < 256 = left_small i (first_is test (left_of left) i q).0 in
+      let same' : j ≡ i = h ∙ ap or_nobody q in
+      absurd (omega arith))

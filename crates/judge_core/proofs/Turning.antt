@@ -1,0 +1,88 @@
+-- The place of a cycle's smallest job, and the cycle from there on.
+-- Assumes nothing.
+use Prim.Native.Nat.{ℕ, zero, suc, ◌+◌, ◌-◌, ◌≤◌, ◌<◌}
+use mathlib.Core.Path.{◌≡◌, refl, sym, ap, ◌∙◌}
+use mathlib.Core.Bool.{true, false}
+use mathlib.Core.List.{List, [], ◌∷◌, ◌++◌}
+use native.Mathlib.Omega.{arith}
+use lib.Dec.{eqb}
+use lib.ListN.{length, get_or, take, drop}
+use lib.Seq.{drop-cons, split_at}
+use borrow.Author.Tests.{eqb-true, eqb-false, ne_eqb}
+use Rattle.laws.specs.Choice.{by_test, not_both}
+use Rattle.laws.specs.Lists.{member}
+use Rattle.laws.proofs.Parts.{or_either}
+use Rattle.judge_rules.specs.Knot.{least, turn_to, turn}
+use Rattle.judge_rules.proofs.Turns.{up_to_mid, from_mid, least_is, least_low}
+use Rattle.judge_core.proofs.Searching.{member_at}
+
+-- the job at this place is the smallest of the first i, and smaller than each before it
+pub record Best (round : List ℕ) (best i : ℕ) : Type 0 where
+  pub within : best ≤ i - 1
+  pub low : (k : ℕ) → k < i → get_or round best 0 ≤ get_or round k 0
+  pub firstly : (k : ℕ) → k < best → get_or round best 0 < get_or round k 0
+
+-- at first it is the first
+pub best_none : (round : List ℕ) → Best round 0 0
+best_none round = record { within = omega arith; low = λ k h. absurd (omega arith); firstly = λ k h. absurd (omega arith) }
+
+module _ (round : List ℕ) (best i : ℕ) (b : Best round best i) where
+  -- a smaller one is the smallest so far
+  pub best_next : (now : ℕ) → now ≡ i → get_or round i 0 < get_or round best 0 → Best round now (i + 1)
+  best_next now e h =
+      rw e
+      (record {
+        within = omega arith;
+        low = λ k l. by_test (eqb k i) (λ t. rw (eqb-true k i t) (omega arith)) (λ f. omega (arith, b.low k (omega (arith, eqb-false k i f))));
+        firstly = λ k l. omega (arith, b.low k l);
+      })
+
+  -- any other leaves it
+  pub best_keep : (now : ℕ) → now ≡ best → get_or round best 0 ≤ get_or round i 0 → Best round now (i + 1)
+  best_keep now e h =
+      rw e
+      (record {
+        within = omega (arith, b.within);
+        low = λ k l. by_test (eqb k i) (λ t. rw (eqb-true k i t) h) (λ f. b.low k (omega (arith, eqb-false k i f)));
+        firstly = b.firstly;
+      })
+
+-- a job that stands at none of the first places is not there
+none_before : (ks : List ℕ) (b m : ℕ) → ((k : ℕ) → k < b → get_or ks k 0 ≡ m → ⊥) → b ≤ length ks → member m (take b ks) ≡ false
+unfolding member
+none_before ks zero m h l = refl
+none_before [] (suc b) m h l = refl
+none_before (k ∷ ks) (suc b) m h l =
+    rw (ne_eqb k m (h 0 (omega arith))) (none_before ks b m (λ i c. h (suc i) (omega arith)) (omega arith))
+
+-- a job of a list stands somewhere
+member_place : {P : Type 0} (ks : List ℕ) (m : ℕ) → member m ks ≡ true → ((k : ℕ) → k < length ks → get_or ks k 0 ≡ m → P) → P
+unfolding member
+member_place [] m h f = not_both h refl
+member_place (k ∷ ks) m h f =
+    or_either (eqb k m) (member m ks) h (λ t. f 0 (omega arith) (eqb-true k m t)) (λ t. member_place ks m t (λ i b e. f (suc i) (omega arith) e))
+
+-- the cycle turned to a job that does not stand before
+turn_cut : (k : ℕ) (ks ahead rest : List ℕ) (m : ℕ) → k ∷ ks ≡ ahead ++ m ∷ rest → least k ks ≡ m → member m ahead ≡ false → turn (k ∷ ks) ≡ (m ∷ rest) ++ ahead
+unfolding turn turn_to
+turn_cut k ks ahead rest m e l f = rw (l, e, from_mid m ahead rest f, up_to_mid m ahead rest f)
+
+-- the smallest job of all is the one whose place was kept
+best_least : (k : ℕ) (ks : List ℕ) (best i : ℕ) → i ≡ length (k ∷ ks) → Best (k ∷ ks) best i → least k ks ≡ get_or (k ∷ ks) best 0
+best_least k ks best i e b =
+    let under' : least k ks ≤ get_or (k ∷ ks) best 0 = least_low k ks (get_or (k ∷ ks) best 0) (member_at (k ∷ ks) best (omega (arith, b.within))) in
+    member_place (k ∷ ks) (least k ks) (least_is k ks) (λ p l q. omega (arith, b.low p (omega arith)))
+
+-- the cycle from the smallest job's place on
+pub best_turn : (round : List ℕ) (best i : ℕ) → i ≡ length round → Best round best i → (best ≤ length round) × (turn round ≡ drop best round ++ take best round)
+unfolding turn
+best_turn [] best i e b =
+    let z : best ≡ 0 = omega (arith, b.within) in
+    (omega arith, rw z)
+best_turn (k ∷ ks) best i e b =
+    let inside : best < length (k ∷ ks) = omega (arith, b.within) in (
+      omega arith,
+      turn_cut k ks (take best (k ∷ ks)) (drop (suc best) (k ∷ ks)) (get_or (k ∷ ks) best 0) (split_at (k ∷ ks) best 0 inside) (best_least k ks best i e b)
+          (none_before (k ∷ ks) best (get_or (k ∷ ks) best 0) (λ p l q. omega (arith, b.firstly p l)) (omega arith))
+          ∙ ap (λ l. l ++ take best (k ∷ ks)) (sym (drop-cons (k ∷ ks) best 0 inside)),
+    )

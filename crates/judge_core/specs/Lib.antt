@@ -1,0 +1,11 @@
+pub mod Sizes
+pub mod Lists
+pub mod Counted
+pub mod Meeting
+pub mod Grouped
+pub mod Reaching
+pub mod Left
+pub mod Preceding
+pub mod Rounds
+pub mod Kept
+pub mod RunEnds

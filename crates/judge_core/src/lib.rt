@@ -1,0 +1,11 @@
+// The deciding half of the judge: from lines kept as numbers to the dirty read, the order or the knot (01, The judge's rules).
+mod counted;
+mod decide;
+mod dirty;
+mod edges;
+mod grouping;
+pub mod kept;
+mod knots;
+mod order;
+mod sets;
+mod sizes;

@@ -1,4 +1,0 @@
-pub mod Codes
-pub mod Arrays
-pub mod Slots
-pub mod Lists
