@@ -1,4 +1,6 @@
 // The program `answers`: the desk's answers to the requests on standard input (01, What is delivered).
+#![tactic(auto)]
+
 use program_rules::{Method, View};
 
 fn main() {

@@ -1,4 +1,6 @@
 // The clerk at work: takes chunks of request lines, gives records and at the end the chains, for any lines and any size of buffers.
+#![tactic(auto)]
+
 pub mod chains;
 mod records;
 pub mod work;

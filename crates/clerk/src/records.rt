@@ -24,7 +24,7 @@ use text::writer::{write_answer, write_line};
 use text_rules::Written;
 
 // What the history notes of a request, apart from wakes: one line of a letter, or nothing.
-#[derive(Drop)]
+#[derive(Clone, Copy)]
 enum Noted {
     Nothing,
     Line { letter: Letter, job: u32, cell: u32 },

@@ -3,7 +3,7 @@ ghost use Rattle.std.specs.Prelude.{◌≡◌};
 ghost use Rattle.conflict.specs.Schedule.{agree, conflicts};
 
 // The kinds of action that a history records.
-#[derive(Drop)]
+#[derive(Clone, Copy)]
 pub enum Kind {
     // r
     Read,
@@ -14,7 +14,7 @@ pub enum Kind {
 }
 
 // One action: a job does something to a cell.
-#[derive(Drop)]
+#[derive(Clone, Copy)]
 pub struct Action {
     pub kind: Kind,
     pub job: u32,
@@ -22,7 +22,7 @@ pub struct Action {
 }
 
 // What ends a run: c, a or k in a history.
-#[derive(Drop)]
+#[derive(Clone, Copy)]
 pub enum Mark {
     // c: the job ends for good, and what it did counts
     Commit,
@@ -33,7 +33,7 @@ pub enum Mark {
 }
 
 // One line of a history.
-#[derive(Drop)]
+#[derive(Clone, Copy)]
 pub enum Event {
     // a job does something
     Does(Action),

@@ -6,7 +6,7 @@ ghost use Rattle.conflict.specs.Cells.{in_set, can_conflict};
 use terms::limits::CELLS;
 
 // The cells that a job reads, writes and increments, each as a set.
-#[derive(Drop)]
+#[derive(Clone, Copy)]
 pub struct Touched {
     pub reads: u64,
     pub writes: u64,

@@ -7,7 +7,7 @@ use crate::tables::{COVERS, GRANTS, N, Row, Y, look};
 use terms::letters::Ask;
 
 // What a job holds on a cell.
-#[derive(Drop)]
+#[derive(Clone, Copy)]
 pub enum Mode {
     // nothing
     Free,

@@ -5,11 +5,11 @@ ghost use Rattle.conflict.specs.Tables.{in_row, Column, look_up};
 use crate::modes::{Mode, mode_is_free};
 
 // A row of a table: what it says of S, of X, of I and of U.
-#[derive(Drop)]
+#[derive(Clone, Copy)]
 pub struct Row(pub bool, pub bool, pub bool, pub bool);
 
 // A table: the rows of S, of X, of I and of U.
-#[derive(Drop)]
+#[derive(Clone, Copy)]
 pub struct Table(pub Row, pub Row, pub Row, pub Row);
 
 // Yes.

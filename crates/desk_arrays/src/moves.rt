@@ -4,7 +4,7 @@ use terms::letters::Ask;
 use terms::refusals::Refusal;
 
 // How a run ends: the job is closed, or it is sent back.
-#[derive(Drop)]
+#[derive(Clone, Copy)]
 pub enum Ending {
     // by commit or give-up: the place is free
     Closed,
@@ -14,7 +14,7 @@ pub enum Ending {
 
 // A step's move: refuse, open a place for a new number, let the job go as it is, give it a mode, let it wait,
 // end the run at a place, or let the job run again.
-#[derive(Drop)]
+#[derive(Clone, Copy)]
 pub enum Move {
     // change nothing, and tell why
     Refuse(Refusal),
@@ -33,7 +33,7 @@ pub enum Move {
 }
 
 // Whether a job may make a request that only a running job may make.
-#[derive(Drop)]
+#[derive(Clone, Copy)]
 pub enum Standing {
     // it may
     Runs,
@@ -42,7 +42,7 @@ pub enum Standing {
 }
 
 // The place of a job, and what the job is doing.
-#[derive(Drop)]
+#[derive(Clone, Copy)]
 pub struct Found {
     pub place: usize,
     pub code: u8,

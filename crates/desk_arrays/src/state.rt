@@ -16,7 +16,7 @@ pub const SPOTS: usize = ROWS * PLACES;
 
 // The desk: the next number; for each place the job's number (0 if the place is free), what the job is doing and what it waits for;
 // and for each cell and place the mode held.
-#[derive(Drop)]
+#[derive(Clone, Copy)]
 pub struct Desk {
     pub next: u64,
     pub number: [u32; PLACES],
@@ -27,7 +27,7 @@ pub struct Desk {
 }
 
 // What a step says: the answer, and the wakes in their order.
-#[derive(Drop)]
+#[derive(Clone, Copy)]
 pub struct Said {
     pub answer: Answer,
     pub wakes: [Action; PLACES],
@@ -35,21 +35,21 @@ pub struct Said {
 }
 
 // What a step says where the wakes are told as places: the answer, and the number of wakes.
-#[derive(Drop)]
+#[derive(Clone, Copy)]
 pub struct Told {
     pub answer: Answer,
     pub count: usize,
 }
 
 // The desk that a step leaves, and what it says.
-#[derive(Drop)]
+#[derive(Clone, Copy)]
 pub struct Outcome {
     pub desk: Desk,
     pub said: Said,
 }
 
 // A started desk, or why there is none.
-#[derive(Drop)]
+#[derive(Clone, Copy)]
 pub enum Start {
     // started
     Ready(Desk),

@@ -1,4 +1,6 @@
 // The front of the desk programs: it passes standard input to the clerk chunk by chunk, and writes the records, or at the end the chains, to standard output (01, What is delivered; 02, Nos. 3 and 6).
+#![tactic(auto)]
+
 ghost use Rattle.std.specs.Prelude.{◌≡◌, ◌≤◌, ◌<◌, length, take};
 ghost use Rattle.program_rules.specs.Work.{line_room, all_read};
 ghost use Rattle.program_rules.specs.Closing.{program_room, close_of, end_of};
@@ -13,21 +15,21 @@ use terms::limits::REQUEST_LINES;
 use text_rules::splitter::Splitter;
 
 // Which desk program it is: the method that answers, and the view that it writes.
-#[derive(Drop)]
+#[derive(Clone, Copy)]
 pub struct Program {
     pub method: Method,
     pub view: View,
 }
 
 // What a program keeps from one read to the next: the view that it writes, and the clerk, which keeps the method.
-#[derive(Drop)]
+#[derive(Clone, Copy)]
 struct Front {
     view: View,
     clerk: Clerk,
 }
 
 // The front after a call of the work, the place in the chunk, and the place in the buffer before which the records stand.
-#[derive(Drop)]
+#[derive(Clone, Copy)]
 struct Called {
     front: Front,
     next: usize,
@@ -35,7 +37,7 @@ struct Called {
 }
 
 // The front after some bytes of a chunk, how many they are, and whether all output was taken.
-#[derive(Drop)]
+#[derive(Clone, Copy)]
 struct Served {
     front: Front,
     seen: usize,
@@ -43,7 +45,7 @@ struct Served {
 }
 
 // Why no more is read: the input ended or could not be read, every line to be read has been read, or output was not taken.
-#[derive(Drop)]
+#[derive(Clone, Copy)]
 enum Halt {
     Ended,
     NotRead,
@@ -52,7 +54,7 @@ enum Halt {
 }
 
 // The front after all that was read, and why reading stopped.
-#[derive(Drop)]
+#[derive(Clone, Copy)]
 struct Halted {
     front: Front,
     why: Halt,

@@ -12,7 +12,7 @@ use terms::letters::Ask;
 use terms::limits::PLACES;
 
 // The next grant: nobody, or a place and the mode that it gets.
-#[derive(Drop)]
+#[derive(Clone, Copy)]
 pub enum Grant {
     Nobody,
     To(usize, Mode),

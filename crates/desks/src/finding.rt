@@ -8,7 +8,7 @@ use terms::limits::{LAST_NUMBER, PLACES};
 use terms::refusals::Refusal;
 
 // Where a new job is opened and under which number, or why it is not opened.
-#[derive(Drop)]
+#[derive(Clone, Copy)]
 pub enum Opening {
     // at a free place, with the next number
     At(usize, u32),

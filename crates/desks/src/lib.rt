@@ -1,10 +1,12 @@
 // What every desk is, by locks or by timestamps: it takes requests by numbers, one step at a time, and gives these answers.
+#![tactic(auto)]
+
 pub mod finding;
 
 use terms::refusals::Refusal;
 
 // Go, wait or back, with the job, or a refusal (01, Refusals by number). For a begin the job is the new one.
-#[derive(Drop)]
+#[derive(Clone, Copy)]
 pub enum Answer {
     // it is done, or granted
     Go(u32),

@@ -10,7 +10,7 @@ use terms::limits::{JUDGED_JOBS, JUDGED_LINES};
 use terms::refusals::{Refusal, field_of, number_of};
 
 // What is said, and where in the text the line handed back stands: at the text's start and empty, if there is none.
-#[derive(Drop)]
+#[derive(Clone, Copy)]
 struct Judged {
     said: Verdict,
     from: usize,
@@ -18,7 +18,7 @@ struct Judged {
 }
 
 // Where the faulty line stands in the text: the place of its first byte, and its length without the newline; 0 and 0 if no line is faulty.
-#[derive(Drop)]
+#[derive(Clone, Copy)]
 pub struct LineAt {
     pub from: usize,
     pub length: usize,

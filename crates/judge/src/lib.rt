@@ -1,4 +1,6 @@
 // The judge that runs: scans a history text line by line, then decides on what its lines say (01, The judge's rules).
+#![tactic(auto)]
+
 pub mod entry;
 mod scan;
 

@@ -15,14 +15,14 @@ use text_rules::Reading;
 use text_rules::splitter::line_end;
 
 // A line as it is kept: a code for read, write, increment, commit, give-up or sent back, the job, and the cell; or why the line is refused.
-#[derive(Drop)]
+#[derive(Clone, Copy)]
 pub enum Looked {
     Kept { code: u8, job: u8, cell: u8 },
     Refused(Refusal),
 }
 
 // How many lines are kept of a faultless history; or the first faulty line: its number, its refusal, and its place in the text without its newline.
-#[derive(Drop)]
+#[derive(Clone, Copy)]
 pub enum Scanned {
     Faultless(usize),
     Faulty {

@@ -10,7 +10,7 @@ use crate::sizes::SLOTS;
 use terms::limits::JUDGED_LINES;
 
 // Clean, or the reader and the writer of the first dirty read.
-#[derive(Drop)]
+#[derive(Clone, Copy)]
 pub enum Dirt {
     Clean,
     Read { reader: u8, writer: u8 },

@@ -17,14 +17,14 @@ use terms::limits::{CELLS, JUDGED_JOBS, JUDGED_LINES};
 use terms::refusals::Refusal;
 
 // What is wrong with a line.
-#[derive(Drop)]
+#[derive(Clone, Copy)]
 pub enum Fault {
     Nothing,
     Due(Refusal),
 }
 
 // The first faulty line, with its number and refusal, or no fault.
-#[derive(Drop)]
+#[derive(Clone, Copy)]
 pub enum Found {
     Faultless,
     Faulty { line: usize, why: Refusal },

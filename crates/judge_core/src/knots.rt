@@ -10,7 +10,7 @@ use crate::order::NOBODY;
 use crate::sizes::{SLOTS, STOPS};
 
 // A part of a trail: from one place up to another.
-#[derive(Drop)]
+#[derive(Clone, Copy)]
 pub struct Round {
     pub from: usize,
     pub to: usize,

@@ -1,4 +1,6 @@
 // The verdict program's work: one line about a history (01, The judge's rules).
+#![tactic(auto)]
+
 pub mod lines;
 pub mod verdict;
 

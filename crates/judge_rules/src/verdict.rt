@@ -2,7 +2,7 @@
 use terms::refusals::Refusal;
 
 // Dirty with its reader and its writer, which fill the first two places of the order buffer; orderly or a knot, with how many jobs fill its first places; or a refusal with its line number, 0 if it is not for a line.
-#[derive(Drop)]
+#[derive(Clone, Copy)]
 pub enum Verdict {
     // the history is not dirty, and its committed part is conflict-serializable: this many jobs, in a serial order
     Orderly(usize),

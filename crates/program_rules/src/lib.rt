@@ -1,4 +1,6 @@
 // What a clerk keeps between the chunks of an input, and the runs of the desk programs as definitions (01, What is delivered; 02, No. 6).
+#![tactic(auto)]
+
 ghost use Rattle.std.specs.Prelude.{◌≡◌};
 ghost use Rattle.program_rules.specs.Work.{started_clerk};
 
@@ -7,7 +9,7 @@ use stamp_arrays::state::Stamps;
 use text_rules::Splitter;
 
 // The method by which requests are answered: each has its desk.
-#[derive(Drop)]
+#[derive(Clone, Copy)]
 pub enum Method {
     // by locks
     Locks,
@@ -16,7 +18,7 @@ pub enum Method {
 }
 
 // Both desks, and the method that says which of them is asked; the other is never touched.
-#[derive(Drop)]
+#[derive(Clone, Copy)]
 pub struct Desks {
     pub method: Method,
     pub locks: Desk,
@@ -24,14 +26,14 @@ pub struct Desks {
 }
 
 // The desks, and the line being put together.
-#[derive(Drop)]
+#[derive(Clone, Copy)]
 pub struct Clerk {
     pub desks: Desks,
     pub splitter: Splitter,
 }
 
 // What is written: the answers, the history, or the chains of the waiting jobs.
-#[derive(Drop)]
+#[derive(Clone, Copy)]
 pub enum View {
     // the answers, one for each line, each with its wakes
     Answers,
@@ -42,7 +44,7 @@ pub enum View {
 }
 
 // How far the work on a chunk has come: the clerk, the place in the chunk, the place after the records, and whether it stopped for lack of room.
-#[derive(Drop)]
+#[derive(Clone, Copy)]
 pub struct Worked {
     pub clerk: Clerk,
     pub next: usize,
@@ -51,7 +53,7 @@ pub struct Worked {
 }
 
 // The end of the input: the place after the last bytes written, or that there was no room for them.
-#[derive(Drop)]
+#[derive(Clone, Copy)]
 pub struct Finished {
     pub at: usize,
     pub full: bool,

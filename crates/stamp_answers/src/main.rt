@@ -1,4 +1,6 @@
 // The program `stamp_answers`: the timestamp desk's answers to the requests on standard input (02, No. 6).
+#![tactic(auto)]
+
 use program_rules::{Method, View};
 
 fn main() {

@@ -3,7 +3,7 @@ use terms::letters::Ask;
 use terms::refusals::Refusal;
 
 // Refuse, open a place for a new number, close the job at a place, send it back, or let it act on the cell as it asked.
-#[derive(Drop)]
+#[derive(Clone, Copy)]
 pub enum Move {
     // change nothing, and tell why
     Refuse(Refusal),
@@ -18,7 +18,7 @@ pub enum Move {
 }
 
 // Where an open job stands; nowhere, if the job is not open.
-#[derive(Drop)]
+#[derive(Clone, Copy)]
 pub enum Found {
     // at a place
     At(usize),

@@ -12,7 +12,7 @@ pub const ROWS: usize = CELLS as usize;
 
 // The timestamp desk: the next number; for each place the job's number, 0 if the place is free;
 // and for each cell the largest number that read it and the largest that wrote it.
-#[derive(Drop)]
+#[derive(Clone, Copy)]
 pub struct Stamps {
     pub next: u64,
     pub number: [u32; PLACES],
@@ -21,14 +21,14 @@ pub struct Stamps {
 }
 
 // The desk that a step leaves, and its answer. There are no wakes: nobody waits here.
-#[derive(Drop)]
+#[derive(Clone, Copy)]
 pub struct Stamped {
     pub stamps: Stamps,
     pub answer: Answer,
 }
 
 // A started timestamp desk, or why there is none.
-#[derive(Drop)]
+#[derive(Clone, Copy)]
 pub enum Start {
     // started
     Ready(Stamps),

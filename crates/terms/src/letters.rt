@@ -3,7 +3,7 @@ ghost use Rattle.std.specs.Prelude.{◌≡◌};
 ghost use Rattle.terms.specs.Letters.{byte_of, letter_of, of_requests, of_histories, has_job, has_cell};
 
 // What a job may ask of a cell.
-#[derive(Drop)]
+#[derive(Clone, Copy)]
 pub enum Ask {
     // r
     Read,
@@ -16,7 +16,7 @@ pub enum Ask {
 }
 
 // Every letter of the paper.
-#[derive(Drop)]
+#[derive(Clone, Copy)]
 pub enum Letter {
     // b: open a new job
     Begin,
@@ -33,7 +33,7 @@ pub enum Letter {
 }
 
 // A byte read as a letter, or as no letter.
-#[derive(Drop)]
+#[derive(Clone, Copy)]
 pub enum Lettered {
     // this letter's byte
     Known(Letter),

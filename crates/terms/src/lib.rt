@@ -1,4 +1,6 @@
 // The paper's words and numbers. Each stands here once, and every other crate takes it from here.
+#![tactic(auto)]
+
 pub mod letters;
 pub mod limits;
 pub mod refusals;

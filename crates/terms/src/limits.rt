@@ -17,7 +17,7 @@ pub const JUDGED_BYTES: usize = 65_536;
 // The desk programs read at most this many lines.
 pub const REQUEST_LINES: u64 = 1_000_000;
 
-#[derive(Drop)]
+#[derive(Clone, Copy)]
 pub struct Limits {
     pub cells: u32,
     pub places: usize,

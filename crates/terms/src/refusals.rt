@@ -3,7 +3,7 @@ ghost use Rattle.std.specs.Prelude.{◌≡◌};
 ghost use Rattle.terms.specs.Refusals.{number_of, field_number, field_of};
 
 // The field at fault of a bad line.
-#[derive(Drop)]
+#[derive(Clone, Copy)]
 pub enum Field {
     // 1: the letter
     First,
@@ -16,7 +16,7 @@ pub enum Field {
 }
 
 // Why a request, a line, a history or a buffer is refused, in the order of the paper's table.
-#[derive(Drop)]
+#[derive(Clone, Copy)]
 pub enum Refusal {
     // 1: request kind other than the eight
     UnknownKind,

@@ -3,7 +3,7 @@ ghost use Rattle.std.specs.Prelude.{◌≡◌};
 ghost use Rattle.terms.specs.Words.{spelling_of};
 
 // The words of records and lines.
-#[derive(Drop)]
+#[derive(Clone, Copy)]
 pub enum Word {
     // an answer: the request was done
     Go,
@@ -30,7 +30,7 @@ pub const TAB: u8 = b'\t';
 pub const NEWLINE: u8 = b'\n';
 
 // A word's bytes, from the first place on, and how many there are.
-#[derive(Drop)]
+#[derive(Clone, Copy)]
 pub struct Spelling {
     pub bytes: [u8; 7],
     pub len: usize,

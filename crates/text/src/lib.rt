@@ -1,4 +1,6 @@
 // The line reader and the record writer: lines that come in, records that go out (01, Lines).
+#![tactic(auto)]
+
 pub mod held;
 pub mod reader;
 pub mod writer;

@@ -1,11 +1,13 @@
 // The lines that come in and the records that go out, as definitions; the types that these speak of; and the splitter, whose methods stand with its type (01, Lines).
+#![tactic(auto)]
+
 pub mod splitter;
 
 pub use splitter::{Cut, Splitter, line_end};
 use terms::{Field, Letter, Refusal};
 
 // What a line says.
-#[derive(Drop)]
+#[derive(Clone, Copy)]
 pub enum Reading {
     // a good line with its letter, job and cell, 0 for a field that the letter does not have
     Good { letter: Letter, job: u32, cell: u32 },
@@ -14,7 +16,7 @@ pub enum Reading {
 }
 
 // A number field of a line.
-#[derive(Drop)]
+#[derive(Clone, Copy)]
 pub enum Numeral {
     // the number, and the place after it
     Is { value: u32, next: usize },
@@ -23,7 +25,7 @@ pub enum Numeral {
 }
 
 // What writing a record tells.
-#[derive(Drop)]
+#[derive(Clone, Copy)]
 pub enum Written {
     // the place after the record
     Next(usize),

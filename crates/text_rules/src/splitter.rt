@@ -9,7 +9,7 @@ use terms::words::NEWLINE;
 pub const KEPT: usize = 16;
 
 // The line that is being put together: its first bytes, how many they are, whether its newline has come, and its number from 1.
-#[derive(Drop)]
+#[derive(Clone, Copy)]
 pub struct Splitter {
     pub kept: [u8; KEPT],
     pub len: usize,
@@ -18,7 +18,7 @@ pub struct Splitter {
 }
 
 // The splitter after a part of a chunk, and the place in the chunk after that part.
-#[derive(Drop)]
+#[derive(Clone, Copy)]
 pub struct Cut {
     pub splitter: Splitter,
     pub next: usize,

@@ -2,6 +2,8 @@
 // With nothing on standard input the desk is the lock desk. A first byte `t` selects the timestamp desk; `l` or `s` selects the lock desk or the timestamp desk kept in one place and lent whole to each step (02, No. 7).
 // Each step takes three draws, whatever the desk has answered: the hand, the kind and the cell.
 // Writes how many steps went, waited, went back and were refused, and how many jobs woke; on the timestamp desk nobody waits or wakes.
+#![tactic(auto)]
+
 ghost use Rattle.std.specs.Prelude.{◌≡◌, ◌-◌, ◌<◌, ◌≤◌};
 
 use desk_arrays::state::{Desk, Said};
@@ -14,7 +16,7 @@ use terms::limits::{CELLS, PLACES};
 use terms::words::{NEWLINE, TAB};
 
 // How many steps got each answer.
-#[derive(Drop)]
+#[derive(Clone, Copy)]
 struct Tally {
     go: u64,
     wait: u64,
@@ -24,7 +26,7 @@ struct Tally {
 }
 
 // The hands: the job of each, and whether it was sent back; the state of the sequence, the hand drawn last, and how the steps so far were answered.
-#[derive(Drop)]
+#[derive(Clone, Copy)]
 struct Hands {
     jobs: [u32; HANDS],
     backs: [bool; HANDS],
@@ -34,7 +36,7 @@ struct Hands {
 }
 
 // The next step of a lent desk: how many are left, this one included; what is asked; and the hands.
-#[derive(Drop)]
+#[derive(Clone, Copy)]
 struct Drawn {
     left: u64,
     kind: u8,

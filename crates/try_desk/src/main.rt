@@ -2,6 +2,8 @@
 // whatever the second number is. Every other line is a step, `kind job cell`, or, on the lock desk only, a request for a chain, `256 job places`.
 // Writes a line for each step: the answer's word and number, then `wake`, job, cell and the kind's byte for each wake, with tabs between.
 // For a chain it writes `chain` and how many jobs, or `no` and the refusal, and then every place of the list.
+#![tactic(auto)]
+
 ghost use Rattle.std.specs.Prelude.{◌≤◌};
 
 use conflict::action::{Action, Kind};
@@ -17,14 +19,14 @@ use terms::refusals::{Refusal, number_of};
 use terms::words::{NEWLINE, TAB, Word, spelled};
 
 // A number of the input, and the byte after it.
-#[derive(Drop)]
+#[derive(Clone, Copy)]
 struct Field {
     value: u32,
     end: u32,
 }
 
 // An input line `kind job cell`, and whether there is one.
-#[derive(Drop)]
+#[derive(Clone, Copy)]
 struct Line {
     kind: u32,
     job: u32,
@@ -33,14 +35,14 @@ struct Line {
 }
 
 // The desk after a step, and whether there was a step and its line was taken.
-#[derive(Drop)]
+#[derive(Clone, Copy)]
 struct Turn {
     desk: Desk,
     done: bool,
 }
 
 // The same for the timestamp desk.
-#[derive(Drop)]
+#[derive(Clone, Copy)]
 struct StampTurn {
     stamps: Stamps,
     done: bool,

@@ -1,5 +1,7 @@
 // Runs the judge by cases: a line `= N` opens a case, the lines up to the next such line are its history, and N places of a buffer are lent for the order.
 // For each case, writes the verdict's line, then the line handed back, if any, and `!` if the buffer is not as told or two of the judge's entries differ.
+#![tactic(auto)]
+
 ghost use Rattle.std.specs.Prelude.{◌≤◌, length};
 
 use judge::entry::{judge, judge_text};
@@ -24,7 +26,7 @@ const MARK: u8 = b'=';
 const KEPT: usize = JUDGED_BYTES + 1;
 
 // Where the next byte stands: at the start of a line, further on in a line of the text, or in a header line.
-#[derive(Drop)]
+#[derive(Clone, Copy)]
 enum Spot {
     First,
     Further,
@@ -32,7 +34,7 @@ enum Spot {
 }
 
 // The case under way: whether its header has ended, the places to lend, and how many bytes of its text are kept.
-#[derive(Drop)]
+#[derive(Clone, Copy)]
 struct Case {
     open: bool,
     places: usize,
@@ -41,7 +43,7 @@ struct Case {
 }
 
 // The answer of the entry that hands back a line: the verdict in four numbers, the case first, and last the field at fault of refusal 9.
-#[derive(Drop)]
+#[derive(Clone, Copy)]
 struct Numbers {
     case: u32,
     second: u32,

@@ -1,5 +1,7 @@
 // Keeps one desk for a whole text of requests and lends it to each of them: writes what `answers` and `stamp_answers` write, by the entries that take a desk as `&mut` (02, No. 7).
 // The first byte of the input selects the desk: `t` the timestamp desk, any other byte the lock desk. The text begins behind it.
+#![tactic(auto)]
+
 ghost use Rattle.std.specs.Prelude.{◌-◌, ◌≤◌, length};
 ghost use Rattle.terms.specs.Limits.{request_lines};
 
@@ -18,7 +20,7 @@ use text_rules::splitter::Splitter;
 use text_rules::{Reading, Written};
 
 // The next request: how many lines may still be answered, this one included (0 if there is no request); what it asks; and its line.
-#[derive(Drop)]
+#[derive(Clone, Copy)]
 struct Asked {
     left: u64,
     kind: u8,
@@ -28,14 +30,14 @@ struct Asked {
 }
 
 // A byte of the input, and whether there was one.
-#[derive(Drop)]
+#[derive(Clone, Copy)]
 struct Byte {
     byte: u8,
     there: bool,
 }
 
 // The input up to the next newline, and whether one came; if not, the input has ended or cannot be read.
-#[derive(Drop)]
+#[derive(Clone, Copy)]
 struct Heard {
     splitter: Splitter,
     whole: bool,

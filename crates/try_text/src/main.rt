@@ -1,4 +1,6 @@
 // Prints what both line readers say of every line of standard input (01, Lines).
+#![tactic(auto)]
+
 ghost use Rattle.std.specs.Prelude.{◌≤◌, length};
 ghost use Rattle.text_rules.specs.Split.{Sized};
 
@@ -11,7 +13,7 @@ use text_rules::{Reading, Splitter, Written};
 const ROOM: usize = 128;
 
 // The line under way, and the place in the output after the last record.
-#[derive(Drop)]
+#[derive(Clone, Copy)]
 struct Progress {
     splitter: Splitter,
     at: usize,

@@ -8,7 +8,7 @@ use terms::refusals::number_of;
 
 // An answer: the word's number; the job, or the refusal's number; and the number of wakes.
 #[repr(C)]
-#[derive(Drop)]
+#[derive(Clone, Copy)]
 pub struct Answered {
     pub word: u32,
     pub number: u32,

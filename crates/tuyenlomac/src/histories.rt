@@ -6,7 +6,7 @@ use judge::entry::judge_at;
 
 // The verdict in four numbers; and the place of the faulty line in the text with its length without the newline, or 0 and 0.
 #[repr(C)]
-#[derive(Drop)]
+#[derive(Clone, Copy)]
 pub struct Judgement {
     pub said: [u32; 4],
     pub from: usize,

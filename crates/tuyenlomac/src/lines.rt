@@ -14,7 +14,7 @@ use text_rules::{Reading, Written};
 
 // What a line says. For a good line `field` is 0 and `kind` is its letter's byte; `job` and `cell` are 0 if the letter has none. For a bad line `field` is the field at fault, 1 to 4, and the others are 0.
 #[repr(C)]
-#[derive(Drop)]
+#[derive(Clone, Copy)]
 pub struct Line {
     pub job: u32,
     pub cell: u32,
@@ -24,14 +24,14 @@ pub struct Line {
 
 // What writing tells: 0 and the place after the record, or the refusal's number and 0.
 #[repr(C)]
-#[derive(Drop)]
+#[derive(Clone, Copy)]
 pub struct Placed {
     pub refusal: u32,
     pub next: usize,
 }
 
 // The word of answer records that a number stands for, if there is one.
-#[derive(Drop)]
+#[derive(Clone, Copy)]
 pub enum Worded {
     // the word that has this number
     Known(Word),

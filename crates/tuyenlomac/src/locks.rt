@@ -22,7 +22,7 @@ use terms::refusals::{Refusal, field_of, number_of};
 
 // The answer to a question for a job's chain: 0 and how many jobs it has, or the refusal's number and 0.
 #[repr(C)]
-#[derive(Drop)]
+#[derive(Clone, Copy)]
 pub struct ChainSaid {
     pub refusal: u32,
     pub jobs: usize,

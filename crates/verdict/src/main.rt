@@ -1,4 +1,6 @@
 // The program `verdict`: the judge's verdict on the history on standard input, as one line (01, What is delivered).
+#![tactic(auto)]
+
 ghost use Rattle.std.specs.Prelude.{◌≡◌, ◌+◌, ◌≤◌, length, take};
 ghost use Rattle.terms.specs.Limits.{judged_bytes};
 ghost use Rattle.judge_rules.specs.VerdictLine.{verdict_of, line_limit};
@@ -13,7 +15,7 @@ use text_rules::Written;
 const READ: usize = JUDGED_BYTES + 1;
 
 // How many bytes of the text were read, and whether reading ended well: at the input's end or at a text that is too long, with no read failed.
-#[derive(Drop)]
+#[derive(Clone, Copy)]
 struct Taken {
     len: usize,
     whole: bool,
