@@ -1,7 +1,7 @@
 -- The marks of a job in a history: a job without lines has none. If jobs end for good, a job's next mark is a commit exactly if the job has a c and no k.
 -- Assumes nothing.
 use Prim.Native.Nat.{ℕ}
-use mathlib.Core.Path.{◌≡◌, refl, sym, ap, ◌∙◌}
+use mathlib.Core.Path.{◌≡◌, refl, sym, ap, ◌∙◌, subst}
 use mathlib.Core.Bool.{Bool, true, false, not, ◌&&◌, ◌||◌, and-false}
 use mathlib.Core.List.{[], ◌∷◌}
 use borrow.Author.Tests.{eqb-true, not-true}
@@ -60,5 +60,5 @@ commits_is j [] e = refl
 commits_is j (Does a ∷ h) e = commits_is j h e
 commits_is j (Ends m i ∷ h) e =
     by_test (eqb i j)
-    (λ t. rw t (rw (sym (eqb-true i j t)) (at_mark m i h (ended_alone m i h e))))
+    (λ t. rw t (subst (λ k. ((is_commit m || marked is_commit k h) && not (is_back m || marked is_back k h)) ≡ is_commit m) (eqb-true i j t) (at_mark m i h (ended_alone m i h e))))
     (λ f. rw f (commits_is j h (ends_rest m i h e)))

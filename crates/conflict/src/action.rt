@@ -42,6 +42,7 @@ pub enum Event {
 }
 
 // Whether two kinds agree: both are reads, or both are increments. Actions of different jobs on one cell conflict unless their kinds agree.
+#[tactic(auto, unfolding(crate::specs::Schedule::agree))]
 pub fn kinds_agree(a: Kind, b: Kind) -> bool
     ensures { result ≡ agree a b }
 {
@@ -61,6 +62,7 @@ pub fn kinds_agree(a: Kind, b: Kind) -> bool
 }
 
 // Whether two actions conflict: they are by two jobs on one cell, and their kinds do not agree.
+#[tactic(auto, using(crate::proofs::Conflicting::apart, crate::proofs::Conflicting::by_kinds, crate::proofs::Conflicting::one_job))]
 pub fn actions_conflict(a: Action, b: Action) -> bool
     ensures { result ≡ conflicts a b }
 {

@@ -14,6 +14,7 @@ pub struct Touched {
 }
 
 // A set with one more cell. A number that is not a cell leaves the set as it is.
+#[tactic(auto, using(crate::proofs::CellSets::cell_more, crate::proofs::CellSets::cell_none))]
 pub fn with_cell(set: u64, cell: u32) -> u64
     ensures { (c : ℕ) → in_set result c ≡ ((eqb cell c && ltb cell cells) || in_set set c) }
 {
@@ -24,6 +25,7 @@ pub fn with_cell(set: u64, cell: u32) -> u64
 }
 
 // Whether a cell is in a set.
+#[tactic(auto, using(crate::proofs::CellSets::cell_nowhere, crate::proofs::CellSets::cell_there))]
 pub fn has_cell(set: u64, cell: u32) -> bool
     ensures { result ≡ (ltb cell cells && in_set set cell) }
 {
@@ -34,6 +36,7 @@ pub fn has_cell(set: u64, cell: u32) -> bool
 }
 
 // The cells on which two jobs can conflict, as a set: both jobs have an action there, and the kinds of the two do not agree.
+#[tactic(auto, using(crate::proofs::CellSets::meeting_tells))]
 pub fn meeting_cells(a: Touched, b: Touched) -> u64
     ensures { (c : ℕ) → in_set result c ≡ can_conflict a b c }
 {

@@ -33,6 +33,7 @@ pub const INCREMENTING: u8 = 3;
 pub const UPDATING: u8 = 4;
 
 // The mode that a request needs.
+#[tactic(auto, unfolding(crate::specs::Modes::needed))]
 pub fn needed_mode(a: Ask) -> Mode
     ensures { result ≡ needed a }
 {
@@ -45,6 +46,7 @@ pub fn needed_mode(a: Ask) -> Mode
 }
 
 // The kind of action that the history records for a request.
+#[tactic(auto, unfolding(crate::specs::Modes::recorded))]
 pub fn recorded_kind(a: Ask) -> Kind
     ensures { result ≡ recorded a }
 {
@@ -71,6 +73,7 @@ pub fn mode_grants(held: Mode, asks: Mode) -> bool
 }
 
 // The mode that a job asks for: of the mode it holds and the mode it needs, the one that covers the other, or X.
+#[tactic(auto, unfolding(crate::specs::Modes::asked))]
 pub fn asked_mode(held: Mode, need: Mode) -> Mode
     ensures { result ≡ asked held need }
 {
@@ -84,6 +87,7 @@ pub fn asked_mode(held: Mode, need: Mode) -> Mode
 }
 
 // Whether a mode is `Free`: the job holds nothing.
+#[tactic(auto, unfolding(crate::specs::Modes::is_free))]
 pub fn mode_is_free(m: Mode) -> bool
     ensures { result ≡ is_free m }
 {
@@ -97,6 +101,7 @@ pub fn mode_is_free(m: Mode) -> bool
 }
 
 // The number that stands for a mode in a table.
+#[tactic(auto, unfolding(crate::specs::Modes::code_of))]
 pub fn code_of(m: Mode) -> u8
     ensures { result ≡ code_of m }
 {
@@ -110,6 +115,7 @@ pub fn code_of(m: Mode) -> u8
 }
 
 // The mode that a number stands for.
+#[tactic(auto, unfolding(crate::specs::Modes::code_of, crate::specs::Modes::mode_of))]
 pub fn mode_of(code: u8) -> Mode
     ensures { result ≡ mode_of code }
 {

@@ -65,6 +65,7 @@ fn column_of(table: Table, m: Mode) -> Row
 
 // What the row of a held mode says of another mode. `Free` has no column, and the answer to it is yes. `Free` has no row in the table either: `unheld` is its row.
 // Otherwise the column of the other mode is asked about the held one: the column stays the same while one holder after another is looked at.
+#[tactic(auto, using(crate::proofs::TableRule::by_column, crate::proofs::TableRule::no_column, crate::proofs::TableRule::no_row))]
 pub fn look(table: Table, unheld: Row, held: Mode, other: Mode) -> bool
     ensures { result ≡ look_up table unheld held other }
 {
