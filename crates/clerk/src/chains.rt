@@ -22,6 +22,7 @@ const JOB_ROOM: usize = 11;
 const CHAINS_ROOM: usize = PLACES * PLACES * JOB_ROOM;
 
 // Writes a job that fits; returns the place after it.
+#[tactic(auto, using(crate::proofs::Adding::added_next, crate::proofs::Adding::never_refused, crate::proofs::Listing::job_digits))]
 fn put_number(out: &mut [u8], at: usize, job: u32) -> usize
     requires { at + 10 ≤ length out.old }
     ensures { Added 10 at result (decimal job) out.old out.new }
@@ -33,6 +34,7 @@ fn put_number(out: &mut [u8], at: usize, job: u32) -> usize
 }
 
 // Writes a tab and a job that fit; returns the place after them.
+#[tactic(auto, using(crate::proofs::Adding::added_next, crate::proofs::Adding::never_refused, crate::proofs::Listing::job_digits))]
 fn put_field(out: &mut [u8], at: usize, job: u32) -> usize
     requires { at + job_room ≤ length out.old }
     ensures { Added job_room at result (tab ∷ decimal job) out.old out.new }
@@ -44,6 +46,7 @@ fn put_field(out: &mut [u8], at: usize, job: u32) -> usize
 }
 
 // Writes the newline, which fits; returns the place after it.
+#[tactic(auto, using(crate::proofs::Adding::added_next, crate::proofs::Adding::never_refused))]
 fn put_end(out: &mut [u8], at: usize) -> usize
     requires { at < length out.old }
     ensures { Added 1 at result (newline ∷ []) out.old out.new }
@@ -55,6 +58,7 @@ fn put_end(out: &mut [u8], at: usize) -> usize
 }
 
 // Writes the line of a chain, which fits; returns the place after it.
+#[tactic(auto, using(crate::proofs::Adding::added_length, crate::proofs::Listing::Listed, crate::proofs::Listing::listed_first, crate::proofs::Listing::listed_line, crate::proofs::Listing::listed_next, text_rules::proofs::WroteLaws::wrote_length))]
 fn put_chain(out: &mut [u8], at: usize, jobs: &[u32]) -> usize
     requires { (0 < length jobs.now) × (at + job_room * length jobs.now ≤ length out.old) }
     ensures { Added (job_room * length jobs.now) at result (jobs_line jobs.now) out.old out.new }
@@ -69,6 +73,7 @@ fn put_chain(out: &mut [u8], at: usize, jobs: &[u32]) -> usize
 }
 
 // Writes the chains of all waiting jobs, in ascending order, one line each; they fit. Returns the place after them.
+#[tactic(auto, using(crate::proofs::Chaining::chain_fits, crate::proofs::Chaining::chained_all, crate::proofs::Chaining::chained_more, crate::proofs::Chaining::chained_none, crate::proofs::Chaining::chained_over, crate::proofs::Chaining::room_for_chain, text_rules::proofs::WroteLaws::wrote_length))]
 fn put_chains(out: &mut [u8], at: usize, d: Desk) -> usize
     requires { at + chains_room ≤ length out.old }
     ensures { Wrote at result (chain_text (chains_on d)) out.old out.new }
@@ -90,6 +95,7 @@ fn put_chains(out: &mut [u8], at: usize, d: Desk) -> usize
 }
 
 // Writes the chains of the waiting jobs, by the method: on the timestamp desk nobody waits.
+#[tactic(auto, using(crate::proofs::Cases::waiting_locks, crate::proofs::Cases::waiting_stamps, text_rules::proofs::WroteLaws::wrote_as, text_rules::proofs::WroteLaws::wrote_none))]
 fn put_waiting(out: &mut [u8], at: usize, d: Desks) -> usize
     requires { at + chains_room ≤ length out.old }
     ensures { Wrote at result (chains_by d.method d) out.old out.new }
@@ -113,6 +119,7 @@ fn closing_room(view: View) -> usize
 }
 
 // Writes what a program writes last, behind the records of its lines: the chains of the waiting jobs, and nothing for answers and history. If it does not fit, the buffer must be written out first.
+#[tactic(auto, using(crate::proofs::Cases::last_answers, crate::proofs::Cases::last_chains, crate::proofs::Cases::last_history, program_rules::proofs::Ends::closes_full, program_rules::proofs::Ends::closes_put, program_rules::proofs::Ends::closes_room, text_rules::proofs::WroteLaws::wrote_as, text_rules::proofs::WroteLaws::wrote_none))]
 pub fn close(view: View, c: Clerk, out: &mut [u8], at: usize) -> Finished
     ensures { (result ≡ (close_of view c out.old at).finished) × (out.new ≡ (close_of view c out.old at).out) }
 {

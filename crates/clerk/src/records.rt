@@ -31,6 +31,7 @@ enum Noted {
 }
 
 // The word of an answer.
+#[tactic(auto, unfolding(desks::specs::AnswerWords::word_of))]
 fn word_of(a: Answer) -> Word
     ensures { (result ≡ word_of a) × (of_answers result ≡ true) }
 {
@@ -43,6 +44,7 @@ fn word_of(a: Answer) -> Word
 }
 
 // The number after the word: the job, or the refusal's number.
+#[tactic(auto, unfolding(desks::specs::AnswerWords::number_beside))]
 fn number_beside(a: Answer) -> u64
     ensures { (result ≡ number_beside a) × (result ≤ last_number) }
 {
@@ -55,6 +57,7 @@ fn number_beside(a: Answer) -> u64
 }
 
 // The field after the number: the field at fault of a bad line, or 0 if there is none.
+#[tactic(auto, unfolding(desks::specs::AnswerWords::field_beside))]
 fn field_beside(a: Answer) -> u64
     ensures { result ≡ field_beside a }
 {
@@ -67,6 +70,7 @@ fn field_beside(a: Answer) -> u64
 }
 
 // The letter r, w or i, by the recorded kind.
+#[tactic(auto, unfolding(text_rules::specs::EventRecords::ask_by))]
 fn ask_by(k: Kind) -> Ask
     ensures { result ≡ ask_by k }
 {
@@ -78,6 +82,7 @@ fn ask_by(k: Kind) -> Ask
 }
 
 // What the history notes of a request that goes; u is noted as r.
+#[tactic(auto, using(crate::proofs::Noting::went_asks, crate::proofs::Noting::went_back, crate::proofs::Noting::went_begin, crate::proofs::Noting::went_commit, crate::proofs::Noting::went_give_up, crate::proofs::Noting::went_retry))]
 fn noted_go(letter: Letter, job: u32, cell: u32) -> Noted
     ensures { noted_bytes result ≡ text_of (went_by (asking letter cell) job (Known letter)) }
 {
@@ -104,6 +109,7 @@ fn noted_go(letter: Letter, job: u32, cell: u32) -> Noted
 }
 
 // What the history notes of a request and its answer.
+#[tactic(auto, using(crate::proofs::Noting::own_back, crate::proofs::Noting::own_go, crate::proofs::Noting::own_no, crate::proofs::Noting::own_wait))]
 fn noted_of(letter: Letter, cell: u32, a: Answer) -> Noted
     ensures { noted_bytes result ≡ text_of (own_records (asking letter cell) a) }
 {
@@ -120,6 +126,7 @@ fn noted_of(letter: Letter, cell: u32, a: Answer) -> Noted
 }
 
 // Writes an answer record, which fits.
+#[tactic(auto, using(crate::proofs::Adding::added_next, crate::proofs::Adding::never_refused, text_rules::proofs::Length::answer_at_most_24))]
 fn put_answer(out: &mut [u8], at: usize, line: u64, word: Word, number: u64, fault: u64) -> usize
     requires { (line ≤ request_lines) × (of_answers word ≡ true) × Besides number fault × (at + longest_record ≤ length out.old) }
     ensures { Added longest_record at result (answer_record line word number fault) out.old out.new }
@@ -131,6 +138,7 @@ fn put_answer(out: &mut [u8], at: usize, line: u64, word: Word, number: u64, fau
 }
 
 // Writes the line of a letter, which fits.
+#[tactic(auto, using(crate::proofs::Adding::added_next, crate::proofs::Adding::line_at_most_24, crate::proofs::Adding::never_refused))]
 fn put_line(out: &mut [u8], at: usize, letter: Letter, job: u32, cell: u32) -> usize
     requires { at + longest_record ≤ length out.old }
     ensures { Added longest_record at result (line_record letter job cell) out.old out.new }
@@ -142,6 +150,7 @@ fn put_line(out: &mut [u8], at: usize, letter: Letter, job: u32, cell: u32) -> u
 }
 
 // Writes what the history notes, if anything.
+#[tactic(auto, using(crate::proofs::Adding::added_as, crate::proofs::Adding::added_none, crate::proofs::Cases::line_noted, crate::proofs::Cases::nothing_noted))]
 fn put_noted(out: &mut [u8], at: usize, n: Noted) -> usize
     requires { at + longest_record ≤ length out.old }
     ensures { Added longest_record at result (noted_bytes n) out.old out.new }
@@ -153,6 +162,7 @@ fn put_noted(out: &mut [u8], at: usize, n: Noted) -> usize
 }
 
 // Writes the first record of a line; on a desk without wakes it is the only one.
+#[tactic(auto, using(crate::proofs::Adding::added_as, crate::proofs::Adding::added_none, crate::proofs::Adding::answer_besides, crate::proofs::Cases::first_answer, crate::proofs::Cases::first_chains, crate::proofs::Cases::first_noted))]
 pub fn put_first(
     view: View,
     out: &mut [u8],
@@ -173,6 +183,7 @@ pub fn put_first(
 }
 
 // Writes the record of a wake.
+#[tactic(auto, using(crate::proofs::Adding::added_as, crate::proofs::Adding::added_none, crate::proofs::Cases::wake_answer, crate::proofs::Cases::wake_chains, crate::proofs::Cases::wake_noted))]
 fn put_wake(view: View, out: &mut [u8], at: usize, line: u64, a: Action) -> usize
     requires { (line ≤ request_lines) × (at + longest_record ≤ length out.old) }
     ensures { Added longest_record at result (wake_record view line a) out.old out.new }
@@ -188,6 +199,7 @@ fn put_wake(view: View, out: &mut [u8], at: usize, line: u64, a: Action) -> usiz
 }
 
 // Writes one record for each of the `count` woken places; number and request are read off the desk's arrays.
+#[tactic(auto, using(crate::proofs::Adding::added_as, crate::proofs::Adding::added_end, crate::proofs::Adding::added_length, crate::proofs::Waking::wakes_all, crate::proofs::Waking::wakes_more, crate::proofs::Waking::wakes_none, crate::proofs::Waking::wakes_told_lem))]
 fn put_wakes<'a>(
     view: View,
     out: &mut [u8],
@@ -216,6 +228,7 @@ fn put_wakes<'a>(
 }
 
 // Writes all records of a line with a good request. Most steps wake nobody.
+#[tactic(auto, using(crate::proofs::Waking::records_quiet, crate::proofs::Waking::records_woken))]
 pub fn put_records<'a>(
     view: View,
     out: &mut [u8],
@@ -241,6 +254,7 @@ pub fn put_records<'a>(
 }
 
 // Writes the record of a bad line: refusal 9 and the field at fault among the answers; none in the history or for the chains.
+#[tactic(auto, using(crate::proofs::Cases::bad_answer, crate::proofs::Cases::bad_chains, crate::proofs::Cases::bad_noted, terms::proofs::Numbers::field_within, text_rules::proofs::WroteLaws::wrote_as, text_rules::proofs::WroteLaws::wrote_none))]
 pub fn put_bad(view: View, out: &mut [u8], at: usize, line: u64, field: Field) -> usize
     requires { (line ≤ request_lines) × (at + line_room ≤ length out.old) }
     ensures { Wrote at result (viewed view (told_bad line field)) out.old out.new }

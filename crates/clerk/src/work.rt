@@ -30,6 +30,7 @@ const LONGEST_RECORD: usize = 24;
 pub const LINE_ROOM: usize = LONGEST_RECORD + LONGEST_RECORD * PLACES;
 
 // Whether the line in the splitter is to be answered.
+#[tactic(auto, unfolding(program_rules::specs::Work::due))]
 fn is_due(s: Splitter) -> bool
     ensures { result ≡ due s }
 {
@@ -40,6 +41,7 @@ fn is_due(s: Splitter) -> bool
 }
 
 // Whether a line is under way that must be answered although it lacks its newline.
+#[tactic(auto, unfolding(program_rules::specs::Work::owing))]
 fn is_owing(s: Splitter) -> bool
     ensures { result ≡ owing s }
 {
@@ -50,6 +52,7 @@ fn is_owing(s: Splitter) -> bool
 }
 
 // Answers a good line on the lock desk's fields, in place, and puts its records into the buffer.
+#[tactic(auto, using(crate::proofs::Answering::on_locks))]
 fn answer_by_locks(
     view: View,
     next: &mut u64,
@@ -79,6 +82,7 @@ fn answer_by_locks(
 }
 
 // Answers a good line on the timestamp desk's fields, in place, and puts its one record into the buffer: nobody waits there.
+#[tactic(auto, using(crate::proofs::Answering::on_stamps_lem))]
 fn answer_by_stamps(
     view: View,
     next: &mut u64,
@@ -100,6 +104,7 @@ fn answer_by_stamps(
 }
 
 // Answers the line in the splitter on the fields of the desk that the method names, and puts its records into the buffer.
+#[tactic(auto, using(crate::proofs::Answering::answered_bad, crate::proofs::Answering::answered_good, crate::proofs::Answering::under_locks, crate::proofs::Answering::under_stamps, program_rules::proofs::Turns::due_line, text_rules::proofs::WroteLaws::wrote_length))]
 fn answer_line(
     view: View,
     method: Method,
@@ -138,6 +143,7 @@ fn answer_line(
 // Answers every line that ends in the chunk, from a place on, and puts its records into the buffer from a place on, while bytes are left and any line's records would fit.
 // If they might not fit, the work is full: it stops before the next cut, and goes on from there once the buffer is written out.
 // The desks' fields are taken out once, and put back at the end.
+#[tactic(auto, unfolding(program_rules::specs::Work::roomy), using(crate::proofs::Going::cut_moves, crate::proofs::Going::left_all, crate::proofs::Going::left_answers, crate::proofs::Going::left_full, crate::proofs::Going::left_none, crate::proofs::Going::left_passes))]
 pub fn work(view: View, c: Clerk, chunk: &[u8], from: usize, out: &mut [u8], at: usize) -> Worked
     ensures { (result ≡ (work_of view c chunk.now from out.old at).worked) × (out.new ≡ (work_of view c chunk.now from out.old at).out) }
 {
@@ -218,6 +224,7 @@ pub fn work(view: View, c: Clerk, chunk: &[u8], from: usize, out: &mut [u8], at:
 }
 
 // Writes the record of the line in the splitter, if the input ended before its newline.
+#[tactic(auto, using(crate::proofs::Cases::unended_told, text_rules::proofs::WroteLaws::wrote_as))]
 fn put_unended(view: View, out: &mut [u8], at: usize, s: Splitter) -> usize
     requires { (s.line ≤ request_lines) × (at + line_room ≤ length out.old) }
     ensures { Wrote at result (viewed view (unended s)) out.old out.new }
@@ -226,6 +233,7 @@ fn put_unended(view: View, out: &mut [u8], at: usize, s: Splitter) -> usize
 }
 
 // The end of the input: a line without its newline gets refusal 9, with the field at fault. If that does not fit, the buffer must be written out first.
+#[tactic(auto, unfolding(program_rules::specs::Work::roomy), using(program_rules::proofs::Ends::ends_full, program_rules::proofs::Ends::ends_none, program_rules::proofs::Ends::ends_put, program_rules::proofs::Ends::owing_line))]
 pub fn finish(view: View, c: Clerk, out: &mut [u8], at: usize) -> Finished
     ensures { (result ≡ (finish_of view c out.old at).finished) × (out.new ≡ (finish_of view c out.old at).out) }
 {

@@ -14,6 +14,7 @@ use desk_plan::grants::{Grant, front_grant, none_waits, wanted_cells};
 use terms::limits::PLACES;
 
 // A place drops all its locks.
+#[tactic(auto, unfolding(desk_arrays::specs::Settling::dropped_by))]
 fn drop_locks(held: &mut [u8; SPOTS], p: usize)
     requires { p < places }
     ensures { held.new ≡ dropped_by held.old p cells }
@@ -26,6 +27,7 @@ fn drop_locks(held: &mut [u8; SPOTS], p: usize)
 }
 
 // Grants waiters of one cell from the front, while each agrees with the other holders; `count` were woken before.
+#[tactic(auto, unfolding(desk_arrays::specs::Settling::settle_cell, laws::specs::Lists::filled), using(crate::proofs::Cells::cell_stops, crate::proofs::Cells::holds, crate::proofs::Cells::reached_as, crate::proofs::Cells::turn_granted, crate::proofs::Cells::turn_place, crate::proofs::Cells::turn_room))]
 fn settle_cell<'a>(
     held: &mut [u8; SPOTS],
     status: &mut [u8; PLACES],
@@ -59,6 +61,7 @@ fn settle_cell<'a>(
 }
 
 // The same for every cell from 0 to 63; a cell without waiters is skipped.
+#[tactic(auto, unfolding(desk_arrays::specs::Settling::settle_all, laws::specs::Lists::filled), using(crate::proofs::Cells::cells_length, crate::proofs::Cells::cells_passed, crate::proofs::Cells::cells_room, crate::proofs::Cells::cells_settled, crate::proofs::Cells::reached_as, crate::proofs::Cells::reached_by, crate::proofs::Room::room, desk_arrays::proofs::WaitingCount::waiters_most))]
 fn settle_all<'a>(
     held: &mut [u8; SPOTS],
     status: &mut [u8; PLACES],
@@ -83,6 +86,7 @@ fn settle_all<'a>(
 }
 
 // Rule 4, after the locks were dropped. Mostly nobody waits: one look over the places shows it, and then nothing changes.
+#[tactic(auto, unfolding(laws::specs::Lists::filled), using(crate::proofs::Cells::none_settled, crate::proofs::Cells::reached_as))]
 fn settle<'a>(
     held: &mut [u8; SPOTS],
     status: &mut [u8; PLACES],
@@ -101,6 +105,7 @@ fn settle<'a>(
 }
 
 // The status code of a place after its run has ended: free, or sent back.
+#[tactic(auto, unfolding(desk_arrays::specs::Steps::code_after))]
 fn code_after(e: Ending) -> u8
     ensures { result ≡ code_after e }
 {
@@ -111,6 +116,7 @@ fn code_after(e: Ending) -> u8
 }
 
 // Ends the run at a place: drops its locks and settles the cells, in place; tells how many were woken.
+#[tactic(auto, unfolding(desk_arrays::specs::Steps::settled))]
 pub fn end_run<'a>(
     held: &mut [u8; SPOTS],
     status: &mut [u8; PLACES],

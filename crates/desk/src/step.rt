@@ -18,6 +18,7 @@ use terms::limits::PLACES;
 use terms::refusals::Refusal;
 
 // The answer that tells how a run has ended.
+#[tactic(auto, unfolding(desk_arrays::specs::Steps::answer_after))]
 fn answer_after(e: Ending, job: u32) -> Answer
     ensures { result ≡ answer_after e job }
 {
@@ -28,6 +29,7 @@ fn answer_after(e: Ending, job: u32) -> Answer
 }
 
 // The answer that goes with a move.
+#[tactic(auto, unfolding(desk_arrays::specs::Steps::answer_to))]
 fn answer_to(m: Move, job: u32) -> Answer
     ensures { result ≡ answer_to m job }
 {
@@ -43,6 +45,7 @@ fn answer_to(m: Move, job: u32) -> Answer
 }
 
 // A closed job frees its place; a sent back job keeps it.
+#[tactic(auto, unfolding(desk_arrays::specs::Steps::numbers_after))]
 fn leave_place(number: &mut [u32; PLACES], p: usize, e: Ending)
     requires { p < places }
     ensures { number.new ≡ numbers_after e number.old p }
@@ -72,6 +75,7 @@ fn sized(status: [u8; PLACES], woken: [u8; PLACES]) -> bool
 
 // One step by letter, job and cell, on the desk's fields, each lent and changed in place.
 // The woken places go into the first places of a lent list, and the result tells how many there are.
+#[tactic(auto, using(crate::proofs::Performed::begin_place, crate::proofs::Performed::begun_at, crate::proofs::Performed::end_place, crate::proofs::Performed::ended_at, crate::proofs::Performed::kept, crate::proofs::Performed::refused, crate::proofs::Performed::stay_spot, crate::proofs::Performed::stayed, crate::proofs::Performed::take_spot, crate::proofs::Performed::taken, crate::proofs::Performed::tried, terms::proofs::Alphabet::letter_of_byte))]
 pub fn step_for(
     next: &mut u64,
     number: &mut [u32; PLACES],
@@ -129,6 +133,7 @@ pub fn step_for(
 }
 
 // The same by a byte; a byte of no letter is refused.
+#[tactic(auto, using(crate::proofs::Performed::by_letter, crate::proofs::Performed::refused_byte))]
 pub fn step_on(
     next: &mut u64,
     number: &mut [u32; PLACES],
@@ -153,6 +158,7 @@ pub fn step_on(
 }
 
 // The same by value: takes the desk, and returns the new desk with what was said.
+#[tactic(auto, using(crate::proofs::Telling::step_whole))]
 pub fn step(d: Desk, kind: u8, job: u32, cell: u32) -> Outcome
     ensures { result ≡ step_of d kind job cell }
 {

@@ -23,6 +23,7 @@ fn wide(byte: u8) -> u32
 }
 
 // The action of a woken place; the filler action, for an index that is no place.
+#[tactic(auto, unfolding(desk_arrays::specs::Steps::wake_at), using(crate::proofs::Telling::nowhere_says))]
 pub fn wake_at<'a>(
     number: &'a [u32; PLACES],
     cell: &'a [u8; PLACES],
@@ -47,6 +48,7 @@ pub fn wake_at<'a>(
 }
 
 // The list of the wakes of the first `count` places of a list.
+#[tactic(auto, unfolding(desk_arrays::specs::Steps::no_action, desk_arrays::specs::Steps::listed), using(crate::proofs::Telling::told_all, crate::proofs::Telling::told_end, crate::proofs::Telling::told_more))]
 pub fn tell<'a>(
     number: &'a [u32; PLACES],
     cell: &'a [u8; PLACES],

@@ -59,6 +59,7 @@ pub enum Start {
 
 impl Desk {
     // A desk whose places are all free, with this next number.
+    #[tactic(auto, unfolding(crate::specs::Steps::empty_desk))]
     fn empty(first: u32) -> Desk
         ensures { result ≡ empty_desk first }
     {
@@ -73,6 +74,7 @@ impl Desk {
     }
 
     // The desk started at this first number; 0 is refused, with no desk (01, refusal 10).
+    #[tactic(auto, unfolding(crate::specs::Steps::start_of), using(crate::proofs::state::Desk::empty::Symbol::name, laws::proofs::Walking::fails, laws::proofs::Walking::holds, laws::proofs::Walking::placed))]
     pub fn start(first: u32) -> Start
         ensures { result ≡ start_of first }
     {
@@ -83,6 +85,7 @@ impl Desk {
     }
 
     // The desk started at 1, the smallest first number; this never fails.
+    #[tactic(auto, unfolding(crate::specs::Steps::start_of))]
     pub fn first() -> Desk
         ensures { Ready result ≡ start_of 1 }
     {
@@ -90,6 +93,7 @@ impl Desk {
     }
 
     // Rule 5: a sent back job runs again, still holding nothing; for any other number nothing changes.
+    #[tactic(auto, unfolding(crate::specs::Steps::retried), using(crate::proofs::Retrying::back_retries, crate::proofs::Retrying::nobody_retries, crate::proofs::Retrying::other_stays, crate::proofs::Retrying::unopened_stays, desks::proofs::Found::found_here, desks::proofs::Found::found_later, desks::proofs::Found::found_nowhere))]
     pub fn retry(mut self, job: u32) -> Desk
         ensures { result ≡ retried_job self job }
     {

@@ -14,6 +14,7 @@ use terms::limits::{LAST_NUMBER, PLACES};
 use terms::refusals::Refusal;
 
 // Whether the place holds the cell and its number is above `age`.
+#[tactic(auto, unfolding(crate::specs::Chains::holds_above, desk_arrays::specs::Places::mode_at))]
 fn holds_above<'a>(
     number: &'a [u32; PLACES],
     held: &'a [u8; SPOTS],
@@ -31,6 +32,7 @@ fn holds_above<'a>(
 }
 
 // The place of the youngest holder of the cell that is younger than the job, or 32; this leaves out the job's own hold.
+#[tactic(auto, using(crate::proofs::Finding::holder_more, crate::proofs::Finding::holder_none, desk_plan::proofs::Finding::best_newer, desk_plan::proofs::Finding::best_none, desk_plan::proofs::Finding::best_same))]
 fn holder_above<'a>(number: &'a [u32; PLACES], held: &'a [u8; SPOTS], c: usize, job: u32) -> usize
     requires { (c < cells) × (length number.now ≡ places) }
     ensures { result ≡ holder_above number.now held.now c job places }
@@ -56,6 +58,7 @@ fn wide(byte: u8) -> usize
 }
 
 // The place of the next job after the one at this place, or 32 if that one does not wait for a cell from 0 to 63.
+#[tactic(auto, unfolding(crate::specs::Chains::next_at))]
 fn next_at<'a>(
     number: &'a [u32; PLACES],
     status: &'a [u8; PLACES],
@@ -100,6 +103,7 @@ fn follow<'a>(
 
 // Asks for the chain of a job, with a lent list: refusal 3, then 5, then 18, with the list unchanged;
 // else the chain stands in the list's first places, the answer is how many jobs it has, and the unused places stay.
+#[tactic(auto, using(crate::proofs::Answering::asked_closed, crate::proofs::Answering::asked_sent_back, crate::proofs::Answering::asked_short, crate::proofs::Answering::asked_told, crate::proofs::Answering::open_place, crate::proofs::Looks::places_enough))]
 pub fn chain(d: Desk, job: u32, list: &mut [u32]) -> Chained
     ensures { (result ≡ (asked_on d job list.old).said) × (list.new ≡ (asked_on d job list.old).list) }
 {
@@ -124,6 +128,7 @@ fn long(job: u32) -> u64
 }
 
 // Whether the place waits and its number is above `last` and below `least`.
+#[tactic(auto, unfolding(crate::specs::Chains::waits_within))]
 fn waits_within<'a>(
     number: &'a [u32; PLACES],
     status: &'a [u8; PLACES],
@@ -145,6 +150,7 @@ fn waits_within<'a>(
 }
 
 // The place of the waiter with the smallest number above `last`, or 32.
+#[tactic(auto, using(crate::proofs::Finding::waiter_more, crate::proofs::Finding::waiter_none, desk_plan::proofs::Finding::best_newer, desk_plan::proofs::Finding::best_none, desk_plan::proofs::Finding::best_same))]
 fn waiter_above<'a>(number: &'a [u32; PLACES], status: &'a [u8; PLACES], last: u32) -> usize
     requires { length number.now ≡ places }
     ensures { result ≡ waiter_above number.now status.now last places }
@@ -164,6 +170,7 @@ fn waiter_above<'a>(number: &'a [u32; PLACES], status: &'a [u8; PLACES], last: u
 
 // Puts the chain of the first waiting job with a number above `last` into the first places of the list; tells how many jobs it has, or 0 if no such job waits.
 // Start with 0 and go on with the first job of the last chain told: this gives the chains of all waiting jobs, in ascending order.
+#[tactic(auto, using(crate::proofs::Answering::next_nobody, crate::proofs::Answering::next_told, crate::proofs::Looks::places_enough))]
 pub fn next_chain(d: Desk, last: u32, list: &mut [u32; PLACES]) -> usize
     ensures { (result ≡ length (next_chain d last)) × (list.new ≡ filled (next_chain d last) list.old) }
 {

@@ -80,6 +80,7 @@ fn program_of(front: Front) -> Program
 }
 
 // Whether every line to be read has been read, so that no further byte has an answer.
+#[tactic(auto, unfolding(program_rules::specs::Work::all_read))]
 fn is_over(s: Splitter) -> bool
     ensures { result ≡ all_read s }
 {
@@ -90,6 +91,7 @@ fn is_over(s: Splitter) -> bool
 }
 
 // One call of the work, from a place of a chunk: its records are left in the buffer, to be written out.
+#[tactic(auto, using(crate::proofs::Places::call_turned))]
 fn serve_some(front: Front, chunk: &[u8], from: usize, out: &mut [u8]) -> Called
     requires { (from < length chunk.now) × (line_room ≤ length out.old) }
     ensures { Turned front chunk.now from result out.new }
@@ -104,6 +106,7 @@ fn serve_some(front: Front, chunk: &[u8], from: usize, out: &mut [u8]) -> Called
 }
 
 // The part of the buffer to be written out after a call of the work: the records of the lines that end in what the call has seen.
+#[tactic(auto, using(crate::proofs::Places::handed_on))]
 fn to_write<'a>(called: Called, out: &'a [u8]) -> &'a [u8]
     requires { called.at ≤ length out.now }
     ensures bytes { result.now ≡ take called.at out.now }
@@ -114,6 +117,7 @@ fn to_write<'a>(called: Called, out: &'a [u8]) -> &'a [u8]
 }
 
 // A chunk: the records of every line that ends in it are written out before the next read. If output is not taken, the work ends.
+#[tactic(auto, using(crate::proofs::Places::front_none, crate::proofs::Places::seen_more, crate::proofs::Places::serves_all, crate::proofs::Places::serves_some))]
 fn serve_chunk(before: Front, chunk: &[u8], out: &mut [u8]) -> Served
     requires { line_room ≤ length out.old }
     ensures { Serves before chunk.now result }
@@ -140,6 +144,7 @@ fn serve_chunk(before: Front, chunk: &[u8], out: &mut [u8]) -> Served
 }
 
 // Reads chunk after chunk. No contract says that input ends, so the loop counts down from a number of turns that no run uses up.
+#[tactic(auto, using(crate::proofs::Places::saw_chunk, crate::proofs::Places::saw_none, crate::proofs::Places::saw_part, crate::proofs::Places::saw_since))]
 fn serve_all(method: Method, view: View, input: &mut [u8], out: &mut [u8]) -> Halted
     requires { line_room ≤ length out.old }
     ensures { Halts method view result }
@@ -221,6 +226,7 @@ fn say_halt(method: Method, view: View, why: Halt) {
 }
 
 // The input has ended: the record of a last line that lacks its newline, and after it what the program writes last, from the buffer's first byte.
+#[tactic(auto, using(crate::proofs::Rest::end_is))]
 fn put_ended(front: Front, out: &mut [u8]) -> usize
     ensures { (result ≡ (end_of front.view front.clerk out.old 0).finished.at) × (out.new ≡ (end_of front.view front.clerk out.old 0).out) }
 {
@@ -241,6 +247,7 @@ fn put_closed(front: Front, out: &mut [u8]) -> usize
 }
 
 // A read failed: answers and history end as at the end of the input, and no chain is told for half a text.
+#[tactic(auto, using(crate::proofs::Rest::rests_answers, crate::proofs::Rest::rests_chains, crate::proofs::Rest::rests_history))]
 fn put_unread(front: Front, out: &mut [u8]) -> usize
     requires { program_room front.view ≤ length out.old }
     ensures { Rests (record { front = front; why = NotRead }) result out.new }
@@ -254,6 +261,7 @@ fn put_unread(front: Front, out: &mut [u8]) -> usize
 }
 
 // What is still to be written once no more is read, from the buffer's first byte.
+#[tactic(auto, using(crate::proofs::Rest::rests_ended, crate::proofs::Rest::rests_read, crate::proofs::Rest::rests_unread, crate::proofs::Rest::rests_untaken))]
 fn put_rest(halted: Halted, out: &mut [u8]) -> usize
     requires { (program_room halted.front.view ≤ length out.old) × (Over halted.why halted.front.clerk.splitter) }
     ensures { Rests halted result out.new }
@@ -279,6 +287,7 @@ fn to_write_last<'a>(halted: Halted, out: &'a mut [u8]) -> &'a [u8]
 }
 
 // Handles all of the input, and what is written and said at its end; returns which program was run.
+#[tactic(auto, using(crate::proofs::OneProgram::program_kept, crate::proofs::OneProgram::room_kept, program_rules::proofs::Closings::line_room_lem))]
 fn serve_input(method: Method, view: View, input: &mut [u8], out: &mut [u8]) -> Program
     requires { program_room view ≤ length out.old }
     ensures { result ≡ program_by method view }
@@ -294,6 +303,7 @@ fn serve_input(method: Method, view: View, input: &mut [u8], out: &mut [u8]) -> 
 
 // Serves standard input to its end, to the end of line 1,000,000, or to the first output that is not taken; says on standard error what cannot be read or written.
 // Returns which program was run, so that no other method or view is passed on.
+#[tactic(auto, using(crate::proofs::Rest::room_at_most))]
 pub fn serve(method: Method, view: View) -> Program
     ensures { result ≡ program_by method view }
 {

@@ -19,6 +19,7 @@ pub enum Grant {
 }
 
 // Whether nobody waits for any cell.
+#[tactic(auto, unfolding(crate::specs::Grants::none_waits), using(crate::proofs::Every::all_failed, crate::proofs::Every::all_kept, crate::proofs::Every::all_none))]
 pub fn none_waits(status: &[u8; PLACES]) -> bool
     ensures { result ≡ none_waits status.now }
 {
@@ -34,6 +35,7 @@ pub fn none_waits(status: &[u8; PLACES]) -> bool
 }
 
 // The cells with waiters.
+#[tactic(auto, unfolding(crate::specs::Grants::wanted), using(crate::proofs::Wanted::wanted_marked, crate::proofs::Wanted::wanted_outside, crate::proofs::Wanted::wanted_unmarked))]
 pub fn wanted_cells<'a>(status: &'a [u8; PLACES], cell: &'a [u8; PLACES]) -> [bool; ROWS]
     ensures { result ≡ wanted status.now cell.now places }
 {
@@ -52,6 +54,7 @@ pub fn wanted_cells<'a>(status: &'a [u8; PLACES], cell: &'a [u8; PLACES]) -> [bo
 }
 
 // The mode that a place asks for on a cell.
+#[tactic(auto, unfolding(desk_arrays::specs::Places::wants_at))]
 fn wanted_mode(held: &[u8; SPOTS], c: usize, p: usize, a: Ask) -> Mode
     requires { (c < cells) × (p < places) }
     ensures { result ≡ wants_at held.now c p a }
@@ -60,6 +63,7 @@ fn wanted_mode(held: &[u8; SPOTS], c: usize, p: usize, a: Ask) -> Mode
 }
 
 // The front of a cell's queue, if its mode agrees with the other holders; nobody, if there is no such cell.
+#[tactic(auto, using(crate::proofs::Granting::granted_front, crate::proofs::Granting::no_cell, crate::proofs::Granting::no_front, crate::proofs::Granting::not_agreed))]
 pub fn front_grant<'a>(
     number: &'a [u32; PLACES],
     status: &'a [u8; PLACES],

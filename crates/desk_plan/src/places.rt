@@ -18,6 +18,7 @@ pub fn sized(number: [u32; PLACES], status: [u8; PLACES]) -> bool
 }
 
 // The mode that a place holds on a cell.
+#[tactic(auto, unfolding(desk_arrays::specs::Places::mode_at))]
 pub fn mode_at(held: &[u8; SPOTS], c: usize, p: usize) -> Mode
     requires { (c < cells) × (p < places) }
     ensures { result ≡ mode_at held.now c p }
@@ -37,6 +38,7 @@ fn grants_at(held: &[u8; SPOTS], c: usize, p: usize, m: Mode, q: usize) -> bool
 }
 
 // Whether the mode agrees with what every other place holds on the cell.
+#[tactic(auto, unfolding(desk_arrays::specs::Places::agrees_at), using(crate::proofs::Every::all_end, crate::proofs::Every::all_fails, crate::proofs::Every::all_more, crate::proofs::Every::all_none))]
 pub fn agrees(held: &[u8; SPOTS], c: usize, p: usize, m: Mode) -> bool
     requires { c < cells }
     ensures { result ≡ agrees_at held.now c p m }
@@ -52,6 +54,7 @@ pub fn agrees(held: &[u8; SPOTS], c: usize, p: usize, m: Mode) -> bool
 }
 
 // Whether nobody holds the cell: every mode in its row is "none".
+#[tactic(auto, unfolding(crate::specs::Grants::none_holds), using(crate::proofs::Every::all_failed, crate::proofs::Every::all_kept, crate::proofs::Every::all_none))]
 fn none_holds(held: &[u8; SPOTS], c: usize) -> bool
     requires { c < cells }
     ensures { result ≡ none_holds held.now c }
@@ -68,6 +71,7 @@ fn none_holds(held: &[u8; SPOTS], c: usize) -> bool
 }
 
 // The same, faster: mostly nobody holds the cell, and one look over its row shows it.
+#[tactic(auto, using(crate::proofs::Unheld::unheld_agrees))]
 pub fn goes_beside(held: &[u8; SPOTS], c: usize, p: usize, m: Mode) -> bool
     requires { c < cells }
     ensures { result ≡ agrees_at held.now c p m }
@@ -100,6 +104,7 @@ fn older_at<'a>(
 }
 
 // Whether the job at place p is older than every other holder of the cell.
+#[tactic(auto, unfolding(desk_arrays::specs::Places::older_at), using(crate::proofs::Every::all_end, crate::proofs::Every::all_fails, crate::proofs::Every::all_more, crate::proofs::Every::all_none))]
 pub fn older_than_holders<'a>(
     held: &'a [u8; SPOTS],
     number: &'a [u32; PLACES],
@@ -128,6 +133,7 @@ pub fn wide(byte: u8) -> usize
 }
 
 // Whether the place waits for the cell; the cell is tested first, since few places have it.
+#[tactic(auto, unfolding(desk_arrays::specs::Places::waits_at), using(crate::proofs::Tests::and_fails, crate::proofs::Tests::and_holds))]
 pub fn waits_for<'a>(status: &'a [u8; PLACES], cell: &'a [u8; PLACES], c: usize, q: usize) -> bool
     requires { q < places }
     ensures { result ≡ waits_at status.now cell.now c q }
@@ -139,6 +145,7 @@ pub fn waits_for<'a>(status: &'a [u8; PLACES], cell: &'a [u8; PLACES], c: usize,
 }
 
 // Whether nobody waits for the cell.
+#[tactic(auto, unfolding(desk_arrays::specs::Places::nobody_waits), using(crate::proofs::Every::all_failed, crate::proofs::Every::all_kept, crate::proofs::Every::all_none))]
 pub fn nobody_waits<'a>(status: &'a [u8; PLACES], cell: &'a [u8; PLACES], c: usize) -> bool
     ensures { result ≡ nobody_waits status.now cell.now c }
 {
@@ -172,6 +179,7 @@ fn waits_older<'a>(
 }
 
 // Whether the job is older than every waiter of the cell.
+#[tactic(auto, unfolding(desk_arrays::specs::Places::oldest_of), using(crate::proofs::Every::all_end, crate::proofs::Every::all_fails, crate::proofs::Every::all_more, crate::proofs::Every::all_none))]
 pub fn older_than_waiters<'a>(
     number: &'a [u32; PLACES],
     status: &'a [u8; PLACES],
@@ -210,6 +218,7 @@ fn waits_above<'a>(
 }
 
 // The place of the youngest job waiting for the cell (the front of its queue), or 32.
+#[tactic(auto, using(crate::proofs::Finding::best_newer, crate::proofs::Finding::best_none, crate::proofs::Finding::best_same, crate::proofs::Finding::front_more, crate::proofs::Finding::front_none))]
 pub fn front_of<'a>(
     number: &'a [u32; PLACES],
     status: &'a [u8; PLACES],

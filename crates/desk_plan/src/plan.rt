@@ -18,6 +18,7 @@ use terms::limits::{CELLS, PLACES};
 use terms::refusals::Refusal;
 
 // Where a job stands, and what the job is doing; nothing, for 0 and for a number at no place.
+#[tactic(auto, unfolding(desk_arrays::specs::Moves::found_at, desk_arrays::specs::Moves::status_of), using(crate::proofs::Open::nowhere_free))]
 pub fn find<'a>(number: &'a [u32; PLACES], status: &'a [u8; PLACES], job: u32) -> Found
     ensures { result ≡ found_at number.now status.now job }
 {
@@ -36,6 +37,7 @@ pub fn find<'a>(number: &'a [u32; PLACES], status: &'a [u8; PLACES], job: u32) -
 }
 
 // Refusals 3, 4 and 5.
+#[tactic(auto, unfolding(desk_arrays::specs::Moves::standing_of))]
 fn standing_of(code: u8) -> Standing
     ensures { result ≡ standing_of code }
 {
@@ -89,6 +91,7 @@ fn may_wait<'a>(
 }
 
 // Rule 3: a job new to the cell.
+#[tactic(auto, using(crate::proofs::Decides::leaves, crate::proofs::Decides::takes, crate::proofs::Decides::waits))]
 fn enter<'a>(
     held: &'a [u8; SPOTS],
     number: &'a [u32; PLACES],
@@ -113,6 +116,7 @@ fn enter<'a>(
 }
 
 // Rule 2: a job that holds another mode goes if its new mode agrees with every other holder.
+#[tactic(auto, using(crate::proofs::Decides::leaves_promoted, crate::proofs::Decides::promoted, crate::proofs::Decides::waits_promoted))]
 fn promote<'a>(
     held: &'a [u8; SPOTS],
     number: &'a [u32; PLACES],
@@ -136,6 +140,7 @@ fn promote<'a>(
 }
 
 // Rules 1 to 3: the decision on a request for a cell.
+#[tactic(auto, using(crate::proofs::Decides::goes_in, crate::proofs::Decides::goes_up, crate::proofs::Decides::keeps))]
 fn decide<'a>(
     held: &'a [u8; SPOTS],
     number: &'a [u32; PLACES],
@@ -160,6 +165,7 @@ fn decide<'a>(
 }
 
 // Begin: refusal 7, then 6, else the next number at the first free place.
+#[tactic(auto, unfolding(desk_arrays::specs::Moves::opened, desk_arrays::specs::Moves::begin_move))]
 fn begin_move(next: u64, number: &[u32; PLACES]) -> Move
     ensures { result ≡ begin_move next number.now }
 {
@@ -170,6 +176,7 @@ fn begin_move(next: u64, number: &[u32; PLACES]) -> Move
 }
 
 // Commit: refusals 3, 4, 5, else the run ends.
+#[tactic(auto, unfolding(desk_arrays::specs::Moves::if_runs, desk_arrays::specs::Moves::commit_move))]
 fn commit_move(f: Found) -> Move
     ensures { result ≡ commit_move f }
 {
@@ -180,6 +187,7 @@ fn commit_move(f: Found) -> Move
 }
 
 // Give-up: refusal 3, else the run ends.
+#[tactic(auto, unfolding(desk_arrays::specs::Moves::give_up_move))]
 fn give_up_move(f: Found) -> Move
     ensures { result ≡ give_up_move f }
 {
@@ -190,6 +198,7 @@ fn give_up_move(f: Found) -> Move
 }
 
 // Retry: refusals 3, 4, 8, else the job runs again.
+#[tactic(auto, unfolding(desk_arrays::specs::Moves::retry_move))]
 fn retry_move(f: Found) -> Move
     ensures { result ≡ retry_move f }
 {
@@ -206,6 +215,7 @@ fn retry_move(f: Found) -> Move
 }
 
 // Read, write, increment and u: refusals 3, 4, 5, 2, else what the rules decide.
+#[tactic(auto, unfolding(desk_arrays::specs::Moves::if_runs, desk_arrays::specs::Moves::ask_move), using(crate::proofs::Open::runs_inside))]
 fn ask_move<'a>(
     held: &'a [u8; SPOTS],
     number: &'a [u32; PLACES],
@@ -231,6 +241,7 @@ fn ask_move<'a>(
 }
 
 // The move of a request, by its letter.
+#[tactic(auto, unfolding(desk_arrays::specs::Moves::move_for))]
 pub fn plan_for<'a>(
     next: u64,
     number: &'a [u32; PLACES],

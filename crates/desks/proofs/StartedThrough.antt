@@ -27,11 +27,14 @@ module _ {S : Type 0} {step : Stepping S} {new : ℕ → S} where
   pub run_started : {d : S} {h : History} → StartedOn step new d h → (rs : List Request) → StartedOn step new (through step d rs) (h ++ writes step d rs)
   unfolding writes
   run_started {d} {h} s [] = rw (append-nil h) s
-  run_started {d} {h} s (r ∷ rs) = subst (StartedOn step new (through step (step d r).desk rs)) (append_assoc h (records_by step d r) (writes step (step d r).desk rs)) (run_started (one_more_lem s r) rs)
+  run_started {d} {h} s (r ∷ rs) = subst (StartedOn step new (through step (step d r).desk rs)) (append_assoc h (records_by step d r) (writes step (step d r).desk rs)) (run_started {d = (step d r).desk} {h = h ++ records_by step d r} (one_more_lem s r) rs)
 
   -- every started desk is reached in this way
   pub started_reached : {d : S} {h : History} → StartedOn step new d h → ReachedOn step new d h
-  started_reached (fresh n l u) = record { first = n; least = l; most = u; requests = []; desk = refl; history = unfold writes in refl }
+  started_reached (fresh n l u) = record { first = n; least = l; most = u; requests = []; desk = refl; history = sym (nothing_written (new n)) }
+    where
+      nothing_written : (e : S) → writes step e [] ≡ []
+      nothing_written e = unfold writes in refl
   started_reached (one_more_lem {d = d} {h = h} s r) = more (started_reached s)
     where
       one_written : (e : S) → writes step e (r ∷ []) ≡ records_by step e r

@@ -24,6 +24,7 @@ fn sized(number: [u32; PLACES]) -> bool
 }
 
 // The place of a job, or 32 if it has none; the place of job 0 is the first free place.
+#[tactic(auto, using(crate::proofs::Found::found_here, crate::proofs::Found::found_later, crate::proofs::Found::found_nowhere))]
 pub fn place_of(number: &[u32; PLACES], job: u32) -> usize
     ensures { result ≡ pos number.now job }
 {
@@ -39,6 +40,7 @@ pub fn place_of(number: &[u32; PLACES], job: u32) -> usize
 }
 
 // Begin: 7, then 6, else the next number at the first free place.
+#[tactic(auto, unfolding(crate::specs::Opening::opening_of))]
 pub fn opening_for(next: u64, number: &[u32; PLACES]) -> Opening
     ensures { result ≡ opening_of next number.now }
 {

@@ -53,6 +53,7 @@ fn code_of(l: Letter) -> u8
 }
 
 // Whether the job has ended for good: by a commit or a give-up.
+#[tactic(auto, unfolding(crate::specs::Looked::ends_job))]
 fn ends_job(code: u8) -> bool
     ensures { result ≡ ends_job code }
 {
@@ -60,6 +61,7 @@ fn ends_job(code: u8) -> bool
 }
 
 // A well-formed line, given the jobs that have committed or given up: refusal 12, then 2, then 13. A letter without a cell has cell 0 here.
+#[tactic(auto, unfolding(crate::specs::Looked::looked_good))]
 fn look_good(ended: &[bool; 256], letter: Letter, job: u32, cell: u32) -> Looked
     ensures { result ≡ looked_good ended.now letter job cell }
 {
@@ -83,6 +85,7 @@ fn look_good(ended: &[bool; 256], letter: Letter, job: u32, cell: u32) -> Looked
 }
 
 // Line n of a history, given the jobs that have committed or given up: refusal 11, then 9 with the field at fault, then those of a well-formed line.
+#[tactic(auto, unfolding(crate::specs::Looked::looked_at, crate::specs::Looked::looked_read), using(crate::proofs::Looking::look_bad, crate::proofs::Looking::look_good))]
 fn look(line: &[u8], n: usize, ended: &[bool; 256]) -> Looked
     ensures { result ≡ looked_at n ended.now (read_line of_histories line.now) }
 {
@@ -96,6 +99,7 @@ fn look(line: &[u8], n: usize, ended: &[bool; 256]) -> Looked
 }
 
 // Where a line that ends before this place ends without its newline: this place, or the newline's.
+#[tactic(auto, unfolding(crate::specs::Scanned::bare_end))]
 fn bare_end(text: &[u8], to: usize) -> usize
     requires { (0 < to) × (to ≤ length text.now) }
     ensures { result ≡ bare_end text.now to }
@@ -105,6 +109,7 @@ fn bare_end(text: &[u8], to: usize) -> usize
 }
 
 // Scans the lines of a text in order into three lent arrays, up to the first faulty line. The contract names each array's length, since a clause sees only a list.
+#[tactic(auto, using(crate::proofs::Scanning::kept_within, crate::proofs::Scanning::line_falls, crate::proofs::Scanning::line_some, crate::proofs::Scanning::line_within, crate::proofs::Scanning::scanning_done, crate::proofs::Scanning::scanning_kept, crate::proofs::Scanning::scanning_refused, crate::proofs::Scanning::scanning_starts))]
 pub fn scan(
     text: &[u8],
     codes: &mut [u8; JUDGED_LINES],

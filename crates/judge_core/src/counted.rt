@@ -16,6 +16,7 @@ pub fn place(byte: u8) -> usize
 }
 
 // Which jobs have a c among the first n lines.
+#[tactic(auto, using(crate::proofs::Marking::commits_all, crate::proofs::Marking::commits_keep, crate::proofs::Marking::commits_none, crate::proofs::Marking::commits_set))]
 pub fn committed_jobs<'a>(
     codes: &'a [u8; JUDGED_LINES],
     jobs: &'a [u8; JUDGED_LINES],
@@ -38,6 +39,7 @@ pub fn committed_jobs<'a>(
 }
 
 // For each job, the line from which its actions count: the line after its last k among the first n lines, or the first line.
+#[tactic(auto, using(crate::proofs::Marking::since_all, crate::proofs::Marking::since_keep, crate::proofs::Marking::since_none, crate::proofs::Marking::since_set))]
 pub fn counted_from<'a>(
     codes: &'a [u8; JUDGED_LINES],
     jobs: &'a [u8; JUDGED_LINES],
@@ -59,6 +61,7 @@ pub fn counted_from<'a>(
 }
 
 // The owner of line p: its job, if the line is an action that counts, else 0.
+#[tactic(auto, using(crate::proofs::Marking::owner_early, crate::proofs::Marking::owner_job, crate::proofs::Marking::owner_mark))]
 fn owner<'a>(
     codes: &'a [u8; JUDGED_LINES],
     jobs: &'a [u8; JUDGED_LINES],
@@ -79,6 +82,7 @@ fn owner<'a>(
 }
 
 // The owner of each of the first n lines.
+#[tactic(auto, using(crate::proofs::Marking::owners_all, crate::proofs::Marking::owners_none, crate::proofs::Marking::owners_set))]
 pub fn owners<'a>(
     codes: &'a [u8; JUDGED_LINES],
     jobs: &'a [u8; JUDGED_LINES],

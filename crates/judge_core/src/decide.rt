@@ -24,6 +24,7 @@ use judge_rules::verdict::Verdict;
 use terms::limits::JUDGED_LINES;
 
 // Takes away the jobs with a c among the first n lines, by the edges between them, and puts them in order; tells how many were taken.
+#[tactic(auto, using(crate::proofs::Assembled::edges_agree, crate::proofs::Assembled::known_same, crate::proofs::Assembled::none_zero, crate::proofs::Assembled::rest_same, crate::proofs::Assembled::starts_fit, crate::proofs::Assembled::starts_spaced, crate::proofs::Placing::part_is, crate::proofs::Placing::parted, crate::proofs::SameEdges::order_same, crate::proofs::Tabled::tab_length, crate::proofs::Workings::acting, crate::proofs::Workings::worked))]
 fn take_jobs<'a>(
     codes: &'a [u8; JUDGED_LINES],
     jobs: &'a [u8; JUDGED_LINES],
@@ -62,6 +63,7 @@ fn take_jobs<'a>(
 }
 
 // Puts the knot that the walk back from a job ends in into the buffer's first places.
+#[tactic(auto, using(crate::proofs::Said::knot_put, crate::proofs::Said::knot_room, crate::proofs::Said::knot_said))]
 fn knot<'a>(predecessors: &'a [usize; SLOTS], start: usize, order: &mut [u8]) -> Verdict
     requires { (start < slots) × (length (turn (walk_by predecessors.now stops [] start)) ≤ length order.old) }
     ensures value { result ≡ (say_finding order.old (knotted (turn (walk_by predecessors.now stops [] start)))).said }
@@ -76,6 +78,7 @@ fn knot<'a>(predecessors: &'a [usize; SLOTS], start: usize, order: &mut [u8]) ->
 }
 
 // The verdict on the first n lines, with its jobs in the buffer's first places. Internal to the crate: the lines are faultless, and the buffer is long enough.
+#[tactic(auto, using(crate::proofs::JobFlags::took, crate::proofs::Said::Took, crate::proofs::Said::order_room, crate::proofs::Said::put_knot, crate::proofs::Said::put_order, crate::proofs::Said::said_knot, crate::proofs::Said::said_order, crate::proofs::Said::take_within, crate::proofs::Said::took_few, crate::proofs::Said::took_knot, crate::proofs::Said::took_room))]
 pub fn decide<'a>(
     codes: &'a [u8; JUDGED_LINES],
     jobs: &'a [u8; JUDGED_LINES],

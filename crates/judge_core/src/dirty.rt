@@ -17,6 +17,7 @@ pub enum Dirt {
 }
 
 // Where a job's run ends as seen from line p, given the end as seen from the next line; 0 if the run commits.
+#[tactic(auto, unfolding(crate::specs::RunEnds::end_by))]
 fn end_by(code: u8, p: usize, later: u16) -> u16
     requires { p < judged_lines }
     ensures { result ≡ end_by code p later }
@@ -31,6 +32,7 @@ fn end_by(code: u8, p: usize, later: u16) -> u16
 }
 
 // For each of the first n lines, where its run ends, worked out from the last line back: 0 if it commits, else the line of its mark, or n.
+#[tactic(auto, using(crate::proofs::DirtyPasses::ends_all, crate::proofs::DirtyPasses::ends_more, crate::proofs::DirtyPasses::ends_none, crate::proofs::DirtyPasses::seen_more, crate::proofs::DirtyPasses::seen_none))]
 fn run_ends<'a>(
     codes: &'a [u8; JUDGED_LINES],
     jobs: &'a [u8; JUDGED_LINES],
@@ -53,6 +55,7 @@ fn run_ends<'a>(
 }
 
 // Whether a line writes or increments.
+#[tactic(auto, using(crate::proofs::DirtyPasses::change_increment, crate::proofs::DirtyPasses::change_write))]
 fn changes(code: u8) -> bool
     ensures { result ≡ changing code }
 {
@@ -63,6 +66,7 @@ fn changes(code: u8) -> bool
 }
 
 // The later of `latest` and the end of this line's run, if the line writes or increments; else `latest`.
+#[tactic(auto, unfolding(crate::specs::RunEnds::later_end))]
 fn later_end(code: u8, end: u16, latest: u16) -> u16
     ensures { result ≡ later_end code end latest }
 {
@@ -76,6 +80,7 @@ fn later_end(code: u8, end: u16, latest: u16) -> u16
 }
 
 // Whether line p is a read of a run that commits while a run that changed its cell is open, given the latest end of such runs.
+#[tactic(auto, unfolding(crate::specs::RunEnds::reads_dirt), using(crate::proofs::DirtyPasses::both))]
 fn reads_dirt(code: u8, end: u16, latest: u16, p: usize) -> bool
     requires { p < judged_lines }
     ensures { result ≡ reads_dirt code end latest p }
@@ -90,6 +95,7 @@ fn reads_dirt(code: u8, end: u16, latest: u16, p: usize) -> bool
 }
 
 // The first dirty read among the first n lines, or n; keeps for each cell the latest end of the runs that changed it.
+#[tactic(auto, using(crate::proofs::DirtyPasses::dirty_by, crate::proofs::DirtyPasses::latest_more, crate::proofs::DirtyPasses::latest_none))]
 fn first_read<'a>(
     codes: &'a [u8; JUDGED_LINES],
     cells: &'a [u8; JUDGED_LINES],
@@ -115,6 +121,7 @@ fn first_read<'a>(
 }
 
 // Whether line q changes the cell of line p, in a run that is open at p and does not commit.
+#[tactic(auto, using(crate::proofs::DirtyPasses::spoils_apart, crate::proofs::DirtyPasses::spoils_by, crate::proofs::DirtyPasses::spoils_not))]
 fn spoils<'a>(
     codes: &'a [u8; JUDGED_LINES],
     cells: &'a [u8; JUDGED_LINES],
@@ -135,6 +142,7 @@ fn spoils<'a>(
 }
 
 // The last line before p that makes a read there dirty, or p.
+#[tactic(auto, using(crate::proofs::DirtyPasses::back_all, crate::proofs::DirtyPasses::back_found, crate::proofs::DirtyPasses::back_none, crate::proofs::DirtyPasses::back_past))]
 fn last_write<'a>(
     codes: &'a [u8; JUDGED_LINES],
     cells: &'a [u8; JUDGED_LINES],
@@ -155,6 +163,7 @@ fn last_write<'a>(
 }
 
 // Reader and writer of the first dirty read of the first n lines, if any. Internal to the crate: n is at most the number of judged lines.
+#[tactic(auto, using(crate::proofs::DirtyFirst::first_dirty, crate::proofs::DirtyFirst::none_dirty))]
 pub fn first_dirty<'a>(
     codes: &'a [u8; JUDGED_LINES],
     jobs: &'a [u8; JUDGED_LINES],

@@ -14,6 +14,7 @@ use conflict::cells::{has_cell, meeting_cells};
 use terms::limits::{CELLS, JUDGED_LINES};
 
 // The kind of action of a code.
+#[tactic(auto, unfolding(crate::specs::Meeting::kind_by))]
 fn kind_of(code: u8) -> Kind
     ensures { result ≡ kind_by code }
 {
@@ -41,6 +42,7 @@ fn far(line: u16) -> usize
 }
 
 // The action on a line.
+#[tactic(auto, using(crate::proofs::Acting::action_made))]
 fn action_at<'a>(
     codes: &'a [u8; JUDGED_LINES],
     jobs: &'a [u8; JUDGED_LINES],
@@ -58,6 +60,7 @@ fn action_at<'a>(
 }
 
 // Whether no line of ys stands after a line of xs; both are in ascending order.
+#[tactic(auto, using(crate::proofs::Reaching::apart_empty, crate::proofs::Reaching::apart_order))]
 fn apart<'a>(xs: &'a [u16], ys: &'a [u16]) -> bool
     requires { Lined xs.now × Lined ys.now }
     ensures { result ≡ true → (x y : ℕ) → member x xs.now ≡ true → member y ys.now ≡ true → y ≤ x }
@@ -73,6 +76,7 @@ fn apart<'a>(xs: &'a [u16], ys: &'a [u16]) -> bool
 }
 
 // Whether job j's last action of a kind on line x's cell stands after line x and conflicts with its action.
+#[tactic(auto, using(crate::proofs::Reaching::last_early, crate::proofs::Reaching::last_late, crate::proofs::Reaching::other_made))]
 fn meets_last<'a>(
     codes: &'a [u8; JUDGED_LINES],
     jobs: &'a [u8; JUDGED_LINES],
@@ -99,6 +103,7 @@ fn meets_last<'a>(
 }
 
 // Whether line x is on a cell of the set, and job j's last action on that cell stands after it. The last action is tested first: for two jobs its outcome is mostly the same on all cells, unlike the set's.
+#[tactic(auto, using(crate::proofs::Reaching::may_early, crate::proofs::Reaching::may_nowhere, crate::proofs::Reaching::may_set))]
 fn may_meet<'a>(
     cells: &'a [u8; JUDGED_LINES],
     lasts: &'a [u16; KEYS],
@@ -123,6 +128,7 @@ fn may_meet<'a>(
 // Whether a line of xs stands before a line of ys, job j's, that it conflicts with. The search stops at the first such pair.
 // Lines of xs are tried from the last back, since a job mostly writes what it has read before. It skips lines on cells where the two jobs cannot conflict,
 // or where job j's last line stands too early. Of job j's lines on a cell, the last of each kind decides.
+#[tactic(auto, using(crate::proofs::Reaching::apart_none, crate::proofs::Reaching::passed_cell, crate::proofs::Reaching::passed_none, crate::proofs::Reaching::reach_found, crate::proofs::Reaching::reach_none, crate::proofs::Searching::meets_end, crate::proofs::Searching::meets_found, crate::proofs::Searching::meets_past, crate::proofs::Searching::meets_whole, crate::proofs::Searching::member_at))]
 fn meets<'a>(
     codes: &'a [u8; JUDGED_LINES],
     jobs: &'a [u8; JUDGED_LINES],
@@ -161,6 +167,7 @@ fn meets<'a>(
 }
 
 // Whether an action of job i stands before an action of job j that it conflicts with, given the cells on which they can conflict.
+#[tactic(auto, unfolding(crate::specs::Grouped::part_at))]
 fn parts_meet<'a>(
     codes: &'a [u8; JUDGED_LINES],
     jobs: &'a [u8; JUDGED_LINES],
@@ -193,6 +200,7 @@ fn parts_meet<'a>(
 }
 
 // Whether job i has an edge to job j, both with a c.
+#[tactic(auto, using(crate::proofs::ByParts::edge_parts, crate::proofs::ByParts::edge_self, crate::proofs::ByParts::its_mask, crate::proofs::ByParts::its_reach, crate::proofs::ByParts::masked_apart))]
 pub fn edge_between<'a>(
     codes: &'a [u8; JUDGED_LINES],
     jobs: &'a [u8; JUDGED_LINES],

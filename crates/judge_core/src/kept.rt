@@ -31,6 +31,7 @@ pub enum Found {
 }
 
 // Whether a line ends its job for good: a commit or a give-up.
+#[tactic(auto, using(crate::proofs::KeptFaults::ends_by_commit, crate::proofs::KeptFaults::ends_by_give_up))]
 fn ends_job(code: u8) -> bool
     ensures { result ≡ (eqb code 3 || eqb code 4) }
 {
@@ -41,6 +42,7 @@ fn ends_job(code: u8) -> bool
 }
 
 // Whether a line has a cell above 63; only actions have a cell.
+#[tactic(auto, using(crate::proofs::KeptFaults::its_cell, crate::proofs::KeptFaults::no_cell))]
 fn cell_above(code: u8, cell: u8) -> bool
     ensures { result ≡ (ltb code 3 && leb cells cell) }
 {
@@ -51,6 +53,7 @@ fn cell_above(code: u8, cell: u8) -> bool
 }
 
 // The fault of a line up to 4,096, given the jobs that have committed or given up: 12, then 2, then 13. A job above 255 does not fit a byte.
+#[tactic(auto, using(crate::proofs::KeptFaults::fault_above, crate::proofs::KeptFaults::fault_ended, crate::proofs::KeptFaults::fault_none, crate::proofs::KeptFaults::fault_outside))]
 fn fault_at<'a>(
     codes: &'a [u8; JUDGED_LINES],
     jobs: &'a [u8; JUDGED_LINES],
@@ -75,6 +78,7 @@ fn fault_at<'a>(
 }
 
 // Checks the first n lines in order, up to the first faulty line.
+#[tactic(auto, using(crate::proofs::Faultless::at_end, crate::proofs::Faultless::at_found, crate::proofs::Faultless::at_start, crate::proofs::Faultless::line_due, crate::proofs::Faultless::line_passed, crate::proofs::KeptFaults::fault_many, crate::proofs::KeptFaults::flags_none))]
 fn first_fault<'a>(
     codes: &'a [u8; JUDGED_LINES],
     jobs: &'a [u8; JUDGED_LINES],
@@ -106,6 +110,7 @@ fn first_fault<'a>(
 }
 
 // The verdict on the first n lines, with its jobs in the buffer's first places; dirty is told before orderly or knot. The lines are faultless, and the buffer is long enough.
+#[tactic(auto, using(crate::proofs::DirtySaid::clean_said, crate::proofs::DirtySaid::dirty_said))]
 fn judge_faultless<'a>(
     codes: &'a [u8; JUDGED_LINES],
     jobs: &'a [u8; JUDGED_LINES],
@@ -130,6 +135,7 @@ fn judge_faultless<'a>(
 }
 
 // The verdict on the first n lines, with its jobs in the buffer's first places. A short buffer gets 14; else the first faulty line decides. A refusal leaves the buffer unchanged.
+#[tactic(auto, using(crate::proofs::Faultless::lines_celled, crate::proofs::Faultless::lines_few, crate::proofs::Faultless::lines_named, crate::proofs::KeptLaws::kept_faulty, crate::proofs::KeptLaws::kept_said, crate::proofs::KeptLaws::kept_short))]
 pub fn judge_kept<'a>(
     codes: &'a [u8; JUDGED_LINES],
     jobs: &'a [u8; JUDGED_LINES],

@@ -17,6 +17,7 @@ pub struct Round {
 }
 
 // The first place at or after `at` where job j stands on the trail, or the trail's end.
+#[tactic(auto, using(crate::proofs::Trail::place_end, crate::proofs::Trail::place_here, crate::proofs::Trail::place_past))]
 fn place_of(trail: &[u8; STOPS], at: usize, j: u8) -> usize
     requires { (length trail.now ≡ stops) × (at ≤ stops) }
     ensures { result ≡ at + pos (drop at trail.now) j }
@@ -32,6 +33,7 @@ fn place_of(trail: &[u8; STOPS], at: usize, j: u8) -> usize
 }
 
 // Walks back from a job along smallest predecessors until a job comes again. Each job goes in front of the one before; the cycle is the trail from the second occurrence up to the first.
+#[tactic(auto, using(crate::proofs::Trail::walked_more, crate::proofs::Trail::walked_none, crate::proofs::Trail::walked_off, crate::proofs::Trail::walked_out, crate::proofs::Trail::walked_round))]
 pub fn walk_back<'a>(
     predecessors: &'a [usize; SLOTS],
     start: usize,
@@ -58,6 +60,7 @@ pub fn walk_back<'a>(
 }
 
 // The place of the smallest job of a round.
+#[tactic(auto, using(crate::proofs::Turning::best_keep, crate::proofs::Turning::best_next, crate::proofs::Turning::best_none, crate::proofs::Turning::best_turn))]
 fn smallest_place(round: &[u8]) -> usize
     ensures { (result ≤ length round.now) × (turn round.now ≡ drop result round.now ++ take result round.now) }
 {
@@ -73,6 +76,7 @@ fn smallest_place(round: &[u8]) -> usize
 }
 
 // Puts a part into a buffer from a place on.
+#[tactic(auto, using(crate::proofs::Putting::pasted_all, crate::proofs::Putting::pasted_length, crate::proofs::Putting::pasted_more, crate::proofs::Putting::pasted_none))]
 pub fn put(buffer: &mut [u8], at: usize, part: &[u8])
     requires { at + length part.now ≤ length buffer.old }
     ensures { buffer.new ≡ put_in buffer.old at part.now }
@@ -85,6 +89,7 @@ pub fn put(buffer: &mut [u8], at: usize, part: &[u8])
 }
 
 // Puts a round into the first places of a buffer, starting at its smallest job.
+#[tactic(auto, using(crate::proofs::Putting::put_turned))]
 pub fn put_turned(buffer: &mut [u8], round: &[u8])
     requires { length round.now ≤ length buffer.old }
     ensures { buffer.new ≡ filled (turn round.now) buffer.old }

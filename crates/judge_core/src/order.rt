@@ -15,6 +15,7 @@ use terms::limits::JUDGED_LINES;
 pub const NOBODY: usize = SLOTS;
 
 // The smallest remaining job at or above `from` that has an edge to job j. If `from` itself remains, it is known to have an edge, and nothing is searched.
+#[tactic(auto, unfolding(crate::specs::Preceding::predecessor_from), using(crate::proofs::Seeking::left_not_0, crate::proofs::Seeking::seek_found, crate::proofs::Seeking::seek_gone, crate::proofs::Seeking::seek_none, crate::proofs::Seeking::seek_past))]
 fn predecessor_from<'a>(
     codes: &'a [u8; JUDGED_LINES],
     jobs: &'a [u8; JUDGED_LINES],
@@ -46,6 +47,7 @@ fn predecessor_from<'a>(
 
 // The smallest remaining job without a remaining predecessor. A job whose smallest predecessor is gone searches on from there: smaller jobs are gone too, or have no edge to it.
 // So no pair of jobs is searched twice.
+#[tactic(auto, using(crate::proofs::Predecessors::passed_all, crate::proofs::Predecessors::passed_more, crate::proofs::Predecessors::passed_none, crate::proofs::Predecessors::passed_ready, crate::proofs::Predecessors::passed_skip, crate::proofs::Seeking::left_not_0))]
 fn ready_job<'a>(
     codes: &'a [u8; JUDGED_LINES],
     jobs: &'a [u8; JUDGED_LINES],
@@ -87,6 +89,7 @@ fn ready_job<'a>(
 }
 
 // Takes away remaining jobs while one is ready, and puts them in order; tells how many. At the end the smallest predecessor of each remaining job is known.
+#[tactic(auto, using(crate::proofs::Predecessors::never_left, crate::proofs::Predecessors::preceding_less, crate::proofs::Predecessors::preceding_none, crate::proofs::TakingAway::going_count, crate::proofs::TakingAway::going_fewer, crate::proofs::TakingAway::going_fits, crate::proofs::TakingAway::going_more, crate::proofs::TakingAway::going_none, crate::proofs::TakingAway::going_order, crate::proofs::TakingAway::going_rest))]
 pub fn take_away<'a>(
     codes: &'a [u8; JUDGED_LINES],
     jobs: &'a [u8; JUDGED_LINES],
@@ -128,6 +131,7 @@ pub fn take_away<'a>(
 }
 
 // The smallest remaining job.
+#[tactic(auto, using(crate::proofs::Seeking::seek_found, crate::proofs::Seeking::seek_gone, crate::proofs::Seeking::seek_none, crate::proofs::Seeking::seek_start))]
 pub fn smallest_left(left: &[bool; SLOTS]) -> usize
     ensures { result ≡ or_nobody (first (λ j. true) (left_of left.now)) }
 {

@@ -22,6 +22,7 @@ fn set_key(j: usize, kind: u8) -> usize
 }
 
 // For each job and kind, the cells of the lines that the job owns among the first n.
+#[tactic(auto, using(crate::proofs::Covering::covered_all, crate::proofs::Covering::covered_keep, crate::proofs::Covering::covered_more, crate::proofs::Covering::covered_none))]
 pub fn cells_of<'a>(
     codes: &'a [u8; JUDGED_LINES],
     cells: &'a [u8; JUDGED_LINES],
@@ -45,6 +46,7 @@ pub fn cells_of<'a>(
 }
 
 // The sets of one job.
+#[tactic(auto, using(crate::proofs::Covering::touched_is))]
 pub fn touched(sets: &[u64; KIND_SETS], j: usize) -> Touched
     requires { j < slots }
     ensures { result ≡ touched_at sets.now j }
@@ -68,6 +70,7 @@ pub fn last_key(j: usize, kind: u8, cell: u8) -> usize
 }
 
 // One more than each job's last line of each kind (and of any kind) on each cell, among the first n lines; 0 if there is none.
+#[tactic(auto, using(crate::proofs::Covering::lasts_all, crate::proofs::Covering::lasts_any, crate::proofs::Covering::lasts_keep, crate::proofs::Covering::lasts_more, crate::proofs::Covering::lasts_none))]
 pub fn last_lines<'a>(
     codes: &'a [u8; JUDGED_LINES],
     jobs: &'a [u8; JUDGED_LINES],

@@ -61,6 +61,7 @@ pub struct Finished {
 
 impl Clerk {
     // A clerk that has seen no byte; each desk is started at 1.
+    #[tactic(auto, unfolding(crate::specs::Work::started_clerk, crate::specs::Desks::new_desks), using(desk_arrays::proofs::Starting::desk_first, stamp_arrays::proofs::Starting::stamps_first))]
     pub fn started(method: Method) -> Clerk
         ensures { result ≡ started_clerk method }
     {

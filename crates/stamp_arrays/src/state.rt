@@ -38,6 +38,7 @@ pub enum Start {
 
 impl Stamps {
     // A desk whose places are all free and whose cells' numbers are 0, with this next number.
+    #[tactic(auto, unfolding(crate::specs::Steps::empty_stamps))]
     fn empty(first: u32) -> Stamps
         ensures { result ≡ empty_stamps first }
     {
@@ -50,6 +51,7 @@ impl Stamps {
     }
 
     // The desk started at this first number; 0 is refused, with no desk (01, refusal 10).
+    #[tactic(auto, unfolding(crate::specs::Steps::start_of), using(crate::proofs::state::Stamps::empty::Symbol::name, laws::proofs::Walking::fails, laws::proofs::Walking::holds, laws::proofs::Walking::placed))]
     pub fn start(first: u32) -> Start
         ensures { result ≡ start_of first }
     {
@@ -60,6 +62,7 @@ impl Stamps {
     }
 
     // The desk started at 1, the smallest first number; this never fails.
+    #[tactic(auto, unfolding(crate::specs::Steps::start_of))]
     pub fn first() -> Stamps
         ensures { Ready result ≡ start_of 1 }
     {

@@ -21,6 +21,7 @@ fn late_to_write(reader: u32, writer: u32, job: u32) -> bool
 }
 
 // Whether a job's request is too late, by the cell's two numbers; equal numbers go. An increment is late exactly when a write is.
+#[tactic(auto, unfolding(stamp_arrays::specs::Steps::late_with, stamp_rules::specs::Rules::late, stamp_rules::specs::Rules::late_to_read), using(crate::proofs::Late::late_increment, crate::proofs::Late::late_write))]
 fn is_late(reader: u32, writer: u32, job: u32, a: Ask) -> bool
     ensures { result ≡ late_with reader writer job a }
 {
@@ -33,6 +34,7 @@ fn is_late(reader: u32, writer: u32, job: u32, a: Ask) -> bool
 }
 
 // Begin: refusal 7, then 6, else the next number at the first free place.
+#[tactic(auto, unfolding(stamp_arrays::specs::Steps::opened, stamp_arrays::specs::Steps::begin_move))]
 fn begin_move(next: u64, number: &[u32; PLACES]) -> Move
     ensures { result ≡ begin_move next number.now }
 {
@@ -43,6 +45,7 @@ fn begin_move(next: u64, number: &[u32; PLACES]) -> Move
 }
 
 // Where a job stands; nowhere, for 0 and for a number at no place.
+#[tactic(auto, unfolding(stamp_arrays::specs::Steps::found_at))]
 fn find(number: &[u32; PLACES], job: u32) -> Found
     ensures { result ≡ found_at number.now job }
 {
@@ -57,6 +60,7 @@ fn find(number: &[u32; PLACES], job: u32) -> Found
 }
 
 // Commit and give-up: refusal 3, else the job is closed.
+#[tactic(auto, unfolding(stamp_arrays::specs::Steps::close_move))]
 fn close_move(f: Found) -> Move
     ensures { result ≡ close_move f }
 {
@@ -67,6 +71,7 @@ fn close_move(f: Found) -> Move
 }
 
 // Retry: refusal 3, else 19.
+#[tactic(auto, unfolding(stamp_arrays::specs::Steps::retry_move))]
 fn retry_move(f: Found) -> Move
     ensures { result ≡ retry_move f }
 {
@@ -77,6 +82,7 @@ fn retry_move(f: Found) -> Move
 }
 
 // Read, write, increment and u of an open job: refusal 2, then sent back if late, else the job acts.
+#[tactic(auto, unfolding(stamp_arrays::specs::Steps::act_move))]
 fn act_move<'a>(
     reader: &'a [u32; ROWS],
     writer: &'a [u32; ROWS],
@@ -98,6 +104,7 @@ fn act_move<'a>(
 }
 
 // Read, write, increment and u: refusal 3, then what an open job gets.
+#[tactic(auto, unfolding(stamp_arrays::specs::Steps::ask_move))]
 fn ask_move<'a>(
     reader: &'a [u32; ROWS],
     writer: &'a [u32; ROWS],
@@ -115,6 +122,7 @@ fn ask_move<'a>(
 }
 
 // The move of a request, by its letter.
+#[tactic(auto, unfolding(stamp_arrays::specs::Steps::move_for))]
 pub fn plan_for<'a>(
     next: u64,
     number: &'a [u32; PLACES],

@@ -22,6 +22,7 @@ fn sized(number: [u32; PLACES], reader: [u32; ROWS], writer: [u32; ROWS]) -> boo
 }
 
 // The larger of two numbers.
+#[tactic(auto, unfolding(laws::specs::Larger::larger))]
 fn larger_of(m: u32, n: u32) -> u32
     ensures { result ≡ larger m n }
 {
@@ -40,6 +41,7 @@ fn mark_read(reader: &mut [u32; ROWS], c: usize, job: u32)
 }
 
 // Updates the reader numbers after a job has acted on the cell.
+#[tactic(auto, unfolding(stamp_arrays::specs::Steps::readers_after))]
 fn mark_reader(reader: &mut [u32; ROWS], c: usize, job: u32, a: Ask)
     requires { c < cells }
     ensures { reader.new ≡ readers_after reader.old c job a }
@@ -53,6 +55,7 @@ fn mark_reader(reader: &mut [u32; ROWS], c: usize, job: u32, a: Ask)
 }
 
 // Updates the writer numbers after a job has acted on the cell.
+#[tactic(auto, unfolding(stamp_arrays::specs::Steps::writers_after))]
 fn mark_writer(writer: &mut [u32; ROWS], c: usize, job: u32, a: Ask)
     requires { c < cells }
     ensures { writer.new ≡ writers_after writer.old c job a }
@@ -70,6 +73,7 @@ fn mark_writer(writer: &mut [u32; ROWS], c: usize, job: u32, a: Ask)
 }
 
 // One step by letter, job and cell, on the desk's fields, each lent and changed in place.
+#[tactic(auto, using(crate::proofs::Performed::act_cell, crate::proofs::Performed::acted, crate::proofs::Performed::back_at, crate::proofs::Performed::back_place, crate::proofs::Performed::begin_place, crate::proofs::Performed::begun_at, crate::proofs::Performed::close_place, crate::proofs::Performed::closed_at, crate::proofs::Performed::refused, terms::proofs::Alphabet::letter_of_byte))]
 pub fn step_for(
     next: &mut u64,
     number: &mut [u32; PLACES],
@@ -108,6 +112,7 @@ pub fn step_for(
 }
 
 // The same by a byte; a byte of no letter is refused.
+#[tactic(auto, using(crate::proofs::Performed::by_letter, crate::proofs::Performed::refused_byte))]
 pub fn step_on(
     next: &mut u64,
     number: &mut [u32; PLACES],
@@ -126,6 +131,7 @@ pub fn step_on(
 }
 
 // The same by value: takes the desk, and returns the new desk and the answer.
+#[tactic(auto, using(crate::proofs::Performed::step_whole))]
 pub fn step(d: Stamps, kind: u8, job: u32, cell: u32) -> Stamped
     ensures { result ≡ step_of d kind job cell }
 {

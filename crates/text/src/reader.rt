@@ -13,6 +13,7 @@ use text_rules::{Numeral, Reading};
 const LAST_CELL: u32 = 99;
 
 // Whether a byte is a digit.
+#[tactic(auto, unfolding(text_rules::specs::Lines::is_digit))]
 fn is_digit(byte: u8) -> bool
     ensures { result ≡ is_digit byte }
 {
@@ -20,6 +21,7 @@ fn is_digit(byte: u8) -> bool
 }
 
 // Whether the byte ends a field: a tab or a newline.
+#[tactic(auto, unfolding(text_rules::specs::Lines::parts))]
 fn ends_field(byte: u8) -> bool
     ensures { result ≡ parts byte }
 {
@@ -27,6 +29,7 @@ fn ends_field(byte: u8) -> bool
 }
 
 // Whether a field ends just before this place: a tab, a newline or the end of the line is there.
+#[tactic(auto, using(text_rules::proofs::Places::end_placed))]
 fn end_ahead(line: &[u8], at: usize) -> bool
     ensures { result ≡ end_ahead (drop at line.now) }
 {
@@ -38,6 +41,7 @@ fn end_ahead(line: &[u8], at: usize) -> bool
 }
 
 // Whether there is a digit at this place.
+#[tactic(auto, using(text_rules::proofs::Places::digit_placed))]
 fn digit_ahead(line: &[u8], at: usize) -> bool
     ensures { result ≡ digit_ahead (drop at line.now) }
 {
@@ -49,6 +53,7 @@ fn digit_ahead(line: &[u8], at: usize) -> bool
 }
 
 // Whether there is a digit at this place, and no leading zero except the single 0.
+#[tactic(auto, using(text_rules::proofs::Places::shortest_placed, text_rules::proofs::Places::turned))]
 fn shortest_at(line: &[u8], from: usize) -> bool
     ensures { result ≡ shortest (digits_of (drop from line.now)) }
 {
@@ -65,6 +70,7 @@ fn shortest_at(line: &[u8], from: usize) -> bool
 }
 
 // The number that the digits from this place on spell, if they fill their field; stops as soon as the number is above `most`.
+#[tactic(auto, using(text_rules::proofs::Digits::digit_bounds, text_rules::proofs::Digits::digits_over, text_rules::proofs::Digits::more_here, text_rules::proofs::Digits::stop_here, text_rules::proofs::Digits::stop_past, text_rules::proofs::Digits::torn_here))]
 fn digits_at(line: &[u8], from: usize, most: u32) -> Numeral
     ensures { result ≡ digits_at most 0 from (drop from line.now) }
 {
@@ -89,6 +95,7 @@ fn digits_at(line: &[u8], from: usize, most: u32) -> Numeral
 }
 
 // The number field at this place: a tab, then digits of a number up to `most`, and nothing else.
+#[tactic(auto, using(text_rules::proofs::Places::number_placed))]
 fn number_at(line: &[u8], from: usize, most: u32) -> Numeral
     ensures { result ≡ number_at most from (drop from line.now) }
 {
@@ -104,6 +111,7 @@ fn number_at(line: &[u8], from: usize, most: u32) -> Numeral
 }
 
 // The reading `good`, if exactly one newline is left of the line.
+#[tactic(auto, using(text_rules::proofs::Places::ending_placed))]
 fn ending_at(line: &[u8], from: usize, good: Reading) -> Reading
     ensures { result ≡ ending (drop from line.now) good }
 {
@@ -120,6 +128,7 @@ fn ending_at(line: &[u8], from: usize, good: Reading) -> Reading
 }
 
 // The rest of a line after letter and job: the cell, if the letter has one, and the end.
+#[tactic(auto, using(crate::proofs::LineParts::cell_missing, crate::proofs::LineParts::cell_none, crate::proofs::LineParts::cell_read))]
 fn cell_part(line: &[u8], from: usize, letter: Letter, job: u32) -> Reading
     ensures { result ≡ cell_part letter job (drop from line.now) }
 {
@@ -150,6 +159,7 @@ fn cell_part(line: &[u8], from: usize, letter: Letter, job: u32) -> Reading
 }
 
 // The rest of a line after its letter: the job, if the letter has one, and what follows.
+#[tactic(auto, using(crate::proofs::LineParts::job_missing, crate::proofs::LineParts::job_none, crate::proofs::LineParts::job_read))]
 fn job_part(line: &[u8], letter: Letter) -> Reading
     ensures { result ≡ job_part letter (drop 1 line.now) }
 {
@@ -164,6 +174,7 @@ fn job_part(line: &[u8], letter: Letter) -> Reading
 }
 
 // The line's first letter, if its field ends right after it.
+#[tactic(auto, using(text_rules::proofs::Places::letter_placed))]
 fn first_letter(line: &[u8]) -> Lettered
     ensures { result ≡ first_letter line.now }
 {
@@ -176,6 +187,7 @@ fn first_letter(line: &[u8]) -> Lettered
 }
 
 // What a request line says.
+#[tactic(auto, using(crate::proofs::LineParts::line_other, crate::proofs::LineParts::line_read, crate::proofs::LineParts::line_unknown))]
 pub fn read_request(line: &[u8]) -> Reading
     ensures { result ≡ read_line of_requests line.now }
 {
@@ -192,6 +204,7 @@ pub fn read_request(line: &[u8]) -> Reading
 }
 
 // What a history line says.
+#[tactic(auto, using(crate::proofs::LineParts::line_other, crate::proofs::LineParts::line_read, crate::proofs::LineParts::line_unknown))]
 pub fn read_history(line: &[u8]) -> Reading
     ensures { result ≡ read_line of_histories line.now }
 {
@@ -208,6 +221,7 @@ pub fn read_history(line: &[u8]) -> Reading
 }
 
 // The field at fault after letter and job, for a line without its newline: the cell, if the letter has one and it is bad, else the end.
+#[tactic(auto, using(crate::proofs::TornLines::cell_lacks, crate::proofs::TornLines::cell_torn, crate::proofs::TornLines::cell_unasked))]
 fn torn_cell(line: &[u8], from: usize, letter: Letter) -> Field
     ensures { result ≡ lacking (cell_part letter 0 (drop from line.now)) }
 {
@@ -222,6 +236,7 @@ fn torn_cell(line: &[u8], from: usize, letter: Letter) -> Field
 }
 
 // The same after the letter: the job, if the letter has one and it is bad, else what follows.
+#[tactic(auto, using(crate::proofs::TornLines::job_lacks, crate::proofs::TornLines::job_torn, crate::proofs::TornLines::job_unasked))]
 fn torn_job(line: &[u8], letter: Letter) -> Field
     ensures { result ≡ lacking (job_part letter (drop 1 line.now)) }
 {
@@ -236,6 +251,7 @@ fn torn_job(line: &[u8], letter: Letter) -> Field
 }
 
 // The field at fault of a request line that has no newline.
+#[tactic(auto, using(crate::proofs::TornLines::line_torn, crate::proofs::TornLines::other_torn, crate::proofs::TornLines::unknown_torn))]
 pub fn torn_request(line: &[u8]) -> Field
     ensures { result ≡ lacking (read_line of_requests line.now) }
 {

@@ -12,6 +12,7 @@ use terms::{Letter, Refusal, Word, byte_of, has_cell, has_job, spelled};
 use text_rules::Written;
 
 // How many digits a number has in shortest decimal: four at a time, then the few that are left.
+#[tactic(auto, using(text_rules::proofs::DigitLaws::counting_first, text_rules::proofs::DigitLaws::counting_four, text_rules::proofs::DigitLaws::counting_last, text_rules::proofs::DigitLaws::counting_next, text_rules::proofs::DigitLaws::counting_three, text_rules::proofs::DigitLaws::counting_two))]
 pub fn width(n: u64) -> usize
     ensures { result ≡ length (decimal n) }
 {
@@ -34,6 +35,7 @@ pub fn width(n: u64) -> usize
 }
 
 // How many bytes a further field takes: a tab and the number, if the field is there.
+#[tactic(auto, using(text_rules::proofs::DigitLaws::decimal_at_most_20, text_rules::proofs::FieldLaws::field_length, text_rules::proofs::FieldLaws::no_field_length))]
 fn field_width(there: bool, n: u64) -> usize
     ensures { result ≡ length (field there n) }
 {
@@ -41,6 +43,7 @@ fn field_width(there: bool, n: u64) -> usize
 }
 
 // Whether `len` bytes fit from place `at` on; no sum here can wrap.
+#[tactic(auto, using(text_rules::proofs::RoomLaws::no_room_past, text_rules::proofs::RoomLaws::room_left))]
 pub fn has_room(room: usize, at: usize, len: usize) -> bool
     ensures { result ≡ leb (at + len) room }
 {
@@ -48,6 +51,7 @@ pub fn has_room(room: usize, at: usize, len: usize) -> bool
 }
 
 // Writes one byte.
+#[tactic(auto, using(text_rules::proofs::WroteLaws::wrote_byte, text_rules::proofs::WroteLaws::wrote_none))]
 fn put_byte(part: &mut [u8], byte: u8) -> usize
     requires { 1 ≤ length part.old }
     ensures { Wrote 0 result (byte ∷ []) part.old part.new }
@@ -57,6 +61,7 @@ fn put_byte(part: &mut [u8], byte: u8) -> usize
 }
 
 // Writes a number of this many digits, from its last digit to its first.
+#[tactic(auto, using(text_rules::proofs::DigitLaws::all_to_write, text_rules::proofs::DigitLaws::none_to_write, text_rules::proofs::DigitLaws::one_more_lem))]
 fn put_number(part: &mut [u8], n: u64, digits: usize) -> usize
     requires { (digits ≡ length (decimal n)) × (digits ≤ length part.old) }
     ensures { Wrote 0 result (decimal n) part.old part.new }
@@ -72,6 +77,7 @@ fn put_number(part: &mut [u8], n: u64, digits: usize) -> usize
 }
 
 // Writes a further field, `len` bytes long: a tab and the number, if the field is there.
+#[tactic(auto, using(text_rules::proofs::DigitLaws::decimal_at_most_20, text_rules::proofs::FieldLaws::field_length, text_rules::proofs::FieldLaws::field_none, text_rules::proofs::FieldLaws::field_there, text_rules::proofs::WroteLaws::lent_fits, text_rules::proofs::WroteLaws::wrote_byte, text_rules::proofs::WroteLaws::wrote_length, text_rules::proofs::WroteLaws::wrote_more, text_rules::proofs::WroteLaws::wrote_none))]
 fn put_field(part: &mut [u8], there: bool, n: u64, len: usize) -> usize
     requires { (len ≡ length (field there n)) × (len ≤ length part.old) }
     ensures { Wrote 0 result (field there n) part.old part.new }
@@ -85,6 +91,7 @@ fn put_field(part: &mut [u8], there: bool, n: u64, len: usize) -> usize
 }
 
 // Writes a word.
+#[tactic(auto, using(crate::proofs::WordLaws::copying_all, crate::proofs::WordLaws::copying_more, crate::proofs::WordLaws::copying_none))]
 fn put_word(part: &mut [u8], word: Word) -> usize
     requires { length (spelt word) ≤ length part.old }
     ensures { Wrote 0 result (spelt word) part.old part.new }
@@ -101,6 +108,7 @@ fn put_word(part: &mut [u8], word: Word) -> usize
 }
 
 // Writes a word as a further field: a tab and the word.
+#[tactic(auto, using(text_rules::proofs::WroteLaws::wrote_more))]
 fn put_second(part: &mut [u8], word: Word) -> usize
     requires { length (spelt word) < length part.old }
     ensures { Wrote 0 result (tab ∷ spelt word) part.old part.new }
@@ -110,6 +118,7 @@ fn put_second(part: &mut [u8], word: Word) -> usize
 }
 
 // Writes the last field, if it is there, and the newline that ends the record.
+#[tactic(auto, using(text_rules::proofs::WroteLaws::wrote_byte))]
 fn put_last(part: &mut [u8], there: bool, n: u64, len: usize) -> usize
     requires { (len ≡ length (field there n)) × (len < length part.old) }
     ensures { Wrote 0 result (field there n ++ newline ∷ []) part.old part.new }
@@ -120,6 +129,7 @@ fn put_last(part: &mut [u8], there: bool, n: u64, len: usize) -> usize
 }
 
 // Writes an answer record whose first, third and fourth fields have known lengths: each field goes into the part after the one before.
+#[tactic(auto, using(text_rules::proofs::FieldLaws::answer_is, text_rules::proofs::Length::answer_length, text_rules::proofs::WroteLaws::lent_fits, text_rules::proofs::WroteLaws::wrote_more))]
 fn put_answer(
     part: &mut [u8],
     line: u64,
@@ -140,6 +150,7 @@ fn put_answer(
 }
 
 // Writes the line of a letter whose second and third fields have known lengths: each field goes into the part after the one before.
+#[tactic(auto, using(text_rules::proofs::FieldLaws::line_is, text_rules::proofs::Length::line_length, text_rules::proofs::WroteLaws::lent_fits, text_rules::proofs::WroteLaws::wrote_as, text_rules::proofs::WroteLaws::wrote_more))]
 fn put_line(
     part: &mut [u8],
     letter: Letter,
@@ -157,6 +168,7 @@ fn put_line(
 }
 
 // Writes an answer record: request line number, word, number, and one field more if the fourth number is not 0.
+#[tactic(auto, using(crate::proofs::WordLaws::spelling_length, crate::proofs::WordLaws::word_at_most_7, text_rules::proofs::DigitLaws::decimal_at_most_20, text_rules::proofs::FieldLaws::field_at_most_21, text_rules::proofs::Length::answer_length, text_rules::proofs::RoomLaws::no_room_for, text_rules::proofs::RoomLaws::refused, text_rules::proofs::RoomLaws::room_for, text_rules::proofs::RoomLaws::written, text_rules::proofs::WroteLaws::lent_fits, text_rules::proofs::WroteLaws::wrote_more, text_rules::proofs::WroteLaws::wrote_none))]
 pub fn write_answer(
     buf: &mut [u8],
     at: usize,
@@ -191,6 +203,7 @@ pub fn write_answer(
 }
 
 // Writes the line of a letter with the fields that it has: a history record, or a request.
+#[tactic(auto, using(text_rules::proofs::FieldLaws::field_at_most_21, text_rules::proofs::Length::line_length, text_rules::proofs::RoomLaws::no_room_for, text_rules::proofs::RoomLaws::refused, text_rules::proofs::RoomLaws::room_for, text_rules::proofs::RoomLaws::written, text_rules::proofs::WroteLaws::lent_fits, text_rules::proofs::WroteLaws::wrote_more, text_rules::proofs::WroteLaws::wrote_none))]
 pub fn write_line(buf: &mut [u8], at: usize, letter: Letter, job: u64, cell: u64) -> Written
     ensures { (result ≡ told buf.old at (line_record letter job cell)) × (buf.new ≡ left buf.old at (line_record letter job cell)) }
 {
@@ -206,6 +219,7 @@ pub fn write_line(buf: &mut [u8], at: usize, letter: Letter, job: u64, cell: u64
 }
 
 // Writes a word alone: the start of a verdict line.
+#[tactic(auto, using(crate::proofs::WordLaws::spelling_length, text_rules::proofs::RoomLaws::no_room_for, text_rules::proofs::RoomLaws::refused, text_rules::proofs::RoomLaws::room_for, text_rules::proofs::RoomLaws::written, text_rules::proofs::WroteLaws::lent_fits, text_rules::proofs::WroteLaws::wrote_more, text_rules::proofs::WroteLaws::wrote_none))]
 pub fn write_word(buf: &mut [u8], at: usize, word: Word) -> Written
     ensures { (result ≡ told buf.old at (spelt word)) × (buf.new ≡ left buf.old at (spelt word)) }
 {
@@ -221,6 +235,7 @@ pub fn write_word(buf: &mut [u8], at: usize, word: Word) -> Written
 }
 
 // Writes a number alone, in shortest decimal: the start of a line of jobs.
+#[tactic(auto, using(text_rules::proofs::RoomLaws::no_room_for, text_rules::proofs::RoomLaws::refused, text_rules::proofs::RoomLaws::room_for, text_rules::proofs::RoomLaws::written, text_rules::proofs::WroteLaws::lent_fits, text_rules::proofs::WroteLaws::wrote_more, text_rules::proofs::WroteLaws::wrote_none))]
 pub fn write_number(buf: &mut [u8], at: usize, n: u64) -> Written
     ensures { (result ≡ told buf.old at (decimal n)) × (buf.new ≡ left buf.old at (decimal n)) }
 {
@@ -235,6 +250,7 @@ pub fn write_number(buf: &mut [u8], at: usize, n: u64) -> Written
 }
 
 // Writes a further field alone: a tab and the number.
+#[tactic(auto, using(text_rules::proofs::FieldLaws::field_there, text_rules::proofs::RoomLaws::no_room_for, text_rules::proofs::RoomLaws::refused, text_rules::proofs::RoomLaws::room_for, text_rules::proofs::RoomLaws::written, text_rules::proofs::WroteLaws::lent_fits, text_rules::proofs::WroteLaws::wrote_as, text_rules::proofs::WroteLaws::wrote_more, text_rules::proofs::WroteLaws::wrote_none))]
 pub fn write_field(buf: &mut [u8], at: usize, n: u64) -> Written
     ensures { (result ≡ told buf.old at (tab ∷ decimal n)) × (buf.new ≡ left buf.old at (tab ∷ decimal n)) }
 {
@@ -249,6 +265,7 @@ pub fn write_field(buf: &mut [u8], at: usize, n: u64) -> Written
 }
 
 // Writes the newline that ends a line.
+#[tactic(auto, using(text_rules::proofs::RoomLaws::no_room_for, text_rules::proofs::RoomLaws::refused, text_rules::proofs::RoomLaws::room_for, text_rules::proofs::RoomLaws::written, text_rules::proofs::WroteLaws::lent_fits, text_rules::proofs::WroteLaws::wrote_more, text_rules::proofs::WroteLaws::wrote_none))]
 pub fn write_end(buf: &mut [u8], at: usize) -> Written
     ensures { (result ≡ told buf.old at (newline ∷ [])) × (buf.new ≡ left buf.old at (newline ∷ [])) }
 {

@@ -25,6 +25,7 @@ pub struct Cut {
 }
 
 // The place after the line that starts at a place of a text: after its newline, or at the text's end if it has none. A place past the end stays.
+#[tactic(auto, using(crate::proofs::Scan::end_at_end, crate::proofs::Scan::end_at_newline, crate::proofs::Scan::end_past))]
 pub fn line_end(text: &[u8], from: usize) -> usize
     ensures { result ≡ from + used (drop from text.now) }
 {
@@ -39,6 +40,7 @@ pub fn line_end(text: &[u8], from: usize) -> usize
 }
 
 // The number after a line's.
+#[tactic(auto, unfolding(crate::specs::Split::following))]
 fn next_line(line: u64) -> u64
     ensures { result ≡ following line }
 {
@@ -57,6 +59,7 @@ fn room(len: usize, n: usize) -> usize
 }
 
 // The kept bytes with the first n of a part put in from place len on.
+#[tactic(auto, using(crate::proofs::Keeping::stored_all, crate::proofs::Keeping::stored_more))]
 fn filled(bytes: [u8; KEPT], len: usize, part: &[u8], n: usize) -> [u8; KEPT]
     requires { (n ≤ length part.now) × (n ≤ kept - len) }
     ensures { result ≡ sets bytes len (take n part.now) }
@@ -71,6 +74,7 @@ fn filled(bytes: [u8; KEPT], len: usize, part: &[u8], n: usize) -> [u8; KEPT]
 }
 
 // A line under way with len bytes kept, after a part of it; the part may end the line.
+#[tactic(auto, using(crate::proofs::Keeping::grown_is))]
 fn grown(bytes: [u8; KEPT], len: usize, line: u64, part: &[u8]) -> Splitter
     requires { (0 < length part.now) × (used part.now ≡ length part.now) }
     ensures { result ≡ through (under_way bytes len line) part.now }
@@ -88,6 +92,7 @@ fn grown(bytes: [u8; KEPT], len: usize, line: u64, part: &[u8]) -> Splitter
 
 impl Splitter {
     // A splitter that has seen no byte.
+    #[tactic(auto, unfolding(crate::specs::Split::fresh))]
     pub fn started() -> Self
         ensures { result ≡ fresh }
     {
@@ -100,6 +105,7 @@ impl Splitter {
     }
 
     // The splitter after a chunk's bytes from a place up to and including the next newline, and the place after them.
+    #[tactic(auto, using(crate::proofs::Cutting::cut_new, crate::proofs::Cutting::cut_none, crate::proofs::Cutting::cut_on, crate::proofs::Cutting::cut_part, crate::proofs::Cutting::cut_within))]
     pub fn cut(self, chunk: &[u8], from: usize) -> Cut
         ensures { result ≡ cut_of self chunk.now from }
     {

@@ -62,6 +62,7 @@ fn put_mark() {
 }
 
 // Writes the verdict's line.
+#[tactic(auto, using(text_rules::proofs::WriterLaws::next_told))]
 fn put_verdict(said: Verdict, order: &[u8; ORDER_PLACES]) {
     let mut out = io::buffer();
     match write_verdict(said, order, &mut out) {

@@ -20,6 +20,7 @@ struct Progress {
 }
 
 // Writes an answer record, if there is one; returns the place after it. A record that does not fit is left out.
+#[tactic(auto, using(text::proofs::Placed::placed))]
 fn answer(
     out: &mut [u8],
     at: usize,
@@ -74,6 +75,7 @@ fn request(out: &mut [u8], at: usize, line: u64, bytes: &[u8]) -> usize
 }
 
 // Writes a good history line as a history record.
+#[tactic(auto, using(text::proofs::Placed::placed))]
 fn good_history(out: &mut [u8], at: usize, letter: Letter, job: u32, cell: u32) -> usize
     requires { at ≤ length out.old }
     ensures { result ≤ length out.new }
@@ -141,6 +143,7 @@ fn report(s: Splitter, out: &mut [u8], at: usize) -> usize
 }
 
 // Writes the records of the lines that end in a chunk. Every cut is looked at once.
+#[tactic(auto, using(crate::proofs::Advance::moves_on, crate::proofs::Advance::stays_sized))]
 fn report_chunk(before: Progress, chunk: &[u8], out: &mut [u8]) -> Progress
     requires { (Sized before.splitter) × (before.at ≤ length out.old) }
     ensures { (Sized result.splitter) × (result.at ≤ length out.new) }
@@ -172,6 +175,7 @@ fn finish(last: Progress, out: &mut [u8])
 }
 
 // Reads chunk after chunk. Nothing guarantees that the input ends, so the loop counts down from more turns than any run uses.
+#[tactic(auto, using(text_rules::proofs::Held::fresh_sized))]
 fn report_all(input: &mut [u8], out: &mut [u8]) {
     let mut progress = Progress {
         splitter: Splitter::started(),

@@ -16,6 +16,7 @@ pub struct Answered {
 }
 
 // The number of an answer's word.
+#[tactic(auto, unfolding(desks::specs::AnswerWords::word_of))]
 fn word_number(a: Answer) -> u32
     ensures { result ≡ word_number (word_of a) }
 {
@@ -28,6 +29,7 @@ fn word_number(a: Answer) -> u32
 }
 
 // The number beside it.
+#[tactic(auto, unfolding(desks::specs::AnswerWords::number_beside))]
 fn number_beside(a: Answer) -> u32
     ensures { result ≡ number_beside a }
 {
@@ -40,6 +42,7 @@ fn number_beside(a: Answer) -> u32
 }
 
 // An answer with this many wakes.
+#[tactic(auto, unfolding(crate::specs::Numbers::in_three))]
 pub fn in_three(a: Answer, wakes: usize) -> Answered
     ensures { result ≡ in_three a wakes }
 {

@@ -29,6 +29,7 @@ pub struct ChainSaid {
 }
 
 // The byte of the letter that the history has for a woken job's action.
+#[tactic(auto, unfolding(crate::specs::Desks::kind_byte, text_rules::specs::EventRecords::ask_by))]
 fn kind_byte(k: Kind) -> u8
     ensures { result ≡ kind_byte k }
 {
@@ -47,6 +48,7 @@ fn sized(jobs: [u32; PLACES], cells: [u32; PLACES], kinds: [u8; PLACES]) -> bool
 }
 
 // Writes the wakes of the places woken, this many, into the first places of three lists: the jobs, the cells, and what each does there.
+#[tactic(auto, using(crate::proofs::Waking::wakes_all, crate::proofs::Waking::wakes_end, crate::proofs::Waking::wakes_more, crate::proofs::Waking::wakes_none))]
 fn tell_wakes<'a>(
     number: &'a [u32; PLACES],
     cell: &'a [u8; PLACES],
@@ -76,6 +78,7 @@ fn tell_wakes<'a>(
 
 // Starts a lock desk at a first number and answers 0. For number 0 the answer is refusal 10, and what is there stays (01, refusal 10).
 #[unsafe(no_mangle)]
+#[tactic(auto, unfolding(desk_arrays::specs::Steps::empty_desk), using(crate::proofs::Starting::locks_refused, crate::proofs::Starting::locks_started))]
 pub extern "C" fn tuyenlomac_locks_start_on(
     next: &mut u64,
     number: &mut [u32; PLACES],
@@ -102,6 +105,7 @@ pub extern "C" fn tuyenlomac_locks_start_on(
 
 // One request by the letter's byte, the job and the cell asked for. The jobs that it wakes are told in the first places of the three lists.
 #[unsafe(no_mangle)]
+#[tactic(auto, using(crate::proofs::Waking::step_quiet, crate::proofs::Waking::step_told_lem))]
 pub extern "C" fn tuyenlomac_locks_step_on(
     next: &mut u64,
     number: &mut [u32; PLACES],
@@ -132,6 +136,7 @@ pub extern "C" fn tuyenlomac_locks_step_on(
 }
 
 // The answer to a question for a chain, in two numbers.
+#[tactic(auto, using(crate::proofs::InNumbers::jobs_told, crate::proofs::InNumbers::no_told))]
 fn chain_said(c: Chained) -> ChainSaid
     ensures { (result.refusal ∷ result.jobs ∷ []) ≡ chain_numbers c }
 {

@@ -1,0 +1,14 @@
+-- `desk_io::serve_chunk` meets its contract. The loop's invariant: the front has seen the chunk up to a place, and the buffer keeps its length. The measure is what is left of the chunk.
+-- Assumes nothing.
+use Prim.Native.Nat.{◌-◌}
+use mathlib.Core.Path.{◌≡◌}
+use lib.ListN.{length}
+use lib.ListN.{take}
+use Rattle.desk_io.specs.Serving.{front_after}
+use Rattle.desk_io.proofs.serve_chunk.Given as goal
+
+abbrev pub invariant-loop : goal.invariant-loop
+invariant-loop l = (l.front ≡ front_after l.initial.front (take l.seen l.chunk)) × (length l.out ≡ length l.initial.out)
+
+abbrev pub decreases-loop : goal.decreases-loop
+decreases-loop l = length l.chunk - l.seen

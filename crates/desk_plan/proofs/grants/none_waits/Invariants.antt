@@ -1,0 +1,17 @@
+-- `desk_plan::grants::none_waits` meets its contract. The loop's invariant: the flag tells whether none of the places passed waits; the measure: the places left of 32.
+-- Assumes nothing.
+use Prim.Native.Nat.{◌≤◌}
+use Prim.Native.Nat.{◌-◌}
+use mathlib.Core.Path.{◌≡◌}
+use mathlib.Core.Bool.{not}
+use lib.Dec.{eqb}
+use lib.ListN.{get_or}
+use Rattle.desk_arrays.specs.Codes.{waiting_code}
+use Rattle.desk_arrays.specs.Places.{all_below}
+use Rattle.desk_plan.proofs.grants.none_waits.Given as goal
+
+abbrev pub invariant-loop : goal.invariant-loop
+invariant-loop l = (l.q ≤ 32) × (l.none ≡ all_below (λ k. not (eqb (get_or l.status k 0) waiting_code)) l.q)
+
+abbrev pub decreases-loop : goal.decreases-loop
+decreases-loop l = 32 - l.q

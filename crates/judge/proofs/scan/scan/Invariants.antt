@@ -1,0 +1,12 @@
+-- `judge::scan::scan` meets its contract. The loop's invariant: what is left decides as the whole does, and the kept lines stand before what is left.
+-- The measure is what is left of the text. Assumes nothing.
+use Prim.Native.Nat.{◌-◌}
+use lib.ListN.{length}
+use Rattle.judge.proofs.Scanning.{Scanning}
+use Rattle.judge.proofs.scan.scan.Given as goal
+
+abbrev pub invariant-loop : goal.invariant-loop
+invariant-loop l = Scanning l.text l.codes l.jobs l.cells l.ended l.n l.from
+
+abbrev pub decreases-loop : goal.decreases-loop
+decreases-loop l = length l.text - l.from

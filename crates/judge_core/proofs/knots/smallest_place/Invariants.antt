@@ -1,0 +1,13 @@
+-- `judge_core::knots::smallest_place` meets its contract. The loop's invariant: the place kept is that of the smallest job passed.
+-- The measure is how many jobs are left. Assumes nothing.
+use Prim.Native.Nat.{◌-◌}
+use Prim.Native.Nat.{◌≤◌}
+use lib.ListN.{length}
+use Rattle.judge_core.proofs.Turning.{Best}
+use Rattle.judge_core.proofs.knots.smallest_place.Given as goal
+
+abbrev pub invariant-loop : goal.invariant-loop
+invariant-loop l = (l.i ≤ length l.round) × Best l.round l.best l.i
+
+abbrev pub decreases-loop : goal.decreases-loop
+decreases-loop l = length l.round - l.i

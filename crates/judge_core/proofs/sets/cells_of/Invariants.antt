@@ -1,0 +1,12 @@
+-- `judge_core::sets::cells_of` meets its contract. The loop's invariant: the sets have the cells of the lines passed.
+-- The measure is how many lines are left. Assumes nothing.
+use Prim.Native.Nat.{◌-◌}
+use Prim.Native.Nat.{◌≤◌}
+use Rattle.judge_core.specs.Reaching.{Covered}
+use Rattle.judge_core.proofs.sets.cells_of.Given as goal
+
+abbrev pub invariant-loop : goal.invariant-loop
+invariant-loop l = (l.p ≤ l.n) × Covered l.codes l.cells l.owners l.p l.sets
+
+abbrev pub decreases-loop : goal.decreases-loop
+decreases-loop l = l.n - l.p

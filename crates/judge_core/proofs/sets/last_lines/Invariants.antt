@@ -1,0 +1,12 @@
+-- `judge_core::sets::last_lines` meets its contract. The loop's invariant: the table has the last of the lines passed.
+-- The measure is how many lines are left. Assumes nothing.
+use Prim.Native.Nat.{◌-◌}
+use Prim.Native.Nat.{◌≤◌}
+use Rattle.judge_core.specs.Reaching.{Lasts}
+use Rattle.judge_core.proofs.sets.last_lines.Given as goal
+
+abbrev pub invariant-loop : goal.invariant-loop
+invariant-loop l = (l.p ≤ l.n) × Lasts l.codes l.cells l.owners l.p l.lasts
+
+abbrev pub decreases-loop : goal.decreases-loop
+decreases-loop l = l.n - l.p

@@ -1,0 +1,12 @@
+-- `judge_line::lines::jobs_fit` meets its contract. The loop's invariant: the spare room and the fields of the jobs passed make the whole room.
+-- Assumes nothing.
+use Prim.Native.Nat.{◌-◌}
+use lib.ListN.{length}
+use Rattle.judge_line.proofs.SpareRoom.{Spare}
+use Rattle.judge_line.proofs.lines.jobs_fit.Given as goal
+
+abbrev pub invariant-loop : goal.invariant-loop
+invariant-loop l = Spare l.jobs l.room l.spare l.i
+
+abbrev pub decreases-loop : goal.decreases-loop
+decreases-loop l = length l.jobs - l.i

@@ -1,0 +1,16 @@
+-- `text::writer::put_number` meets its contract. The loop's invariant: the digits still to be written and the bytes already written make the whole.
+-- Assumes nothing.
+use Prim.Native.Nat.{◌≤◌}
+use mathlib.Core.Path.{◌≡◌}
+use mathlib.Core.List.{◌++◌}
+use lib.ListN.{length}
+use lib.ListN.{drop}
+use Rattle.text_rules.specs.Decimal.{decimal}
+use Rattle.text_rules.proofs.DigitLaws.{last_digits}
+use Rattle.text.proofs.writer.put_number.Given as goal
+
+abbrev pub invariant-loop : goal.invariant-loop
+invariant-loop l = (l.i ≤ l.digits) × (length l.part ≡ length l.initial.part) × (last_digits l.i l.rest ++ drop l.i l.part ≡ decimal l.n ++ drop l.digits l.initial.part)
+
+abbrev pub decreases-loop : goal.decreases-loop
+decreases-loop l = l.i

@@ -1,0 +1,11 @@
+-- `text::writer::put_word` meets its contract. The loop's invariant: the word's first bytes stand at the first places.
+-- Assumes nothing.
+use Prim.Native.Nat.{◌-◌}
+use Rattle.text.proofs.WordLaws.{Copying}
+use Rattle.text.proofs.writer.put_word.Given as goal
+
+abbrev pub invariant-loop : goal.invariant-loop
+invariant-loop l = Copying l.initial.part l.bytes l.len l.part l.i
+
+abbrev pub decreases-loop : goal.decreases-loop
+decreases-loop l = l.len - l.i

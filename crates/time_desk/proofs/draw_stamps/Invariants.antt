@@ -1,0 +1,9 @@
+-- `time_desk::draw_stamps` is safe and ends. The loop's measure is the steps that are left.
+-- Assumes nothing.
+use Rattle.time_desk.proofs.draw_stamps.Given as goal
+
+abbrev pub invariant-loop : goal.invariant-loop
+invariant-loop l = Unit {0}
+
+abbrev pub decreases-loop : goal.decreases-loop
+decreases-loop l = l.left

@@ -1,0 +1,14 @@
+-- `try_text::report_chunk` is safe and ends. The loop's invariant: the splitter keeps its sizes, and the place lies within a buffer of the same length.
+-- The measure is what is left of the chunk. Assumes nothing.
+use Prim.Native.Nat.{◌-◌}
+use Prim.Native.Nat.{◌≤◌}
+use mathlib.Core.Path.{◌≡◌}
+use lib.ListN.{length}
+use Rattle.text_rules.specs.Split.{Sized}
+use Rattle.try_text.proofs.report_chunk.Given as goal
+
+abbrev pub invariant-loop : goal.invariant-loop
+invariant-loop l = (Sized l.splitter) × (l.at ≤ length l.out) × (length l.out ≡ length l.initial.out)
+
+abbrev pub decreases-loop : goal.decreases-loop
+decreases-loop l = length l.chunk - l.from
