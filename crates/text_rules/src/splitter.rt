@@ -74,7 +74,6 @@ fn filled(bytes: [u8; KEPT], len: usize, part: &[u8], n: usize) -> [u8; KEPT]
 }
 
 // A line under way with len bytes kept, after a part of it; the part may end the line.
-#[tactic(auto, using(crate::proofs::Keeping::grown_is))]
 fn grown(bytes: [u8; KEPT], len: usize, line: u64, part: &[u8]) -> Splitter
     requires { (0 < length part.now) × (used part.now ≡ length part.now) }
     ensures { result ≡ through (under_way bytes len line) part.now }
