@@ -218,7 +218,6 @@ fn waits_above<'a>(
 }
 
 // The place of the youngest job waiting for the cell (the front of its queue), or 32.
-#[tactic(auto, using(crate::proofs::Finding::best_newer, crate::proofs::Finding::best_none, crate::proofs::Finding::best_same, crate::proofs::Finding::front_more, crate::proofs::Finding::front_none))]
 pub fn front_of<'a>(
     number: &'a [u32; PLACES],
     status: &'a [u8; PLACES],

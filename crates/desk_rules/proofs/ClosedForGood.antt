@@ -67,4 +67,4 @@ closed_stays {d} v r j l e = moved_closed v j e l (step_moved d r)
 -- through any requests
 pub closed_through : {d : Desk} → Inv d → (rs : List Request) (j : ℕ) → j < d.next → d.stat j ≡ closed → (desk_after d rs).stat j ≡ closed
 closed_through v [] j l e = e
-closed_through {d} v (r ∷ rs) j l e = closed_through (step_inv v r) rs j (omega (arith, next_rises d r)) (closed_stays v r j l e)
+closed_through {d} v (r ∷ rs) j l e = closed_through {d = (step d r).desk} (step_inv v r) rs j (omega (arith, next_rises d r)) (closed_stays v r j l e)

@@ -13,7 +13,6 @@ use Rattle.conflict.proofs.ModeLaws.{covers_not_free}
 use Rattle.conflict.proofs.ExactNeeds.{promotion_asks}
 use Rattle.desks.specs.declared.Answer.TheVariants.{Go}
 use Rattle.desks.specs.Request.{Request}
-use Rattle.laws.specs.Functions.{at}
 use Rattle.desk_rules.specs.Desk.{Status, closed, running, waiting, sentback, Desk}
 use Rattle.desk_rules.specs.Locks.{agrees, older_than_holders, older_than_waiters, is_empty}
 use Rattle.desks.specs.Begin.{refused}

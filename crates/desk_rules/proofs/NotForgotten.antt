@@ -44,14 +44,14 @@ module _ (c : ℕ) (w : Waiter) where
   -- its lock on the cell stays as it was
   hold_through : {d : Desk} → Inv d → (rs : List Request) → Waits (desk_after d) c w rs → ((desk_after d rs).row c).held w.job ≡ (d.row c).held w.job
   hold_through v [] k = refl
-  hold_through {d} v (r ∷ rs) (k, l) = hold_through (step_inv v r) rs l ∙ (step_undisturbed v r c w k (waits_now (step d r).desk rs l)).hold
+  hold_through {d} v (r ∷ rs) (k, l) = hold_through {d = (step d r).desk} (step_inv v r) rs l ∙ (step_undisturbed v r c w k (waits_now (step d r).desk rs l)).hold
 
   -- a job that is in its way after them was in its way before them, and has not ended a run in them
   pub ways_through : {d : Desk} → Inv d → (rs : List Request) → Waits (desk_after d) c w rs → (i : ℕ) → InWay ((desk_after d rs).row c) w i → InWay (d.row c) w i × (ended i (history_of d rs) ≡ false)
   unfolding writes
   ways_through v [] k i way = (way, ended_none i)
   ways_through {d} v (r ∷ rs) (k, l) i way =
-      let (p, q) = ways_through (step_inv v r) rs l i way in
+      let (p, q) = ways_through {d = (step d r).desk} (step_inv v r) rs l i way in
       ((step_undisturbed v r c w k (waits_now (step d r).desk rs l)).ways i p, ended_neither i (events d r) (history_of (step d r).desk rs) (step_not_ended v r c w k i p) q)
 
 module _ {d : Desk} {h : History} (s : Started d h) (c : ℕ) (w : Waiter) (rs : List Request) where

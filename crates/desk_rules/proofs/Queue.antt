@@ -57,7 +57,7 @@ without_other j (v ∷ q) {w} h e =
     kept f = rw f at h
 
 -- every other job keeps its place
-pub in_without : (j : ℕ) {q : List Waiter} {w : Waiter} → In w q → w.job ≢ j → In w (without j q)
+pub in_without : (j : ℕ) {w : Waiter} {q : List Waiter} → In w q → w.job ≢ j → In w (without j q)
 unfolding without
 in_without j {w = w} first n = rw (ne_eqb w.job j n) first
 in_without j (later {v = v} h) n = by_test (eqb v.job j) (λ t. rw t (in_without j h n)) (λ f. rw f (later (in_without j h n)))

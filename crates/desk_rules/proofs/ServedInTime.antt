@@ -86,7 +86,7 @@ module _ {d : Desk} (v : Inv d) (r : Request) (rs : List Request) (c : ℕ) (w :
 -- after any requests in which it does not give up while it waits, it still waits or has been served
 waits_on : {d : Desk} → Inv d → (c : ℕ) (w : Waiter) (rs : List Request) → IsWaiting d c w → Patient (from d) c w rs → Waits (desk_after d) c w rs ⊎ Served (from d) c w rs
 waits_on v c w [] k p = inl k
-waits_on v c w (r ∷ rs) k p = one_more_lem v r rs c w k p (waits_on (step_inv v r) c w rs)
+waits_on {d} v c w (r ∷ rs) k p = one_more_lem v r rs c w k p (waits_on {d = (step d r).desk} (step_inv v r) c w rs)
 
 -- if one of two fails, the other holds
 otherwise : {A B : Type 0} → A ⊎ B → (A → ⊥) → B

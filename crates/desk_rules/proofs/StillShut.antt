@@ -2,7 +2,7 @@
 -- Assumes nothing.
 use Prim.Native.Nat.{ℕ}
 use mathlib.Core.Path.{◌≡◌, refl, sym, ap, ◌∙◌}
-use mathlib.Core.Logic.{◌≢◌, ◌⊎◌, ⊎_elim}
+use mathlib.Core.Logic.{◌≢◌, ⊎_elim}
 use mathlib.Core.Bool.{true, false}
 use mathlib.Core.List.{List, [], ◌∷◌, ◌++◌}
 use Rattle.laws.specs.Choice.{not_both}
@@ -33,7 +33,7 @@ neither j g h e =
 -- the invariant holds after any requests
 pub run_inv : {d : Desk} → Inv d → (rs : List Request) → Inv (desk_after d rs)
 run_inv v [] = v
-run_inv v (r ∷ rs) = run_inv (step_inv v r) rs
+run_inv {d} v (r ∷ rs) = run_inv {d = (step d r).desk} (step_inv v r) rs
 
 module _ (c j : ℕ) where
   -- after a step that does not end its run, a job that shuts others out still does
@@ -47,7 +47,7 @@ module _ (c j : ℕ) where
   still_shuts v [] e h = h
   still_shuts {d} v (r ∷ rs) e h =
       let (p, q) = neither j (events d r) (history_of (step d r).desk rs) e in
-      still_shuts (step_inv v r) rs q (step_shuts v r p h)
+      still_shuts {d = (step d r).desk} (step_inv v r) rs q (step_shuts v r p h)
 
   -- and every other holder of the cell after them held it before them, in the same mode
   pub fewer_through : {d : Desk} → Inv d → (rs : List Request) (i : ℕ) → i ≢ j → shuts_out ((d.row c).held j) ≡ true → ended j (history_of d rs) ≡ false → is_free (((desk_after d rs).row c).held i) ≡ false → ((desk_after d rs).row c).held i ≡ (d.row c).held i
@@ -56,7 +56,7 @@ module _ (c j : ℕ) where
   fewer_through {d} v (r ∷ rs) i n h e f =
       let (p, q) = neither j (events d r) (history_of (step d r).desk rs) e in
       let g = step_shuts v r p h in
-      let z = fewer_through (step_inv v r) rs i n g q f in
+      let z = fewer_through {d = (step d r).desk} (step_inv v r) rs i n g q f in
       z ∙ moved_beside v r c i j (step_moved d r) n h g (rw z at f)
 
   -- at each moment in between, too

@@ -15,7 +15,6 @@ use Rattle.laws.specs.Lists.{member}
 use Rattle.laws.proofs.Lists.{member_first, member_more}
 use Rattle.conflict.proofs.ModeLaws.{is_free_lem, grants_free}
 use Rattle.laws.proofs.Parts.{and_first, and_second, or_either, nor_first, nor_second}
-use Rattle.laws.specs.Functions.{at}
 use Rattle.laws.specs.Standing.{In, first, later}
 use Rattle.desk_rules.specs.Desk.{Waiter}
 use Rattle.desk_rules.specs.Locks.{every, every_waiter, is_empty, agrees, older_than_holders, older_than_waiters}
