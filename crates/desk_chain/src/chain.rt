@@ -32,7 +32,6 @@ fn holds_above<'a>(
 }
 
 // The place of the youngest holder of the cell that is younger than the job, or 32; this leaves out the job's own hold.
-#[tactic(auto, using(crate::proofs::Finding::holder_more, crate::proofs::Finding::holder_none, desk_plan::proofs::Finding::best_newer, desk_plan::proofs::Finding::best_none, desk_plan::proofs::Finding::best_same))]
 fn holder_above<'a>(number: &'a [u32; PLACES], held: &'a [u8; SPOTS], c: usize, job: u32) -> usize
     requires { (c < cells) × (length number.now ≡ places) }
     ensures { result ≡ holder_above number.now held.now c job places }
@@ -103,7 +102,7 @@ fn follow<'a>(
 
 // Asks for the chain of a job, with a lent list: refusal 3, then 5, then 18, with the list unchanged;
 // else the chain stands in the list's first places, the answer is how many jobs it has, and the unused places stay.
-#[tactic(auto, using(crate::proofs::Answering::asked_closed, crate::proofs::Answering::asked_sent_back, crate::proofs::Answering::asked_short, crate::proofs::Answering::asked_told, crate::proofs::Answering::open_place, crate::proofs::Looks::places_enough))]
+#[tactic(auto, using(crate::proofs::Answering::asked_closed, crate::proofs::Answering::asked_sent_back, crate::proofs::Answering::asked_short, crate::proofs::Answering::open_place, crate::proofs::Looks::places_enough))]
 pub fn chain(d: Desk, job: u32, list: &mut [u32]) -> Chained
     ensures { (result ≡ (asked_on d job list.old).said) × (list.new ≡ (asked_on d job list.old).list) }
 {
@@ -150,7 +149,6 @@ fn waits_within<'a>(
 }
 
 // The place of the waiter with the smallest number above `last`, or 32.
-#[tactic(auto, using(crate::proofs::Finding::waiter_more, crate::proofs::Finding::waiter_none, desk_plan::proofs::Finding::best_newer, desk_plan::proofs::Finding::best_none, desk_plan::proofs::Finding::best_same))]
 fn waiter_above<'a>(number: &'a [u32; PLACES], status: &'a [u8; PLACES], last: u32) -> usize
     requires { length number.now ≡ places }
     ensures { result ≡ waiter_above number.now status.now last places }
@@ -170,7 +168,7 @@ fn waiter_above<'a>(number: &'a [u32; PLACES], status: &'a [u8; PLACES], last: u
 
 // Puts the chain of the first waiting job with a number above `last` into the first places of the list; tells how many jobs it has, or 0 if no such job waits.
 // Start with 0 and go on with the first job of the last chain told: this gives the chains of all waiting jobs, in ascending order.
-#[tactic(auto, using(crate::proofs::Answering::next_nobody, crate::proofs::Answering::next_told, crate::proofs::Looks::places_enough))]
+#[tactic(auto, using(crate::proofs::Looks::places_enough))]
 pub fn next_chain(d: Desk, last: u32, list: &mut [u32; PLACES]) -> usize
     ensures { (result ≡ length (next_chain d last)) × (list.new ≡ filled (next_chain d last) list.old) }
 {
