@@ -10,8 +10,8 @@ use Rattle.judge_core.specs.Lists.{values_of}
 use Rattle.judge_core.specs.Counted.{has_commit}
 use Rattle.judge_core.proofs.counted.committed_jobs.Given as goal
 
-abbrev pub invariant-loop : goal.invariant-loop
-invariant-loop l = (l.p ≤ l.n) × (l.done ≡ values_of (has_commit l.codes l.jobs l.p) 256) × ((q : ℕ) → q < l.p → get_or l.jobs q 0 < 256)
+abbrev pub invariant-loop-p : goal.invariant-loop-p
+invariant-loop-p l = (l.p ≤ l.n) × (l.done ≡ values_of (has_commit l.codes l.jobs l.p) 256) × ((q : ℕ) → q < l.p → get_or l.jobs q 0 < 256)
 
-abbrev pub decreases-loop : goal.decreases-loop
-decreases-loop l = l.n - l.p
+abbrev pub decreases-loop-p : goal.decreases-loop-p
+decreases-loop-p l = l.n - l.p

@@ -7,8 +7,8 @@ use Rattle.judge_core.specs.Lists.{values_of}
 use Rattle.judge_core.specs.Counted.{counted_from}
 use Rattle.judge_core.proofs.counted.counted_from.Given as goal
 
-abbrev pub invariant-loop : goal.invariant-loop
-invariant-loop l = (l.p ≤ l.n) × (l.since ≡ values_of (counted_from l.codes l.jobs l.p) 256)
+abbrev pub invariant-loop-p : goal.invariant-loop-p
+invariant-loop-p l = (l.p ≤ l.n) × (l.since ≡ values_of (counted_from l.codes l.jobs l.p) 256)
 
-abbrev pub decreases-loop : goal.decreases-loop
-decreases-loop l = l.n - l.p
+abbrev pub decreases-loop-p : goal.decreases-loop-p
+decreases-loop-p l = l.n - l.p

@@ -7,8 +7,8 @@ use Rattle.judge_core.specs.Lists.{values_of}
 use Rattle.judge_core.specs.Counted.{owners_by}
 use Rattle.judge_core.proofs.counted.owners.Given as goal
 
-abbrev pub invariant-loop : goal.invariant-loop
-invariant-loop l = (l.p ≤ l.n) × (l.all ≡ values_of (owners_by l.codes l.jobs l.since l.p) 4096)
+abbrev pub invariant-loop-p : goal.invariant-loop-p
+invariant-loop-p l = (l.p ≤ l.n) × (l.all ≡ values_of (owners_by l.codes l.jobs l.since l.p) 4096)
 
-abbrev pub decreases-loop : goal.decreases-loop
-decreases-loop l = l.n - l.p
+abbrev pub decreases-loop-p : goal.decreases-loop-p
+decreases-loop-p l = l.n - l.p

@@ -11,8 +11,8 @@ use Rattle.judge_core.specs.RunEnds.{latest_end}
 use Rattle.judge_core.specs.RunEnds.{dirty_at}
 use Rattle.judge_core.proofs.dirty.first_read.Given as goal
 
-abbrev pub invariant-loop : goal.invariant-loop
-invariant-loop l = (l.p ≤ l.n) × (l.latest ≡ values_of (λ x. latest_end l.codes l.cells l.ends x l.p) 256) × ((q : ℕ) → q < l.p → dirty_at l.codes l.cells l.ends q ≡ false)
+abbrev pub invariant-loop-p : goal.invariant-loop-p
+invariant-loop-p l = (l.p ≤ l.n) × (l.latest ≡ values_of (λ x. latest_end l.codes l.cells l.ends x l.p) 256) × ((q : ℕ) → q < l.p → dirty_at l.codes l.cells l.ends q ≡ false)
 
-abbrev pub decreases-loop : goal.decreases-loop
-decreases-loop l = l.n - l.p
+abbrev pub decreases-loop-p : goal.decreases-loop-p
+decreases-loop-p l = l.n - l.p

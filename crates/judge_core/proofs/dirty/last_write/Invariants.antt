@@ -4,8 +4,8 @@ use Prim.Native.Nat.{◌≤◌}
 use Rattle.judge_core.proofs.DirtyPasses.{NoneFrom}
 use Rattle.judge_core.proofs.dirty.last_write.Given as goal
 
-abbrev pub invariant-loop : goal.invariant-loop
-invariant-loop l = (l.q ≤ l.p) × NoneFrom l.codes l.cells l.ends l.p l.q
+abbrev pub invariant-loop-q : goal.invariant-loop-q
+invariant-loop-q l = (l.q ≤ l.p) × NoneFrom l.codes l.cells l.ends l.p l.q
 
-abbrev pub decreases-loop : goal.decreases-loop
-decreases-loop l = l.q
+abbrev pub decreases-loop-q : goal.decreases-loop-q
+decreases-loop-q l = l.q

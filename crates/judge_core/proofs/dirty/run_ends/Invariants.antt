@@ -8,8 +8,8 @@ use Rattle.judge_core.specs.RunEnds.{run_end}
 use Rattle.judge_core.proofs.DirtyPasses.{EndsFrom}
 use Rattle.judge_core.proofs.dirty.run_ends.Given as goal
 
-abbrev pub invariant-loop : goal.invariant-loop
-invariant-loop l = (l.p ≤ l.n) × (l.seen ≡ values_of (λ j. run_end l.codes l.jobs j l.p (l.n - l.p)) 256) × EndsFrom l.codes l.jobs l.n l.p l.ends
+abbrev pub invariant-loop-p : goal.invariant-loop-p
+invariant-loop-p l = (l.p ≤ l.n) × (l.seen ≡ values_of (λ j. run_end l.codes l.jobs j l.p (l.n - l.p)) 256) × EndsFrom l.codes l.jobs l.n l.p l.ends
 
-abbrev pub decreases-loop : goal.decreases-loop
-decreases-loop l = l.p
+abbrev pub decreases-loop-p : goal.decreases-loop-p
+decreases-loop-p l = l.p

@@ -8,8 +8,8 @@ use lib.ListN.{drop}
 use Rattle.laws.specs.Lists.{pos}
 use Rattle.judge_core.proofs.knots.place_of.Given as goal
 
-abbrev pub invariant-loop : goal.invariant-loop
-invariant-loop l = (l.p ≤ 257) × (l.p + pos (drop l.p l.trail) l.j ≡ l.at + pos (drop l.at l.trail) l.j)
+abbrev pub invariant-loop-p : goal.invariant-loop-p
+invariant-loop-p l = (l.p ≤ 257) × (l.p + pos (drop l.p l.trail) l.j ≡ l.at + pos (drop l.at l.trail) l.j)
 
-abbrev pub decreases-loop : goal.decreases-loop
-decreases-loop l = 257 - l.p
+abbrev pub decreases-loop-p : goal.decreases-loop-p
+decreases-loop-p l = 257 - l.p

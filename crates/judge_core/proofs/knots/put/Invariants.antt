@@ -6,8 +6,8 @@ use lib.ListN.{length}
 use Rattle.judge_core.proofs.Putting.{Pasted}
 use Rattle.judge_core.proofs.knots.put.Given as goal
 
-abbrev pub invariant-loop : goal.invariant-loop
-invariant-loop l = (l.i ≤ length l.part) × Pasted l.initial.buffer l.at l.part l.i l.buffer
+abbrev pub invariant-loop-i : goal.invariant-loop-i
+invariant-loop-i l = (l.i ≤ length l.part) × Pasted l.initial.buffer l.at l.part l.i l.buffer
 
-abbrev pub decreases-loop : goal.decreases-loop
-decreases-loop l = length l.part - l.i
+abbrev pub decreases-loop-i : goal.decreases-loop-i
+decreases-loop-i l = length l.part - l.i

@@ -6,8 +6,8 @@ use lib.ListN.{length}
 use Rattle.judge_core.proofs.Turning.{Best}
 use Rattle.judge_core.proofs.knots.smallest_place.Given as goal
 
-abbrev pub invariant-loop : goal.invariant-loop
-invariant-loop l = (l.i ≤ length l.round) × Best l.round l.best l.i
+abbrev pub invariant-loop-i : goal.invariant-loop-i
+invariant-loop-i l = (l.i ≤ length l.round) × Best l.round l.best l.i
 
-abbrev pub decreases-loop : goal.decreases-loop
-decreases-loop l = length l.round - l.i
+abbrev pub decreases-loop-i : goal.decreases-loop-i
+decreases-loop-i l = length l.round - l.i

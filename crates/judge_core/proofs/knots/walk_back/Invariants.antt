@@ -3,8 +3,8 @@
 use Rattle.judge_core.proofs.Trail.{Walked}
 use Rattle.judge_core.proofs.knots.walk_back.Given as goal
 
-abbrev pub invariant-loop : goal.invariant-loop
-invariant-loop l = Walked l.predecessors l.start l.trail l.at l.j
+abbrev pub invariant-loop-at : goal.invariant-loop-at
+invariant-loop-at l = Walked l.predecessors l.start l.trail l.at l.j
 
-abbrev pub decreases-loop : goal.decreases-loop
-decreases-loop l = l.at
+abbrev pub decreases-loop-at : goal.decreases-loop-at
+decreases-loop-at l = l.at

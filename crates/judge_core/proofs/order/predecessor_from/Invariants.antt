@@ -7,8 +7,8 @@ use Rattle.judge_core.specs.Grouped.{edge_by}
 use Rattle.judge_core.specs.Left.{left_from}
 use Rattle.judge_core.proofs.order.predecessor_from.Given as goal
 
-abbrev pub invariant-loop : goal.invariant-loop
-invariant-loop l = first (λ k. edge_by l.codes l.jobs l.cells l.lines l.starts k l.j) (left_from l.left l.from) ≡ first (λ k. edge_by l.codes l.jobs l.cells l.lines l.starts k l.j) (left_from l.left l.i)
+abbrev pub invariant-loop-i : goal.invariant-loop-i
+invariant-loop-i l = first (λ k. edge_by l.codes l.jobs l.cells l.lines l.starts k l.j) (left_from l.left l.from) ≡ first (λ k. edge_by l.codes l.jobs l.cells l.lines l.starts k l.j) (left_from l.left l.i)
 
-abbrev pub decreases-loop : goal.decreases-loop
-decreases-loop l = 256 - l.i
+abbrev pub decreases-loop-i : goal.decreases-loop-i
+decreases-loop-i l = 256 - l.i

@@ -5,8 +5,8 @@ use Rattle.judge_core.specs.Grouped.{edge_by}
 use Rattle.judge_core.proofs.Predecessors.{Passed}
 use Rattle.judge_core.proofs.order.ready_job.Given as goal
 
-abbrev pub invariant-loop : goal.invariant-loop
-invariant-loop l = Passed (edge_by l.codes l.jobs l.cells l.lines l.starts) l.left l.predecessors l.j
+abbrev pub invariant-loop-j : goal.invariant-loop-j
+invariant-loop-j l = Passed (edge_by l.codes l.jobs l.cells l.lines l.starts) l.left l.predecessors l.j
 
-abbrev pub decreases-loop : goal.decreases-loop
-decreases-loop l = 256 - l.j
+abbrev pub decreases-loop-j : goal.decreases-loop-j
+decreases-loop-j l = 256 - l.j

@@ -9,8 +9,8 @@ use Rattle.judge_core.specs.Left.{left_of}
 use Rattle.judge_core.specs.Left.{left_from}
 use Rattle.judge_core.proofs.order.smallest_left.Given as goal
 
-abbrev pub invariant-loop : goal.invariant-loop
-invariant-loop l = (l.j ≤ 256) × (first (λ k. true) (left_of l.left) ≡ first (λ k. true) (left_from l.left l.j))
+abbrev pub invariant-loop-j : goal.invariant-loop-j
+invariant-loop-j l = (l.j ≤ 256) × (first (λ k. true) (left_of l.left) ≡ first (λ k. true) (left_from l.left l.j))
 
-abbrev pub decreases-loop : goal.decreases-loop
-decreases-loop l = 256 - l.j
+abbrev pub decreases-loop-j : goal.decreases-loop-j
+decreases-loop-j l = 256 - l.j

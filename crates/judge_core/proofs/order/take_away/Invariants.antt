@@ -10,8 +10,8 @@ use Rattle.judge_core.specs.Preceding.{Preceding}
 use Rattle.judge_core.proofs.TakingAway.{Going}
 use Rattle.judge_core.proofs.order.take_away.Given as goal
 
-abbrev pub invariant-loop : goal.invariant-loop
-invariant-loop l = Going (edge_by l.codes l.jobs l.cells l.lines l.starts) (left_of l.initial.left) l.left l.placed l.k × Preceding (edge_by l.codes l.jobs l.cells l.lines l.starts) l.left l.predecessors × (get_or l.left 0 false ≡ false)
+abbrev pub invariant-loop-k : goal.invariant-loop-k
+invariant-loop-k l = Going (edge_by l.codes l.jobs l.cells l.lines l.starts) (left_of l.initial.left) l.left l.placed l.k × Preceding (edge_by l.codes l.jobs l.cells l.lines l.starts) l.left l.predecessors × (get_or l.left 0 false ≡ false)
 
-abbrev pub decreases-loop : goal.decreases-loop
-decreases-loop l = length (left_of l.left)
+abbrev pub decreases-loop-k : goal.decreases-loop-k
+decreases-loop-k l = length (left_of l.left)
