@@ -6,7 +6,7 @@ usage: python3 tools/respell.py     at the top of a repository on which port.py 
 Words are in snake case: `isFree` becomes `is_free`, `not-both` becomes `not_both`. Types and modules keep their camel case.
 Names of src/, of C, of the library, of what Rattle makes, strings, inputs and outputs keep their spelling. Where two names
 would fall together, the definition of specs/ keeps the word and the lemma gets `_lem`; the few cases of another kind stand below.
-Run it once. It renames by text, in crates/, README.md and docs/, and says what it renamed with --list.
+It renames by text, and a second run renames what is new. It works in crates/, and says with --list what it would rename.
 """
 
 import collections
@@ -19,7 +19,7 @@ OTHERWISE = {"other-kind": "of_other_kind", "all-open": "all_open", "in-front": 
 # Values that were spelled in capitals.
 CAPITALS = {"S1": "s1", "S1-history": "s1_history"}
 # Parameters of definitions.
-PARAMETERS = {"mayAsk": "may_ask", "mayGrant": "may_grant", "refusedAs": "refused_as", "lawsOf": "laws_of"}
+PARAMETERS = {"mayAsk": "may_ask", "mayGrant": "may_grant", "refusedAs": "refused_as", "lawsOf": "laws_of", "holdsNothing": "holds_nothing", "goesOrRefuses": "goes_or_refuses"}
 
 MODIFIERS = {"pub", "abbrev", "unfoldable", "data", "record", "ruleset", "instance", "syntax", "opaque"}
 TOKEN = re.compile(r"[^\s(){}\[\].,;:\"@`|⟨⟩]+")
@@ -67,7 +67,7 @@ def declared(path):
             elif "ruleset" in before or (len(words) > 1 and words[1] == ":"):
                 yield words[0], "definition" if "/specs/" in path else "lemma"
         else:
-            m = re.match(r"^ +(?:pub )?([^ ()]+) : ", line)
+            m = re.match(r"^ +(?:(?:pub|abbrev|unfoldable) )*([^ ()]+) : ", line)
             if m:
                 yield m.group(1), inside or "local"
 

@@ -3,6 +3,6 @@
 
 use program_rules::{Method, View};
 
-fn main() {
-    desk_io::serve(Method::Locks, View::Chains);
+fn main(rt: HostRuntime) {
+    let _ = desk_io::serve(&rt, Method::Locks, View::Chains);
 }

@@ -60,20 +60,20 @@ module _ (view : View) (first : Clerk) (chunk : List ℕ) (from : ℕ) (before :
 
     module _ (cut : Cut) (is_cut : cut ≡ cut_of c.splitter chunk next) (within : next < length chunk) (room : roomy out place ≡ true) where
       -- the clerk after the cut
-      abbrev with-cut : Clerk
-      with-cut = record { desks = c.desks; splitter = cut.splitter }
+      abbrev with_cut : Clerk
+      with_cut = record { desks = c.desks; splitter = cut.splitter }
 
       -- by whatever name the cut goes
-      left_cut : (t : Turn) → turning view with-cut out place ≡ t → length t.out ≡ length out → Left t.clerk cut.next t.out t.at
+      left_cut : (t : Turn) → turning view with_cut out place ≡ t → length t.out ≡ length out → Left t.clerk cut.next t.out t.at
       unfolding cutting
       left_cut t e g =
           subst (λ k. Left t.clerk k.next t.out t.at) (sym is_cut)
           (left_less t within room (subst (λ k. turning view (record { desks = c.desks; splitter = k.splitter }) out place ≡ t) is_cut e) g)
 
       -- no line is to be answered
-      pub left_passes : due cut.splitter ≡ false → Left with-cut cut.next out place
-      left_passes f = left_cut (record { clerk = with-cut; at = place; out = out }) (turn_passes view with-cut out place f) refl
+      pub left_passes : due cut.splitter ≡ false → Left with_cut cut.next out place
+      left_passes f = left_cut (record { clerk = with_cut; at = place; out = out }) (turn_passes view with_cut out place f) refl
 
       -- the line is answered
-      pub left_answers : (t : Turn) → turning view with-cut out place ≡ t → length t.out ≡ length out → Left t.clerk cut.next t.out t.at
+      pub left_answers : (t : Turn) → turning view with_cut out place ≡ t → length t.out ≡ length out → Left t.clerk cut.next t.out t.at
       left_answers = left_cut

@@ -25,7 +25,7 @@ use Rattle.desks.specs.Places.{is_seated}
 use Rattle.desk_arrays.specs.Stands.{by_number, status_for, status_at, status_by}
 use Rattle.desks.proofs.Seats.{pos_end}
 use Rattle.desk_plan.proofs.Open.{nowhere_free, open_inside}
-use Rattle.desk_chain.specs.Chains.{chainFrom, asked_on, waiter_above, next_chain}
+use Rattle.desk_chain.specs.Chains.{chain_from, asked_on, waiter_above, next_chain}
 
 -- what a job is doing, by the code that it was found with
 status_found : (d : Desk) (job : ℕ) → length d.status ≤ length d.number →
@@ -55,10 +55,10 @@ due_code code c n a =
 
 module _ (d : Desk) (job : ℕ) (list : List ℕ) (n : length d.number ≡ places) (s : length d.status ≡ places) {f : Found} (e : f ≡ found_at d.number d.status job) where
   -- what is answered, by where the job was found and what it was found doing
-  asked_by : asked_on d job list ≡ chain_told (chainFrom d.number d.status d.cell d.held f.place) list (due_by f.code (length list))
+  asked_by : asked_on d job list ≡ chain_told (chain_from d.number d.status d.cell d.held f.place) list (due_by f.code (length list))
   unfolding asked_on found_at
   asked_by =
-      ap (chain_told (chainFrom d.number d.status d.cell d.held (pos d.number job)) list)
+      ap (chain_told (chain_from d.number d.status d.cell d.held (pos d.number job)) list)
       (ap (λ t. chain_due t (length list)) (status_found d job (omega arith)) ∙ due_code (status_of d.number d.status job) _ (length list) _)
       ∙ rw e
 
@@ -81,7 +81,7 @@ module _ (d : Desk) (job : ℕ) (list : List ℕ) (n : length d.number ≡ place
     asked_short h = asked_refused ShortList (rw (ne_eqb f.code free_code c, ne_eqb f.code sent_back_code b, lt-ltb (length list) places h))
 
     -- else the chain
-    pub asked_told : {r : ℕ} {m : List ℕ} → places ≤ length list → (r ≡ length (chainFrom d.number d.status d.cell d.held f.place)) × (m ≡ filled (chainFrom d.number d.status d.cell d.held f.place) list) →
+    pub asked_told : {r : ℕ} {m : List ℕ} → places ≤ length list → (r ≡ length (chain_from d.number d.status d.cell d.held f.place)) × (m ≡ filled (chain_from d.number d.status d.cell d.held f.place) list) →
         (Jobs r ≡ (asked_on d job list).said) × (m ≡ (asked_on d job list).list)
     unfolding chain_told
     asked_told h t =
@@ -91,7 +91,7 @@ module _ (d : Desk) (job : ℕ) (list : List ℕ) (n : length d.number ≡ place
 
 module _ (d : Desk) (last : ℕ) (list : List ℕ) {p : ℕ} (e : p ≡ waiter_above d.number d.status last places) where
   -- the chain of the waiter that was found
-  pub next_told : {r : ℕ} {m : List ℕ} → p < places → (r ≡ length (chainFrom d.number d.status d.cell d.held p)) × (m ≡ filled (chainFrom d.number d.status d.cell d.held p) list) →
+  pub next_told : {r : ℕ} {m : List ℕ} → p < places → (r ≡ length (chain_from d.number d.status d.cell d.held p)) × (m ≡ filled (chain_from d.number d.status d.cell d.held p) list) →
       (r ≡ length (next_chain d last)) × (m ≡ filled (next_chain d last) list)
   unfolding next_chain
   next_told h t = rw (← e, lt-ltb p places h) t

@@ -37,7 +37,7 @@ use Rattle.desk_arrays.proofs.ByNumber.{seat_has}
 use Rattle.desk_arrays.proofs.StatusCodes.{waits_status, status_waits}
 use Rattle.desk_arrays.proofs.StartedStands.{stands_for_paper}
 use Rattle.desk_arrays.proofs.Faithful.{faithful}
-use Rattle.desk_chain.specs.Chains.{next_at, chainFromBy, chainFrom, asked_on}
+use Rattle.desk_chain.specs.Chains.{next_at, chain_from_by, chain_from, asked_on}
 use Rattle.desk_chain.proofs.NextTied.{open_seat, next_seat, holder_is_next}
 
 -- where nothing is due the job is live
@@ -76,8 +76,8 @@ module _ {d : Desk} (v : Inv (view d)) (pl : Plain d) where
       rw (and_first (eqb (get_or d.status p 0) waiting_code) (eqb (get_or d.cell p 0) c) t, f, lt-ltb c cells l, s.sits) (holder_is_next v pl e (next_is v c w e))
 
   -- with as many looks as there are younger jobs it is the chain
-  arrays_chain : (n : ℕ) {j p : ℕ} → Seat d.number j p → younger_than j d.number ≤ n → is_live ((view d).stat j) ≡ true → IsChain (view d) j (chainFromBy d.number d.status d.cell d.held n p)
-  unfolding chainFromBy
+  arrays_chain : (n : ℕ) {j p : ℕ} → Seat d.number j p → younger_than j d.number ≤ n → is_live ((view d).stat j) ≡ true → IsChain (view d) j (chain_from_by d.number d.status d.cell d.held n p)
+  unfolding chain_from_by
   arrays_chain zero {j} {p} s l h =
       rw s.sits
       (live_split ((view d).stat j) h (λ e. runs e)
@@ -95,8 +95,8 @@ module _ {d : Desk} (v : Inv (view d)) (pl : Plain d) where
       (waits c a e x (arrays_chain n t (omega arith) (way_live v c w e i x.way)))))
 
   -- the chain of a live job
-  pub chain_is : (j : ℕ) → is_live ((view d).stat j) ≡ true → chainFrom d.number d.status d.cell d.held (pos d.number j) ≡ chain_of (view d) j
-  unfolding chainFrom
+  pub chain_is : (j : ℕ) → is_live ((view d).stat j) ≡ true → chain_from d.number d.status d.cell d.held (pos d.number j) ≡ chain_of (view d) j
+  unfolding chain_from
   chain_is j h =
       let s = open_seat v pl j (live_open ((view d).stat j) h) in
       one_chain v (arrays_chain (younger_than (get_or d.number (pos d.number j) 0) d.number) s (omega (arith, ap (λ x. younger_than x d.number) s.sits)) h) (is_chain v j h)
@@ -106,7 +106,7 @@ module _ {d : Desk} (v : Inv (view d)) (pl : Plain d) where
   unfolding asked_on ask_chain
   asked_is j list = by_due (chain_due ((view d).stat j) (length list)) refl
     where
-      by_due : (o : Option Refusal) → chain_due ((view d).stat j) (length list) ≡ o → chain_told (chainFrom d.number d.status d.cell d.held (pos d.number j)) list (chain_due ((view d).stat j) (length list)) ≡ chain_told (chain_of (view d) j) list (chain_due ((view d).stat j) (length list))
+      by_due : (o : Option Refusal) → chain_due ((view d).stat j) (length list) ≡ o → chain_told (chain_from d.number d.status d.cell d.held (pos d.number j)) list (chain_due ((view d).stat j) (length list)) ≡ chain_told (chain_of (view d) j) list (chain_due ((view d).stat j) (length list))
       by_due (some why) e = unfold chain_told in rw e
       by_due none e = ap (λ js. chain_told js list (chain_due ((view d).stat j) (length list))) (chain_is j (not_due_live ((view d).stat j) (length list) e))
 

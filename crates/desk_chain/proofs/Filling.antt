@@ -12,7 +12,7 @@ use lib.Seq.{drop-length}
 use Rattle.laws.specs.Lists.{filled}
 use Rattle.terms.specs.Limits.{places}
 use Rattle.desk_rules.specs.Chain.{younger_than}
-use Rattle.desk_chain.specs.Chains.{next_at, chainFrom}
+use Rattle.desk_chain.specs.Chains.{next_at, chain_from}
 use Rattle.desk_chain.proofs.Looks.{next_falls, chain_next}
 
 -- what is lent of a list whose first place has been filled: the places behind that
@@ -57,14 +57,14 @@ module _ (number status cell held : List ℕ) (p q : ℕ) (l : List ℕ) (n : le
     next_room = omega (arith, next_fewer, later_length (get_or number p 0) l (omega arith))
 
     -- where somebody is next, that one's chain goes into the part
-    pub filled_next : {r : ℕ} (ys : List ℕ) → r ≡ length (chainFrom number status cell held q) → ys ≡ filled (chainFrom number status cell held q) (later (get_or number p 0) l) →
-        (1 + r ≡ length (chainFrom number status cell held p)) × (joined (get_or number p 0) l ys ≡ filled (chainFrom number status cell held p) l)
+    pub filled_next : {r : ℕ} (ys : List ℕ) → r ≡ length (chain_from number status cell held q) → ys ≡ filled (chain_from number status cell held q) (later (get_or number p 0) l) →
+        (1 + r ≡ length (chain_from number status cell held p)) × (joined (get_or number p 0) l ys ≡ filled (chain_from number status cell held p) l)
     filled_next {r} ys g f =
-        let s : chainFrom number status cell held p ≡ get_or number p 0 ∷ chainFrom number status cell held q = chain_next number status cell held n p ∙ rw (← e, lt-ltb q places h) in
-        (rw s (omega arith), rw s (filled_more (get_or number p 0) l (chainFrom number status cell held q) ys (omega arith) f))
+        let s : chain_from number status cell held p ≡ get_or number p 0 ∷ chain_from number status cell held q = chain_next number status cell held n p ∙ rw (← e, lt-ltb q places h) in
+        (rw s (omega arith), rw s (filled_more (get_or number p 0) l (chain_from number status cell held q) ys (omega arith) f))
 
   -- where nobody is, the chain ends
-  pub filled_last : places ≤ q → (1 ≡ length (chainFrom number status cell held p)) × (set l 0 (get_or number p 0) ≡ filled (chainFrom number status cell held p) l)
+  pub filled_last : places ≤ q → (1 ≡ length (chain_from number status cell held p)) × (set l 0 (get_or number p 0) ≡ filled (chain_from number status cell held p) l)
   filled_last h =
-      let s : chainFrom number status cell held p ≡ get_or number p 0 ∷ [] = chain_next number status cell held n p ∙ rw (← e, le-ltb q places h) in
+      let s : chain_from number status cell held p ≡ get_or number p 0 ∷ [] = chain_next number status cell held n p ∙ rw (← e, le-ltb q places h) in
       (rw s, rw s (filled_one (get_or number p 0) l (omega arith)))

@@ -18,7 +18,7 @@ use Rattle.desk_rules.proofs.Younger.{younger_less, younger_short}
 use Rattle.desk_arrays.specs.Codes.{waiting_code}
 use Rattle.desk_arrays.specs.Places.{mode_at}
 use Rattle.desks.proofs.Seats.{at_member}
-use Rattle.desk_chain.specs.Chains.{holds_above, holder_above, next_at, chainFromBy, chainFrom}
+use Rattle.desk_chain.specs.Chains.{holds_above, holder_above, next_at, chain_from_by, chain_from}
 
 -- a job of the list that is younger than job j has fewer younger ones than j
 younger_falls : (is : List ℕ) (q j : ℕ) → q < length is → j < get_or is q 0 → younger_than (get_or is q 0) is < younger_than j is
@@ -72,8 +72,8 @@ module _ (number status cell held : List ℕ) (e : length number ≡ places) whe
   next_falls p h = younger_falls number (next_at number status cell held p) (get_or number p 0) (omega arith) (next_younger p h)
 
   -- looks that are more than the younger jobs find no more
-  enough : (n m p : ℕ) → younger_than (get_or number p 0) number ≤ n → younger_than (get_or number p 0) number ≤ m → chainFromBy number status cell held n p ≡ chainFromBy number status cell held m p
-  unfolding chainFromBy
+  enough : (n m p : ℕ) → younger_than (get_or number p 0) number ≤ n → younger_than (get_or number p 0) number ≤ m → chain_from_by number status cell held n p ≡ chain_from_by number status cell held m p
+  unfolding chain_from_by
   enough zero zero p l k = refl
   enough zero (suc m) p l k =
       by_test (ltb (next_at number status cell held p) places) (λ t. absurd (omega (arith, next_falls p (ltb-true (next_at number status cell held p) places t)))) (λ f. rw f)
@@ -85,8 +85,8 @@ module _ (number status cell held : List ℕ) (e : length number ≡ places) whe
       (λ f. rw f)
 
   -- a chain is its first job, then the chain of the next job if there is one
-  pub chain_next : (p : ℕ) → chainFrom number status cell held p ≡ get_or number p 0 ∷ pick (ltb (next_at number status cell held p) places) (chainFrom number status cell held (next_at number status cell held p)) []
-  unfolding chainFrom chainFromBy
+  pub chain_next : (p : ℕ) → chain_from number status cell held p ≡ get_or number p 0 ∷ pick (ltb (next_at number status cell held p) places) (chain_from number status cell held (next_at number status cell held p)) []
+  unfolding chain_from chain_from_by
   chain_next p =
       let n = younger_than (get_or number p 0) number in
       let q = next_at number status cell held p in
@@ -95,14 +95,14 @@ module _ (number status cell held : List ℕ) (e : length number ≡ places) whe
       (λ f. rw f)
 
 -- no more jobs than looks and one
-looks_most : (number status cell held : List ℕ) (n p : ℕ) → length (chainFromBy number status cell held n p) ≤ suc n
-unfolding chainFromBy
+looks_most : (number status cell held : List ℕ) (n p : ℕ) → length (chain_from_by number status cell held n p) ≤ suc n
+unfolding chain_from_by
 looks_most number status cell held zero p = omega arith
 looks_most number status cell held (suc n) p =
     by_test (ltb (next_at number status cell held p) places)
     (λ t. rw t (omega (arith, looks_most number status cell held n (next_at number status cell held p)))) (λ f. rw f (omega arith))
 
 -- a chain is no longer than the younger jobs and one
-pub chain_most : (number status cell held : List ℕ) (p : ℕ) → length (chainFrom number status cell held p) ≤ suc (younger_than (get_or number p 0) number)
-unfolding chainFrom
+pub chain_most : (number status cell held : List ℕ) (p : ℕ) → length (chain_from number status cell held p) ≤ suc (younger_than (get_or number p 0) number)
+unfolding chain_from
 chain_most number status cell held p = looks_most number status cell held (younger_than (get_or number p 0) number) p

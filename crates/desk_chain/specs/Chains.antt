@@ -31,18 +31,18 @@ module _ (number status cell held : List ℕ) where
       places
 
   -- the chain of the job at place p, with at most n further looks
-  unfoldable pub chainFromBy : ℕ → ℕ → List ℕ
-  chainFromBy zero p = get_or number p 0 ∷ []
-  chainFromBy (suc n) p = get_or number p 0 ∷ pick (ltb (next_at p) places) (chainFromBy n (next_at p)) []
+  unfoldable pub chain_from_by : ℕ → ℕ → List ℕ
+  chain_from_by zero p = get_or number p 0 ∷ []
+  chain_from_by (suc n) p = get_or number p 0 ∷ pick (ltb (next_at p) places) (chain_from_by n (next_at p)) []
 
   -- the chain of the job at place p: each further look has fewer younger jobs left, so there are no more looks than younger jobs
-  unfoldable pub chainFrom : ℕ → List ℕ
-  chainFrom p = chainFromBy (younger_than (get_or number p 0) number) p
+  unfoldable pub chain_from : ℕ → List ℕ
+  chain_from p = chain_from_by (younger_than (get_or number p 0) number) p
 
 -- what a request for the chain of a job is told, and what the lent list then holds
 unfoldable pub asked_on : Desk → ℕ → List ℕ → ChainTold
 asked_on d job list =
-    chain_told (chainFrom d.number d.status d.cell d.held (pos d.number job)) list (chain_due (status_by d job) (length list))
+    chain_told (chain_from d.number d.status d.cell d.held (pos d.number job)) list (chain_due (status_by d job) (length list))
 
 -- whether place q waits and its number is above `last` and below `least`
 unfoldable pub waits_within : List ℕ → List ℕ → ℕ → ℕ → ℕ → Bool
@@ -59,7 +59,7 @@ waiter_above number status last (suc n) =
 unfoldable pub next_chain : Desk → ℕ → List ℕ
 next_chain d last =
     let p = waiter_above d.number d.status last places in
-    pick (ltb p places) (chainFrom d.number d.status d.cell d.held p) []
+    pick (ltb p places) (chain_from d.number d.status d.cell d.held p) []
 
 -- the first job of a chain
 unfoldable pub first_job : List ℕ → ℕ

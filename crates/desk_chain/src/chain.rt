@@ -3,7 +3,7 @@ ghost use Rattle.std.specs.Prelude.{◌<◌, ◌≡◌, length, get_or};
 ghost use Rattle.laws.specs.Lists.{filled};
 ghost use Rattle.terms.specs.Limits.{cells, places};
 ghost use Rattle.desk_rules.specs.Chain.{younger_than};
-ghost use Rattle.desk_chain.specs.Chains.{holds_above, holder_above, next_at, chainFrom, asked_on, waits_within, waiter_above, next_chain};
+ghost use Rattle.desk_chain.specs.Chains.{holds_above, holder_above, next_at, chain_from, asked_on, waits_within, waiter_above, next_chain};
 
 use conflict::modes::{mode_is_free, mode_of};
 use desk_arrays::codes::{FREE, SENT_BACK, WAITING};
@@ -90,7 +90,7 @@ fn follow<'a>(
 ) -> usize
     requires p_lt_places { (p < places) × (length number.now ≡ places) }
     requires number_in_bounds { younger_than (get_or number.now p 0) number.now < length list.old }
-    ensures { (result ≡ length (chainFrom number.now status.now cell.now held.now p)) × (list.new ≡ filled (chainFrom number.now status.now cell.now held.now p) list.old) }
+    ensures { (result ≡ length (chain_from number.now status.now cell.now held.now p)) × (list.new ≡ filled (chain_from number.now status.now cell.now held.now p) list.old) }
 {
     list[0] = number[p];
     let q = next_at(number, status, cell, held, p);

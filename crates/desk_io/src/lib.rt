@@ -9,10 +9,13 @@ ghost use Rattle.desk_io.specs.Serving.{started_front, program_by, Turned, Hands
 
 use clerk::chains::close;
 use clerk::work::{finish, work};
-use libc::{STDIN_FILENO, STDOUT_FILENO};
 use program_rules::{Clerk, Method, View};
+use std::io;
 use terms::limits::REQUEST_LINES;
 use text_rules::splitter::Splitter;
+
+// As many bytes are read at once, and as many have room before they are written out.
+const BUFFER: usize = 65_536;
 
 // Which desk program it is: the method that answers, and the view that it writes.
 #[derive(Clone, Copy)]
@@ -90,6 +93,47 @@ fn is_over(s: Splitter) -> bool
     REQUEST_LINES < s.line
 }
 
+// Says on standard error that the input could not be read.
+fn say_unread(rt: &HostRuntime, program: Program, error: &io::Error) {
+    match program.view {
+        View::Answers => match program.method {
+            Method::Locks => streams::fail(rt, "answers: cannot read", error),
+            Method::Stamps => streams::fail(rt, "stamp_answers: cannot read", error),
+        },
+        View::History => match program.method {
+            Method::Locks => streams::fail(rt, "history: cannot read", error),
+            Method::Stamps => streams::fail(rt, "stamp_history: cannot read", error),
+        },
+        View::Chains => streams::fail(rt, "chain: cannot read", error),
+    }
+}
+
+// Says on standard error that output could not be written.
+fn say_untaken(rt: &HostRuntime, program: Program, error: &io::Error) {
+    match program.view {
+        View::Answers => match program.method {
+            Method::Locks => streams::fail(rt, "answers: cannot write", error),
+            Method::Stamps => streams::fail(rt, "stamp_answers: cannot write", error),
+        },
+        View::History => match program.method {
+            Method::Locks => streams::fail(rt, "history: cannot write", error),
+            Method::Stamps => streams::fail(rt, "stamp_history: cannot write", error),
+        },
+        View::Chains => streams::fail(rt, "chain: cannot write", error),
+    }
+}
+
+// Writes bytes to standard output, and says on standard error if they are not taken; tells whether they are.
+fn put_out(rt: &HostRuntime, program: Program, bytes: &[u8]) -> bool {
+    match streams::write_all(rt, bytes) {
+        Ok(()) => true,
+        Err(e) => {
+            say_untaken(rt, program, &e);
+            false
+        }
+    }
+}
+
 // One call of the work, from a place of a chunk: its records are left in the buffer, to be written out.
 #[tactic(auto, using(crate::proofs::Places::call_turned))]
 fn serve_some(front: Front, chunk: &[u8], from: usize, out: &mut [u8]) -> Called
@@ -118,7 +162,7 @@ fn to_write<'a>(called: Called, out: &'a [u8]) -> &'a [u8]
 
 // A chunk: the records of every line that ends in it are written out before the next read. If output is not taken, the work ends.
 #[tactic(auto, using(crate::proofs::Places::front_none, crate::proofs::Places::seen_more, crate::proofs::Places::serves_all, crate::proofs::Places::serves_some))]
-fn serve_chunk(before: Front, chunk: &[u8], out: &mut [u8]) -> Served
+fn serve_chunk(rt: &HostRuntime, before: Front, chunk: &[u8], out: &mut [u8]) -> Served
     requires { line_room ≤ length out.old }
     ensures { Serves before chunk.now result }
 {
@@ -128,7 +172,7 @@ fn serve_chunk(before: Front, chunk: &[u8], out: &mut [u8]) -> Served
         let called = serve_some(front, chunk, seen, out);
         front = called.front;
         seen = called.next;
-        if !io::write_all(STDOUT_FILENO, to_write(called, out)) {
+        if !put_out(rt, program_of(front), to_write(called, out)) {
             return Served {
                 front,
                 seen,
@@ -145,25 +189,33 @@ fn serve_chunk(before: Front, chunk: &[u8], out: &mut [u8]) -> Served
 
 // Reads chunk after chunk. No contract says that input ends, so the loop counts down from a number of turns that no run uses up.
 #[tactic(auto, using(crate::proofs::Places::saw_chunk, crate::proofs::Places::saw_none, crate::proofs::Places::saw_part, crate::proofs::Places::saw_since))]
-fn serve_all(method: Method, view: View, input: &mut [u8], out: &mut [u8]) -> Halted
+fn serve_all(
+    rt: &HostRuntime,
+    method: Method,
+    view: View,
+    input: &mut [u8],
+    out: &mut [u8],
+) -> Halted
     requires { line_room ≤ length out.old }
     ensures { Halts method view result }
 {
     let mut front = started(method, view);
     let mut turns = u64::MAX;
     while turns > 0 {
-        let got = libc::read(STDIN_FILENO, input);
-        if got < 0 {
-            return Halted {
-                front,
-                why: Halt::NotRead,
-            };
-        }
-        let n = io::count(got, input);
+        let n = match streams::read(rt, input) {
+            Ok(n) => n,
+            Err(e) => {
+                say_unread(rt, Program { method, view }, &e);
+                return Halted {
+                    front,
+                    why: Halt::NotRead,
+                };
+            }
+        };
         if n == 0 {
             break;
         }
-        let served = serve_chunk(front, &input[0..n], out);
+        let served = serve_chunk(rt, front, &input[0..n], out);
         front = served.front;
         if !served.taken {
             return Halted {
@@ -182,46 +234,6 @@ fn serve_all(method: Method, view: View, input: &mut [u8], out: &mut [u8]) -> Ha
     Halted {
         front,
         why: Halt::Ended,
-    }
-}
-
-// Says on standard error that the input could not be read.
-fn say_unread(method: Method, view: View) {
-    match view {
-        View::Answers => match method {
-            Method::Locks => os::fail(b"answers: cannot read"),
-            Method::Stamps => os::fail(b"stamp_answers: cannot read"),
-        },
-        View::History => match method {
-            Method::Locks => os::fail(b"history: cannot read"),
-            Method::Stamps => os::fail(b"stamp_history: cannot read"),
-        },
-        View::Chains => os::fail(b"chain: cannot read"),
-    }
-}
-
-// Says on standard error that output could not be written.
-fn say_untaken(method: Method, view: View) {
-    match view {
-        View::Answers => match method {
-            Method::Locks => os::fail(b"answers: cannot write"),
-            Method::Stamps => os::fail(b"stamp_answers: cannot write"),
-        },
-        View::History => match method {
-            Method::Locks => os::fail(b"history: cannot write"),
-            Method::Stamps => os::fail(b"stamp_history: cannot write"),
-        },
-        View::Chains => os::fail(b"chain: cannot write"),
-    }
-}
-
-// Says on standard error why no more is read, if something failed.
-fn say_halt(method: Method, view: View, why: Halt) {
-    match why {
-        Halt::Ended => {}
-        Halt::NotRead => say_unread(method, view),
-        Halt::AllRead => {}
-        Halt::NotTaken => say_untaken(method, view),
     }
 }
 
@@ -288,26 +300,28 @@ fn to_write_last<'a>(halted: Halted, out: &'a mut [u8]) -> &'a [u8]
 
 // Handles all of the input, and what is written and said at its end; returns which program was run.
 #[tactic(auto, using(crate::proofs::OneProgram::program_kept, crate::proofs::OneProgram::room_kept, program_rules::proofs::Closings::line_room_lem))]
-fn serve_input(method: Method, view: View, input: &mut [u8], out: &mut [u8]) -> Program
+fn serve_input(
+    rt: &HostRuntime,
+    method: Method,
+    view: View,
+    input: &mut [u8],
+    out: &mut [u8],
+) -> Program
     requires { program_room view ≤ length out.old }
     ensures { result ≡ program_by method view }
 {
-    let halted = serve_all(method, view, input, out);
-    let why = halted.why;
-    say_halt(method, view, why);
-    if !io::write_all(STDOUT_FILENO, to_write_last(halted, out)) {
-        say_untaken(method, view);
-    }
+    let halted = serve_all(rt, method, view, input, out);
+    let _ = put_out(rt, Program { method, view }, to_write_last(halted, out));
     program_of(halted.front)
 }
 
 // Serves standard input to its end, to the end of line 1,000,000, or to the first output that is not taken; says on standard error what cannot be read or written.
 // Returns which program was run, so that no other method or view is passed on.
 #[tactic(auto, using(crate::proofs::Rest::room_at_most))]
-pub fn serve(method: Method, view: View) -> Program
+pub fn serve(rt: &HostRuntime, method: Method, view: View) -> Program
     ensures { result ≡ program_by method view }
 {
-    let mut input = io::large_buffer();
-    let mut out = io::large_buffer();
-    serve_input(method, view, &mut input, &mut out)
+    let mut input = [0u8; BUFFER];
+    let mut out = [0u8; BUFFER];
+    serve_input(rt, method, view, &mut input, &mut out)
 }

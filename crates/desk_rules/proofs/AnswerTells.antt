@@ -28,7 +28,7 @@ use Rattle.desks.specs.Table.{letter_is}
 use Rattle.desk_rules.specs.Asked.{Asking, Elder, asker}
 use Rattle.desk_rules.specs.Moves.{standing, Moved, refuses, begins, commits, gives_up, retries, has_it, promotes, waits_in_front, enters, waits_last, goes_back}
 use Rattle.desk_rules.specs.Effects.{Joined, promotion, newcomer}
-use Rattle.desks.proofs.Answers.{other-answer, goesOrRefuses}
+use Rattle.desks.proofs.Answers.{other-answer, goes_or_refuses}
 use Rattle.desk_rules.proofs.Moved.{step_moved, elder_of}
 
 -- what an answer tells: its job, the rule's outcome, and what held before
@@ -125,7 +125,7 @@ data HeldUp (d : Desk) (r : Request) : Outcome → Type 0 where
   leaves : (a : Ask) → Asking d r a → Elder d r.job r.cell → HeldUp d r (rule4 d r.job sentback d.jobs (Back r.job))
 
 -- every move that answers neither go nor a refusal is of this kind
-held_up : {d : Desk} {r : Request} {o : Outcome} → Moved d r o → goesOrRefuses o.said ≡ false → HeldUp d r o
+held_up : {d : Desk} {r : Request} {o : Outcome} → Moved d r o → goes_or_refuses o.said ≡ false → HeldUp d r o
 unfolding refused rule4
 held_up (refuses why _) e = not_both refl e
 held_up (begins l n m) e = not_both refl e
@@ -154,7 +154,7 @@ same_wait e = cc
 
 -- a wait is of the request's job, which runs and asks
 pub ask_waited : (d : Desk) (r : Request) (j : ℕ) → (step d r).said ≡ Wait j → Waited d r j
-ask_waited d r j g = by_move (held_up (step_moved d r) (ap goesOrRefuses g)) refl g
+ask_waited d r j g = by_move (held_up (step_moved d r) (ap goes_or_refuses g)) refl g
   where
     by_move : {o : Outcome} → HeldUp d r o → step d r ≡ o → o.said ≡ Wait j → Waited d r j
     by_move (waits a q k p) h e = record { job = same_wait e; ask = a; asking = k; queue = q; joins = p; outcome = unfold queued in h }
@@ -166,7 +166,7 @@ same_back e = cc
 
 -- a job that is sent back was running, and an older job stood in its way
 pub ask_back : (d : Desk) (r : Request) (j : ℕ) → (step d r).said ≡ Back j → Tells d r r.job j (send_back d r.job) ((a : Ask) × Asking d r a × Elder d r.job r.cell)
-ask_back d r j g = by_move (held_up (step_moved d r) (ap goesOrRefuses g)) refl g
+ask_back d r j g = by_move (held_up (step_moved d r) (ap goes_or_refuses g)) refl g
   where
     by_move : {o : Outcome} → HeldUp d r o → step d r ≡ o → o.said ≡ Back j → Tells d r r.job j (send_back d r.job) ((a : Ask) × Asking d r a × Elder d r.job r.cell)
     by_move (waits a q k p) h e = other-answer e refl

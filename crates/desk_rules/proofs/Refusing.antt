@@ -22,7 +22,7 @@ use Rattle.desk_rules.specs.Table.{holds, order, due_by, due_of, Due, named}
 use Rattle.desk_rules.specs.Course.{from}
 use Rattle.desk_rules.specs.Refuses.{Refuses}
 use Rattle.desk_rules.proofs.TableMeant.{step_meant}
-use Rattle.desks.proofs.Answers.{goesOrRefuses}
+use Rattle.desks.proofs.Answers.{goes_or_refuses}
 use Rattle.desks.proofs.Refusing as by_table
 use Rattle.desks.proofs.Refusing.{refused_due, refuses-by}
 use Rattle.desk_rules.proofs.Fields.{step_alike}
@@ -64,10 +64,10 @@ due_number : (d : Desk) (r : Request) (why : Refusal) → Due d r why → (1 ≤
 due_number d r why e = row_number (letter_of r.kind) (d.stat r.job) r.cell d why (row_holds d r why e)
 
 -- only requests for a cell are answered wait or back
-only_cells : (d : Desk) (r : Request) → letter_is asks_no_cell (letter_of r.kind) ≡ true → goesOrRefuses (step d r).said ≡ true
+only_cells : (d : Desk) (r : Request) → letter_is asks_no_cell (letter_of r.kind) ≡ true → goes_or_refuses (step d r).said ≡ true
 only_cells d r k = by_answer (step d r).said refl
   where
-    by_answer : (x : Answer) → (step d r).said ≡ x → goesOrRefuses x ≡ true
+    by_answer : (x : Answer) → (step d r).said ≡ x → goes_or_refuses x ≡ true
     by_answer (Go j) q = refl
     by_answer (Wait j) q = not_both k (ap (letter_is asks_no_cell) (ask_waited d r j q).asking.letter)
     by_answer (Back j) q = not_both k (ap (letter_is asks_no_cell) (ask_back d r j q).was.1.letter)

@@ -83,9 +83,9 @@ abbrev pub Keeps : Desk → Desk → ℕ → ℕ → Type 0
 Keeps d e i c = covers ((e.row c).held i) ((d.row c).held i) ≡ true
 
 -- queue q is queue p with waiter w added: in front if its job holds the cell, at the end if it does not
-pub data Joined (holdsNothing : Bool) (w : Waiter) (p : List Waiter) : List Waiter → Type 0 where
-  promotion : holdsNothing ≡ false → Joined holdsNothing w p (w ∷ p)
-  newcomer : holdsNothing ≡ true → Joined holdsNothing w p (p ++ w ∷ [])
+pub data Joined (holds_nothing : Bool) (w : Waiter) (p : List Waiter) : List Waiter → Type 0 where
+  promotion : holds_nothing ≡ false → Joined holds_nothing w p (w ∷ p)
+  newcomer : holds_nothing ≡ true → Joined holds_nothing w p (p ++ w ∷ [])
 
 -- from desk d to desk e request r made its job j wait with ask a: its status says so, it is in the queue where the rules put it, every job holds what it held, and all else is as before
 pub record StartsToWait (d e : Desk) (r : Request) (a : Ask) (j : ℕ) : Type 0 where

@@ -21,8 +21,8 @@ pub other-answer : {P : Type 0} {x y : Answer} → x ≡ y → eqb (case_of x) (
 other-answer {y = y} e n = not_both (rw e (same_refl (case_of y))) n
 
 -- the answer is go or a refusal: no job is held up
-abbrev pub goesOrRefuses : Answer → Bool
-goesOrRefuses (Go j) = true
-goesOrRefuses (Wait j) = false
-goesOrRefuses (Back j) = false
-goesOrRefuses (No why) = true
+abbrev pub goes_or_refuses : Answer → Bool
+goes_or_refuses (Go j) = true
+goes_or_refuses (Wait j) = false
+goes_or_refuses (Back j) = false
+goes_or_refuses (No why) = true

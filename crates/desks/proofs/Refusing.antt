@@ -18,7 +18,7 @@ use Rattle.desks.specs.Records.{records_of, own_records, wake_records}
 use Rattle.desks.specs.Table.{Answers, goes, waits, goes_back, letter_is, asks_no_cell}
 use Rattle.desks.specs.Course.{course}
 use Rattle.desks.specs.Refuses.{RefusesBy}
-use Rattle.desks.proofs.Answers.{goesOrRefuses}
+use Rattle.desks.proofs.Answers.{goes_or_refuses}
 use Rattle.desks.proofs.AnswerNumbers.{beside_is_job, no_field}
 use Rattle.desks.proofs.Fields.{records_alike}
 use Rattle.desks.proofs.TableMeant.{Meant}
@@ -38,7 +38,7 @@ one_job (waits i) (waits _) = refl
 one_job (goes_back i) (goes_back _) = refl
 
 -- an answer with a job that is go or a refusal is go
-only_go : {x : Answer} {j : ℕ} → goesOrRefuses x ≡ true → Answers x j → x ≡ Go j
+only_go : {x : Answer} {j : ℕ} → goes_or_refuses x ≡ true → Answers x j → x ≡ Go j
 only_go e (goes j) = refl
 only_go e (waits j) = not_both e refl
 only_go e (goes_back j) = not_both e refl
@@ -74,7 +74,7 @@ module _ {D : Type 0} (step : Stepping D) (due : D → Request → Option Refusa
 
   -- REFUSED BY THE TABLE: a desk keeps what is promised of refusals and answers if only requests for a cell are answered wait or back, no 9 is due, and requests that are alike make the same step
   pub refuses-by :
-      ((d : D) (r : Request) → letter_is asks_no_cell (letter_of r.kind) ≡ true → goesOrRefuses (step d r).said ≡ true) →
+      ((d : D) (r : Request) → letter_is asks_no_cell (letter_of r.kind) ≡ true → goes_or_refuses (step d r).said ≡ true) →
       ((d : D) (r : Request) (why : Refusal) → due d r ≡ some why → number_of why ≡ 9 → ⊥) →
       ((d : D) (r s : Request) → r.kind ≡ s.kind → Alike (letter_of r.kind) r s → step d r ≡ step d s) →
       (d : D) → RefusesBy due named (course (λ e. e) step d)

@@ -3,20 +3,20 @@
 use Prim.Native.Nat.{ℕ, zero, suc, ◌+◌, ◌-◌, ◌≤◌, ◌<◌}
 use mathlib.Core.Path.{◌≡◌, refl, sym, ap, ◌∙◌, subst}
 use mathlib.Core.Logic.{◌↔◌}
-use mathlib.Core.Bool.{true, false}
-use mathlib.Core.List.{List, [], ◌∷◌, ◌++◌}
+use mathlib.Core.Bool.{true}
+use mathlib.Core.List.{List, ◌∷◌}
 use native.Mathlib.Omega.{arith}
 use lib.ListN.{length, get_or, length-append, get_or-append}
 use lib.Seq.{get_or-append_seam, get_or-append-add}
 use Rattle.laws.specs.Choice.{not_both}
-use Rattle.laws.specs.Lists.{member, pos}
+use Rattle.laws.specs.Lists.{member}
 use Rattle.laws.specs.Sorted.{ascending}
 use Rattle.conflict.specs.Schedule.{edge}
 use Rattle.conflict.specs.History.{History, committed_part}
 use Rattle.judge_rules.specs.Order.{Edges, stuck}
 use Rattle.judge_rules.specs.Knot.{up_to}
-use Rattle.judge_rules.specs.Judged.{Finding, orderly, knotted, judged, jobs_of, finding_of}
-use Rattle.judge_rules.specs.Meant.{Shown, Takes}
+use Rattle.judge_rules.specs.Judged.{orderly, knotted, judged, jobs_of, finding_of}
+use Rattle.judge_rules.specs.Meant.{Shown}
 use Rattle.judge_rules.specs.KnotWorded.{Remains, KnotTold}
 use Rattle.judge_rules.proofs.Turns.{turned_member}
 use Rattle.judge_rules.proofs.Places.{at_member, pos_at, up_to_size, up_to_at}

@@ -1,5 +1,5 @@
 -- A history as text: how its lines read, the first faulty one with its refusal, and the events that faultless lines say (01, Refusals by number; 01, Lines).
-use Rattle.std.specs.Prelude.{ℕ, suc, ◌+◌, ◌-◌, ◌&&◌, ◌||◌, List, [], ◌∷◌, ◌++◌, map, eqb, ltb, leb, get_or}
+use Rattle.std.specs.Prelude.{ℕ, suc, ◌-◌, ◌&&◌, ◌||◌, List, [], ◌∷◌, ◌++◌, map, eqb, ltb, leb, get_or}
 use Rattle.std.proofs.Math.Option.{Option, none, some}
 use Rattle.laws.specs.Choice.{pick}
 use Rattle.laws.specs.Lists.{member}

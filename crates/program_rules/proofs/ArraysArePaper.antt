@@ -2,7 +2,7 @@
 -- Assumes nothing.
 use Prim.Native.Nat.{ℕ, ◌+◌}
 use mathlib.Core.Path.{◌≡◌, refl, ap, ap₂, ◌∙◌}
-use mathlib.Core.List.{List, [], ◌∷◌}
+use mathlib.Core.List.{List, [], ◌∷◌, ◌++◌}
 use native.Mathlib.Omega.{arith}
 use lib.Dec.{ltb}
 use Rattle.laws.specs.Choice.{by_test}
@@ -32,16 +32,16 @@ use Rattle.program_rules.specs.OverLines.{Told, Lined, answered, line_by, run_of
 use Rattle.program_rules.specs.Chains.{desk_over}
 use Rattle.program_rules.specs.Desks.{new_desks, on_desks}
 use Rattle.program_rules.specs.Programs.{first_number, run_on, stamp_run_on, run_by, desks_run, desk_on}
-use Rattle.program_rules.proofs.StartedHistory.{line_started}
+use Rattle.program_rules.proofs.StartedHistory.{recorded, line_started}
 use Rattle.program_rules.proofs.TwoDesks.{by_locks, by_stamps}
 
 module _ {S T : Type 0} {see : S → T} {does : Stepping S} {new : ℕ → S} {theirs : Stepping T} {first : ℕ → T} (f : Follows see does new theirs first) where
   -- a line as it is seen
-  abbrev seenLine : Lined S → Lined T
-  seenLine l = record { desk = see l.desk; told = l.told }
+  abbrev seen_line : Lined S → Lined T
+  seen_line l = record { desk = see l.desk; told = l.told }
 
   -- one line on both desks, by what it says
-  same_line : {d : S} {h : History} → StartedOn does new d h → (n : ℕ) (r : Reading) → seenLine (answered does d n r) ≡ answered theirs (see d) n r
+  same_line : {d : S} {h : History} → StartedOn does new d h → (n : ℕ) (r : Reading) → seen_line (answered does d n r) ≡ answered theirs (see d) n r
   unfolding answered
   same_line s n (Bad at) = refl
   same_line {d} {h} s n (Good l job cell) =
@@ -52,21 +52,23 @@ module _ {S T : Type 0} {see : S → T} {does : Stepping S} {new : ℕ → S} {t
   pub same_run : {d : S} {h : History} → StartedOn does new d h → (n : ℕ) (ls : List (List ℕ)) → run_of does d n ls ≡ run_of theirs (see d) n ls
   unfolding run_of line_by
   same_run s n [] = refl
-  same_run s n (l ∷ ls) =
+  same_run {d = d} {h = h} s n (l ∷ ls) =
       let r = read_line of_requests l in
+      let o = answered does d n r in
       let e = same_line s n r in
       by_test (ltb request_lines n) (λ t. rw t)
       (λ g. rw g (ap₂ (λ (t : Told) (ts : List Told). t ∷ ts) (ap (λ x. x.told) e)
-      (same_run (line_started s n r) (n + 1) ls ∙ ap (λ x. run_of theirs x.desk (n + 1) ls) e)))
+      (same_run {d = o.desk} {h = h ++ recorded o.told} (line_started s n r) (n + 1) ls ∙ ap (λ x. run_of theirs x.desk (n + 1) ls) e)))
 
   -- the desk after them is seen as the other's
   pub same_desk : {d : S} {h : History} → StartedOn does new d h → (n : ℕ) (ls : List (List ℕ)) → see (desk_over does d n ls) ≡ desk_over theirs (see d) n ls
   unfolding desk_over line_by
   same_desk s n [] = refl
-  same_desk s n (l ∷ ls) =
+  same_desk {d = d} {h = h} s n (l ∷ ls) =
       let r = read_line of_requests l in
+      let o = answered does d n r in
       by_test (ltb request_lines n) (λ t. rw t)
-      (λ g. rw g (same_desk (line_started s n r) (n + 1) ls ∙ ap (λ x. desk_over theirs x.desk (n + 1) ls) (same_line s n r)))
+      (λ g. rw g (same_desk {d = o.desk} {h = h ++ recorded o.told} (line_started s n r) (n + 1) ls ∙ ap (λ x. desk_over theirs x.desk (n + 1) ls) (same_line s n r)))
 
   -- so from a start at 1 on it tells the same of any lines
   pub one_run : (ls : List (List ℕ)) → run_of does (new first_number) 1 ls ≡ run_of theirs (first first_number) 1 ls

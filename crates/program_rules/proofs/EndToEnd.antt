@@ -62,20 +62,20 @@ module _ (text : List ℕ) where
   history_says = of_written (λ t. events_in (readings_of t) ≡ history_on text) (plain_says history_plain)
 
   -- the history that is read in what is written
-  abbrev pub readIn : History
-  readIn = events_in (readings_of (history_of text))
+  abbrev pub read_in : History
+  read_in = events_in (readings_of (history_of text))
 
   -- its order of commits names each job with a c once, and no other job
-  pub history_commits_once : (distinct (commit_order readIn) ≡ true) × ((j : ℕ) → member j (commit_order readIn) ≡ marked is_commit j readIn)
-  history_commits_once = (subst (λ h. distinct (commit_order h) ≡ true) (sym history_says) (serial_history started).commits_once, λ j. listed j readIn)
+  pub history_commits_once : (distinct (commit_order read_in) ≡ true) × ((j : ℕ) → member j (commit_order read_in) ≡ marked is_commit j read_in)
+  history_commits_once = (subst (λ h. distinct (commit_order h) ≡ true) (sym history_says) (serial_history started).commits_once, λ j. listed j read_in)
 
   -- DEMAND 2, OF TEXTS ALONE: whatever comes in, the history that is read in what `history` writes has a committed part that is conflict-equivalent to its jobs
   -- one after another in the order of their commits, and that order names each of them once
-  pub history_serial : Equivalent (committed_part readIn) (serial (commit_order readIn) (committed_part readIn)) × (distinct (commit_order readIn) ≡ true) × ((j : ℕ) → member j (commit_order readIn) ≡ marked is_commit j readIn)
+  pub history_serial : Equivalent (committed_part read_in) (serial (commit_order read_in) (committed_part read_in)) × (distinct (commit_order read_in) ≡ true) × ((j : ℕ) → member j (commit_order read_in) ≡ marked is_commit j read_in)
   history_serial = (subst (λ h. Equivalent (committed_part h) (serial (commit_order h) (committed_part h))) (sym history_says) (serial_history started).serial_by_commits, history_commits_once.0, history_commits_once.1)
 
   -- NEVER DIRTY, OF TEXTS ALONE: whatever comes in, the history that is read in what `history` writes is not dirty, nor is any part of it from its start on (02, No. 2)
-  pub history_never_dirty : (x y : History) → readIn ≡ x ++ y → IsDirty x → ⊥
+  pub history_never_dirty : (x y : History) → read_in ≡ x ++ y → IsDirty x → ⊥
   history_never_dirty x y e = (serial_history started).never_dirty x y (sym history_says ∙ e)
 
   -- since every line is read back, the first faulty one, if there is one, is line 4,097 or is for a job outside 1 to 255

@@ -52,10 +52,10 @@ line_started s n (Good l job cell) = after s (record { kind = byte_of l; job = j
 pub run_started : {S : Type 0} {does : Stepping S} {new : ℕ → S} {d : S} {h : History} → StartedOn does new d h → (n : ℕ) (ls : List (List ℕ)) → StartedOn does new (desk_over does d n ls) (h ++ history_of_run (run_of does d n ls))
 unfolding run_of desk_over line_by history_of_run
 run_started {does = does} {new} {d} {h} s n [] = subst (StartedOn does new d) (sym (append-nil h)) s
-run_started {does = does} {new} {d} {h} s n (l ∷ ls) =
+run_started {S = S} {does = does} {new} {d} {h} s n (l ∷ ls) =
     let o = answered does d n (read_line of_requests l) in
     by_test (ltb request_lines n) (λ e. rw e (subst (StartedOn does new d) (sym (append-nil h)) s))
-    (λ e. rw e (subst (StartedOn does new (desk_over does o.desk (n + 1) ls)) (append_assoc h (recorded o.told) (history_of_run (run_of does o.desk (n + 1) ls))) (run_started (line_started s n (read_line of_requests l)) (n + 1) ls)))
+    (λ e. rw e (subst (StartedOn does new (desk_over does o.desk (n + 1) ls)) (append_assoc h (recorded o.told) (history_of_run (run_of does o.desk (n + 1) ls))) (run_started {d = o.desk} {h = h ++ recorded o.told} (line_started s n (read_line of_requests l)) (n + 1) ls)))
 
 module _ {S : Type 0} (step : Stepping S) (next : S → ℕ) (each : (d : S) (r : Request) → Gives (next d) (given_by r (step d r).said) (next (step d r).desk)) where
   -- the next number grows by the numbers that a line gives, on any desk whose steps give the next number or none

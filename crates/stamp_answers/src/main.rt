@@ -3,6 +3,6 @@
 
 use program_rules::{Method, View};
 
-fn main() {
-    desk_io::serve(Method::Stamps, View::Answers);
+fn main(rt: HostRuntime) {
+    let _ = desk_io::serve(&rt, Method::Stamps, View::Answers);
 }

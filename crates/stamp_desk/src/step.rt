@@ -73,7 +73,6 @@ fn mark_writer(writer: &mut [u32; ROWS], c: usize, job: u32, a: Ask)
 }
 
 // One step by letter, job and cell, on the desk's fields, each lent and changed in place.
-#[tactic(auto, using(crate::proofs::Performed::act_cell, crate::proofs::Performed::acted, crate::proofs::Performed::back_at, crate::proofs::Performed::back_place, crate::proofs::Performed::begin_place, crate::proofs::Performed::begun_at, crate::proofs::Performed::close_place, crate::proofs::Performed::closed_at, crate::proofs::Performed::refused, terms::proofs::Alphabet::letter_of_byte))]
 pub fn step_for(
     next: &mut u64,
     number: &mut [u32; PLACES],

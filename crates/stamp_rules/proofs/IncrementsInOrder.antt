@@ -29,7 +29,7 @@ abbrev NoneSmaller : History → Type 0
 NoneSmaller h = (before : History) (a : Action) (between : History) (b : Action) (rest : History) → h ≡ before ++ Does a ∷ between ++ Does b ∷ rest → a.cell ≡ b.cell → changes a.kind ≡ true → a.job ≤ b.job
 
 -- a step keeps this, if the cells' numbers are what the history says
-wrote_none_smaller : {d e : Desk} {r : Request} {h g : History} → Matches d h → NoneSmaller h → Wrote d r e g → NoneSmaller (h ++ g)
+wrote_none_smaller : {d : Desk} {r : Request} {e : Desk} {h g : History} → Matches d h → NoneSmaller h → Wrote d r e g → NoneSmaller (h ++ g)
 wrote_none_smaller {h = h} k o (nothing s) = rw (append-nil h) o
 wrote_none_smaller {d = d} {r = r} {h = h} k o (action x p f) = λ before a between b rest q c w.
     last_split h (Does (asking r x)) (before ++ Does a ∷ between) (Does b) rest q

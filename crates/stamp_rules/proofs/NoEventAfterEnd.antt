@@ -57,7 +57,7 @@ line_apart : {d e : Desk} {r : Request} {h g : History} → Over d h → Wrote d
 line_apart {g = g} k w j m = by_test (line_of j g) (λ t. not_both (line_open w j t) (k.shut j m)) (λ n. n)
 
 -- so nothing that a step writes follows a mark of its job
-wrote_last : {d e : Desk} {r : Request} {h g : History} → Over d h → Wrote d r e g → NothingAfter (h ++ g)
+wrote_last : {d : Desk} {r : Request} {e : Desk} {h g : History} → Over d h → Wrote d r e g → NothingAfter (h ++ g)
 wrote_last {h = h} k (nothing s) = rw (append-nil h) k.last
 wrote_last {r = r} {h = h} k (action a p f) = nothing_after_more h (Does (asking r a)) k.last (line_apart {r = r} k (action a p f))
 wrote_last {r = r} {h = h} k (mark m o) = nothing_after_more h (Ends m r.job) k.last (line_apart {r = r} k (mark m o))

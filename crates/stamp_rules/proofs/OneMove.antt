@@ -38,11 +38,11 @@ module _ {d : Desk} {r : Request} where
   due_moves : {o : Outcome} (why : Refusal) → Due d r why → Moved d r o → o ≡ refused d why
   unfolding due_of due_by holds order first_of
   due_moves why x (refuses w y) = ap (refused d) (one_due y x)
-  due_moves why x (begins l n m) = not_due (rw (l, le-ltb last_number d.next n, m)) x
-  due_moves why x (closes (inl l) o) = not_due (rw (l, o)) x
-  due_moves why x (closes (inr l) o) = not_due (rw (l, o)) x
-  due_moves why x (goes a k f) = not_due (rw (k.letter, k.open_job, lt-leb cells r.cell k.within)) x
-  due_moves why x (goes_back a k t) = not_due (rw (k.letter, k.open_job, lt-leb cells r.cell k.within)) x
+  due_moves why x (begins l n m) = not_due (simp (l, le-ltb last_number d.next n, m)) x
+  due_moves why x (closes (inl l) o) = not_due (simp (l, o)) x
+  due_moves why x (closes (inr l) o) = not_due (simp (l, o)) x
+  due_moves why x (goes a k f) = not_due (simp (k.letter, k.open_job, lt-leb cells r.cell k.within)) x
+  due_moves why x (goes_back a k t) = not_due (simp (k.letter, k.open_job, lt-leb cells r.cell k.within)) x
 
   -- THERE IS ONE MOVE: every move that the rules allow is the step
   pub moved_only : {o : Outcome} → Moved d r o → step d r ≡ o

@@ -31,7 +31,7 @@ recorded_jobs (after {d = d} {h = h} s r) j l =
     or_either (line_of j h) (line_of j g) (sym (line_append j h g) ∙ l) (λ t. recorded_jobs s j t) (λ t. (limits s).open_within j (line_open (step_wrote d r) j t))
 
 -- an action that a step writes is on the cell that was asked for
-wrote_cell : {d e : Desk} {r : Request} {g : History} → Wrote d r e g → (x : Action) → In (Does x) g → x.cell < 64
+wrote_cell : {d : Desk} {r : Request} {e : Desk} {g : History} → Wrote d r e g → (x : Action) → In (Does x) g → x.cell < 64
 wrote_cell (nothing s) x h = in_none h
 wrote_cell (action a k f) x h = in_split h (λ e. subst (λ y. y.cell < 64) (sym (same_action e)) k.within) in_none
 wrote_cell (mark m o) x h = in_split h no_mark in_none
@@ -42,7 +42,7 @@ recorded_cells (fresh n _ _) x k = in_none k
 recorded_cells (after {d = d} {h = h} s r) x k = in_either h (records_by step d r) k (λ t. recorded_cells s x t) (wrote_cell (step_wrote d r) x)
 
 -- what is written of a step is at most one record
-wrote_few : {d e : Desk} {r : Request} {g : History} → Wrote d r e g → length g ≤ 1
+wrote_few : {d : Desk} {r : Request} {e : Desk} {g : History} → Wrote d r e g → length g ≤ 1
 wrote_few (nothing s) = omega arith
 wrote_few (action a k f) = omega arith
 wrote_few (mark m o) = omega arith

@@ -18,7 +18,7 @@ use Rattle.desks.specs.declared.Answer.TheVariants.{No}
 use Rattle.desks.specs.Request.{Request, Alike}
 use Rattle.desks.specs.Begin.{refused}
 use Rattle.desks.specs.Table.{letter_is, asks_no_cell}
-use Rattle.desks.proofs.Answers.{goesOrRefuses}
+use Rattle.desks.proofs.Answers.{goes_or_refuses}
 use Rattle.desks.proofs.Refusing.{refused_due, refuses-by}
 use Rattle.stamp_rules.specs.Desk.{Desk, is_open}
 use Rattle.stamp_rules.specs.Rules.{Outcome}
@@ -72,10 +72,10 @@ unfolding member
 no_nine d r why e n = not_both (sym (ap (λ m. member m (1 ∷ 2 ∷ 3 ∷ 6 ∷ 7 ∷ 19 ∷ [])) n) ∙ due_number d r why e) refl
 
 -- only requests for a cell are answered back, and no request is answered wait
-only_cells : (d : Desk) (r : Request) → letter_is asks_no_cell (letter_of r.kind) ≡ true → goesOrRefuses (step d r).said ≡ true
+only_cells : (d : Desk) (r : Request) → letter_is asks_no_cell (letter_of r.kind) ≡ true → goes_or_refuses (step d r).said ≡ true
 only_cells d r k = by_move (step_moved d r)
   where
-    by_move : {o : Outcome} → Moved d r o → goesOrRefuses o.said ≡ true
+    by_move : {o : Outcome} → Moved d r o → goes_or_refuses o.said ≡ true
     by_move (moves.refuses why _) = unfold refused in refl
     by_move (moves.begins l n m) = refl
     by_move (moves.closes l o) = refl

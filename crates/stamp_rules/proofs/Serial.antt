@@ -20,7 +20,7 @@ use Rattle.stamp_rules.proofs.IncrementsInOrder.{increments_in_order}
 use Rattle.stamp_rules.proofs.NoEventAfterEnd.{started_over}
 
 -- a step keeps number order, if the cells' numbers are what the history says: an action that goes is not below those it is compared with
-wrote_in_order : {d e : Desk} {r : Request} {h g : History} → Matches d h → ActsInNumberOrder h → Wrote d r e g → ActsInNumberOrder (h ++ g)
+wrote_in_order : {d : Desk} {r : Request} {e : Desk} {h g : History} → Matches d h → ActsInNumberOrder h → Wrote d r e g → ActsInNumberOrder (h ++ g)
 wrote_in_order {h = h} k o (nothing s) = rw (append-nil h) o
 wrote_in_order {d = d} {r = r} {h = h} k o (action a p f) =
     number_order_grows h (asking r a) o (omega (arith, k.writers r.cell, over_writer d r.job r.cell a f))

@@ -11,7 +11,6 @@ use text_rules::Reading;
 use text_rules::splitter::{KEPT, Splitter};
 
 // What the line in the splitter says.
-#[tactic(auto, using(crate::proofs::Holding::held_part, crate::proofs::Holding::held_whole))]
 pub fn read_held(s: Splitter) -> Reading
     ensures { result ≡ read_line of_requests (found_at s).bytes }
 {
@@ -24,7 +23,6 @@ pub fn read_held(s: Splitter) -> Reading
 }
 
 // The field at fault of the line in the splitter, which has no newline.
-#[tactic(auto, using(crate::proofs::Holding::held_part, crate::proofs::Holding::held_whole))]
 pub fn torn_held(s: Splitter) -> Field
     ensures { result ≡ lacking (read_line of_requests (found_at s).bytes) }
 {

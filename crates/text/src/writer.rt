@@ -91,7 +91,6 @@ fn put_field(part: &mut [u8], there: bool, n: u64, len: usize) -> usize
 }
 
 // Writes a word.
-#[tactic(auto, using(crate::proofs::WordLaws::copying_all, crate::proofs::WordLaws::copying_more, crate::proofs::WordLaws::copying_none))]
 fn put_word(part: &mut [u8], word: Word) -> usize
     requires { length (spelt word) ≤ length part.old }
     ensures { Wrote 0 result (spelt word) part.old part.new }
@@ -219,7 +218,6 @@ pub fn write_line(buf: &mut [u8], at: usize, letter: Letter, job: u64, cell: u64
 }
 
 // Writes a word alone: the start of a verdict line.
-#[tactic(auto, using(crate::proofs::WordLaws::spelling_length, text_rules::proofs::RoomLaws::no_room_for, text_rules::proofs::RoomLaws::refused, text_rules::proofs::RoomLaws::room_for, text_rules::proofs::RoomLaws::written, text_rules::proofs::WroteLaws::lent_fits, text_rules::proofs::WroteLaws::wrote_more, text_rules::proofs::WroteLaws::wrote_none))]
 pub fn write_word(buf: &mut [u8], at: usize, word: Word) -> Written
     ensures { (result ≡ told buf.old at (spelt word)) × (buf.new ≡ left buf.old at (spelt word)) }
 {
@@ -235,7 +233,6 @@ pub fn write_word(buf: &mut [u8], at: usize, word: Word) -> Written
 }
 
 // Writes a number alone, in shortest decimal: the start of a line of jobs.
-#[tactic(auto, using(text_rules::proofs::RoomLaws::no_room_for, text_rules::proofs::RoomLaws::refused, text_rules::proofs::RoomLaws::room_for, text_rules::proofs::RoomLaws::written, text_rules::proofs::WroteLaws::lent_fits, text_rules::proofs::WroteLaws::wrote_more, text_rules::proofs::WroteLaws::wrote_none))]
 pub fn write_number(buf: &mut [u8], at: usize, n: u64) -> Written
     ensures { (result ≡ told buf.old at (decimal n)) × (buf.new ≡ left buf.old at (decimal n)) }
 {
@@ -250,7 +247,6 @@ pub fn write_number(buf: &mut [u8], at: usize, n: u64) -> Written
 }
 
 // Writes a further field alone: a tab and the number.
-#[tactic(auto, using(text_rules::proofs::FieldLaws::field_there, text_rules::proofs::RoomLaws::no_room_for, text_rules::proofs::RoomLaws::refused, text_rules::proofs::RoomLaws::room_for, text_rules::proofs::RoomLaws::written, text_rules::proofs::WroteLaws::lent_fits, text_rules::proofs::WroteLaws::wrote_as, text_rules::proofs::WroteLaws::wrote_more, text_rules::proofs::WroteLaws::wrote_none))]
 pub fn write_field(buf: &mut [u8], at: usize, n: u64) -> Written
     ensures { (result ≡ told buf.old at (tab ∷ decimal n)) × (buf.new ≡ left buf.old at (tab ∷ decimal n)) }
 {
@@ -265,7 +261,6 @@ pub fn write_field(buf: &mut [u8], at: usize, n: u64) -> Written
 }
 
 // Writes the newline that ends a line.
-#[tactic(auto, using(text_rules::proofs::RoomLaws::no_room_for, text_rules::proofs::RoomLaws::refused, text_rules::proofs::RoomLaws::room_for, text_rules::proofs::RoomLaws::written, text_rules::proofs::WroteLaws::lent_fits, text_rules::proofs::WroteLaws::wrote_more, text_rules::proofs::WroteLaws::wrote_none))]
 pub fn write_end(buf: &mut [u8], at: usize) -> Written
     ensures { (result ≡ told buf.old at (newline ∷ [])) × (buf.new ≡ left buf.old at (newline ∷ [])) }
 {

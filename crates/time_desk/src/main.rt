@@ -8,7 +8,6 @@ ghost use Rattle.std.specs.Prelude.{◌≡◌, ◌-◌, ◌<◌, ◌≤◌};
 
 use desk_arrays::state::{Desk, Said};
 use desks::Answer;
-use libc::{STDIN_FILENO, STDOUT_FILENO};
 use stamp_arrays::state::Stamps;
 use std::num::wrapping_add_u64;
 use terms::letters::{BEGIN, COMMIT, GIVE_UP, INCREMENT, READ, RETRY, WRITE};
@@ -176,20 +175,20 @@ fn counted(mut t: Tally, answer: Answer, wakes: u64) -> Tally {
     t
 }
 
-// Writes a number and the byte behind it; tells whether they were taken.
-fn put_number(n: u64, after: u8) -> bool {
-    io::print_decimal(STDOUT_FILENO, n);
-    io::write_all(STDOUT_FILENO, &[after])
+// Writes a number and the byte behind it; an error tells that they were not taken.
+fn put_number(rt: &HostRuntime, n: u64, after: u8) -> std::io::Result<()> {
+    let _ = print!(rt; "{n}");
+    streams::write_all(rt, &[after])
 }
 
 // Writes the tally's five numbers.
-fn put_tally(t: Tally) {
-    put_number(t.go, TAB);
-    put_number(t.wait, TAB);
-    put_number(t.back, TAB);
-    put_number(t.no, TAB);
-    if !put_number(t.wakes, NEWLINE) {
-        os::fail(b"time_desk: cannot write");
+fn put_tally(rt: &HostRuntime, t: Tally) {
+    let _ = put_number(rt, t.go, TAB);
+    let _ = put_number(rt, t.wait, TAB);
+    let _ = put_number(rt, t.back, TAB);
+    let _ = put_number(rt, t.no, TAB);
+    if let Err(e) = put_number(rt, t.wakes, NEWLINE) {
+        streams::fail(rt, "time_desk: cannot write", &e);
     }
 }
 
@@ -330,83 +329,86 @@ fn hands_after(h: Hands, job: u32, back: bool, answer: Answer, wakes: u64) -> Ha
 }
 
 // The step after an answered one; after the last the tally is written out.
-fn draw_after(left: u64, hands: Hands) -> Drawn
+fn draw_after(rt: &HostRuntime, left: u64, hands: Hands) -> Drawn
     ensures { result.left ≤ left - 1 }
 {
     if left > 1 {
         return draw(hands, left - 1);
     }
-    put_tally(hands.tally);
+    put_tally(rt, hands.tally);
     draw(hands, 0)
 }
 
 // The step after one answered by the lock desk.
-fn after_said(a: Drawn, said: Said) -> Drawn
+fn after_said(rt: &HostRuntime, a: Drawn, said: Said) -> Drawn
     ensures { result.left ≤ a.left - 1 }
 {
     let answer = said.answer;
     let job = job_after(a.job, a.kind, answer);
     let hands = hands_after(a.hands, job, is_back(answer), answer, said.count as u64);
-    draw_after(a.left, hands)
+    draw_after(rt, a.left, hands)
 }
 
 // The step after one answered by the timestamp desk.
-fn after_answer(a: Drawn, answer: Answer) -> Drawn
+fn after_answer(rt: &HostRuntime, a: Drawn, answer: Answer) -> Drawn
     ensures { result.left ≤ a.left - 1 }
 {
     let job = job_left(a.job, a.kind, answer);
     let hands = hands_after(a.hands, job, false, answer, 0);
-    draw_after(a.left, hands)
+    draw_after(rt, a.left, hands)
 }
 
 // All the steps, on one lock desk that is lent to each.
 #[tactic(auto, using(crate::proofs::Draws::drawing, crate::proofs::Draws::hands, crate::proofs::after_said::Symbol::name, crate::proofs::first_draw::Symbol::name, desk_arrays::proofs::state::Desk::first::Symbol::name, lent::proofs::AllNight::night_runs, lent::proofs::Desks::locks, lent::proofs::Desks::outcome, lent::proofs::Desks::said, lent::proofs::locks::step_lent::Symbol::name))]
-fn lend_locks() {
+fn lend_locks(rt: &HostRuntime) {
     let mut d = Desk::first();
     let mut a = first_draw();
     while a.left > 0 {
         let said = lent::locks::step_lent(&mut d, a.kind, a.job, a.cell);
-        a = after_said(a, said);
+        a = after_said(rt, a, said);
     }
 }
 
 // All the steps, on one timestamp desk that is lent to each.
 #[tactic(auto, using(crate::proofs::Draws::drawing, crate::proofs::Draws::hands, crate::proofs::after_answer::Symbol::name, crate::proofs::first_draw::Symbol::name, lent::proofs::AllNight::night_runs, lent::proofs::Desks::answer, lent::proofs::Desks::stamped, lent::proofs::Desks::stamps, lent::proofs::stamps::step_lent::Symbol::name, stamp_arrays::proofs::state::Stamps::first::Symbol::name))]
-fn lend_stamps() {
+fn lend_stamps(rt: &HostRuntime) {
     let mut d = Stamps::first();
     let mut a = first_draw();
     while a.left > 0 {
         let answer = lent::stamps::step_lent(&mut d, a.kind, a.job, a.cell);
-        a = after_answer(a, answer);
+        a = after_answer(rt, a, answer);
     }
 }
 
 // The first byte of the input, which selects a desk; 0 if there is none.
-fn first_byte() -> u8 {
+fn first_byte(rt: &HostRuntime) -> u8 {
     let mut one = [0u8; 1];
-    let got = libc::read(STDIN_FILENO, &mut one);
-    if got < 0 {
-        os::fail(b"time_desk: cannot read");
-    }
+    let got = match streams::read(rt, &mut one) {
+        Ok(n) => n,
+        Err(e) => {
+            streams::fail(rt, "time_desk: cannot read", &e);
+            0
+        }
+    };
     if got < 1 {
         return 0;
     }
     one[0]
 }
 
-fn main() {
-    let byte = first_byte();
+fn main(rt: HostRuntime) {
+    let byte = first_byte(&rt);
     if byte == LENT_LOCKS {
-        lend_locks();
+        lend_locks(&rt);
         return;
     }
     if byte == LENT_STAMPS {
-        lend_stamps();
+        lend_stamps(&rt);
         return;
     }
     if byte == STAMPS {
-        put_tally(draw_stamps(Stamps::first()));
+        put_tally(&rt, draw_stamps(Stamps::first()));
         return;
     }
-    put_tally(draw_all(Desk::first()));
+    put_tally(&rt, draw_all(Desk::first()));
 }

@@ -11,7 +11,6 @@ use desk_arrays::state::{Desk, Said};
 use desk_chain::chain::chain;
 use desk_rules::Chained;
 use desks::Answer;
-use libc::{STDIN_FILENO, STDOUT_FILENO};
 use stamp_arrays::state::Stamps;
 use terms::letters::{INCREMENT, READ, WRITE};
 use terms::limits::{LAST_NUMBER, PLACES};
@@ -64,12 +63,15 @@ fn wide(byte: u8) -> u32 {
 }
 
 // The next byte of the input, or END.
-fn next_byte() -> u32 {
+fn next_byte(rt: &HostRuntime) -> u32 {
     let mut one = [0u8; 1];
-    let got = libc::read(STDIN_FILENO, &mut one);
-    if got < 0 {
-        os::fail(b"try_desk: cannot read");
-    }
+    let got = match streams::read(rt, &mut one) {
+        Ok(n) => n,
+        Err(e) => {
+            streams::fail(rt, "try_desk: cannot read", &e);
+            0
+        }
+    };
     if got < 1 {
         return END;
     }
@@ -88,11 +90,11 @@ fn with_digit(value: u32, digit: u32) -> u32
 }
 
 // The next number: its digits up to the first byte that is no digit.
-fn next_number() -> Field {
+fn next_number(rt: &HostRuntime) -> Field {
     let mut value: u32 = 0;
     let mut turns = u64::MAX;
     while turns > 0 {
-        let b = next_byte();
+        let b = next_byte(rt);
         if b < 48 {
             return Field { value, end: b };
         }
@@ -106,8 +108,8 @@ fn next_number() -> Field {
 }
 
 // The next line, if the input has one more.
-fn next_line() -> Line {
-    let kind = next_number();
+fn next_line(rt: &HostRuntime) -> Line {
+    let kind = next_number(rt);
     if kind.end != BLANK {
         return Line {
             kind: 0,
@@ -116,8 +118,8 @@ fn next_line() -> Line {
             there: false,
         };
     }
-    let job = next_number();
-    let cell = next_number();
+    let job = next_number(rt);
+    let cell = next_number(rt);
     Line {
         kind: kind.value,
         job: job.value,
@@ -126,83 +128,85 @@ fn next_line() -> Line {
     }
 }
 
-fn put_byte(byte: u8) {
-    io::write_all(STDOUT_FILENO, &[byte]);
+fn put_byte(rt: &HostRuntime, byte: u8) {
+    let _ = streams::write_all(rt, &[byte]);
 }
 
 // Writes the end of a line; tells whether it was taken.
-fn put_end() -> bool {
-    if io::write_all(STDOUT_FILENO, &[NEWLINE]) {
-        return true;
+fn put_end(rt: &HostRuntime) -> bool {
+    match streams::write_all(rt, &[NEWLINE]) {
+        Ok(()) => true,
+        Err(e) => {
+            streams::fail(rt, "try_desk: cannot write", &e);
+            false
+        }
     }
-    os::fail(b"try_desk: cannot write");
-    false
 }
 
-fn put_word(w: Word) {
+fn put_word(rt: &HostRuntime, w: Word) {
     let s = spelled(w);
     let bytes = s.bytes;
     let n = s.len;
-    io::write_all(STDOUT_FILENO, &bytes[0..n]);
+    let _ = streams::write_all(rt, &bytes[0..n]);
 }
 
-fn put_number(n: u32) {
-    put_byte(TAB);
-    io::print_decimal(STDOUT_FILENO, n as u64);
+fn put_number(rt: &HostRuntime, n: u32) {
+    put_byte(rt, TAB);
+    let _ = print!(rt; "{n}");
 }
 
 // Writes `no` and the refusal's number.
-fn put_refused(why: Refusal) {
-    put_word(Word::No);
-    put_number(wide(number_of(why)));
+fn put_refused(rt: &HostRuntime, why: Refusal) {
+    put_word(rt, Word::No);
+    put_number(rt, wide(number_of(why)));
 }
 
 // Writes an answer's word and number.
-fn put_answer(answer: Answer) {
+fn put_answer(rt: &HostRuntime, answer: Answer) {
     match answer {
         Answer::Go(job) => {
-            put_word(Word::Go);
-            put_number(job);
+            put_word(rt, Word::Go);
+            put_number(rt, job);
         }
         Answer::Wait(job) => {
-            put_word(Word::Wait);
-            put_number(job);
+            put_word(rt, Word::Wait);
+            put_number(rt, job);
         }
         Answer::Back(job) => {
-            put_word(Word::Back);
-            put_number(job);
+            put_word(rt, Word::Back);
+            put_number(rt, job);
         }
-        Answer::No(why) => put_refused(why),
+        Answer::No(why) => put_refused(rt, why),
     }
 }
 
-fn put_wake(a: Action) {
-    put_byte(TAB);
-    put_word(Word::Wake);
-    put_number(a.job);
-    put_number(a.cell);
+fn put_wake(rt: &HostRuntime, a: Action) {
+    put_byte(rt, TAB);
+    put_word(rt, Word::Wake);
+    put_number(rt, a.job);
+    put_number(rt, a.cell);
     let kind = a.kind;
     match kind {
-        Kind::Read => put_number(READ as u32),
-        Kind::Write => put_number(WRITE as u32),
-        Kind::Increment => put_number(INCREMENT as u32),
+        Kind::Read => put_number(rt, READ as u32),
+        Kind::Write => put_number(rt, WRITE as u32),
+        Kind::Increment => put_number(rt, INCREMENT as u32),
     }
 }
 
 // Writes a step's line; tells whether it was taken.
-fn put_said(said: Said) -> bool {
+fn put_said(rt: &HostRuntime, said: Said) -> bool {
     let answer = said.answer;
-    put_answer(answer);
+    put_answer(rt, answer);
     let count = said.count;
     let wakes = said.wakes;
     let mut i: usize = 0;
     while i < PLACES {
         if i < count {
-            put_wake(wakes[i]);
+            put_wake(rt, wakes[i]);
         }
         i += 1;
     }
-    put_end()
+    put_end(rt)
 }
 
 // A list before it is lent: each place holds a number of its own.
@@ -217,25 +221,25 @@ fn list_before() -> [u32; MOST] {
 }
 
 // Writes the first n places of a list.
-fn put_list(list: [u32; MOST], n: usize) {
+fn put_list(rt: &HostRuntime, list: [u32; MOST], n: usize) {
     let mut i: usize = 0;
     while i < MOST {
         if i < n {
-            put_number(list[i]);
+            put_number(rt, list[i]);
         }
         i += 1;
     }
 }
 
 // Writes how many jobs a chain has, or why there is none.
-fn put_chained(answer: Chained) {
+fn put_chained(rt: &HostRuntime, answer: Chained) {
     match answer {
         Chained::Jobs(n) => {
-            io::write_all(STDOUT_FILENO, b"chain");
-            put_byte(TAB);
-            io::print_decimal(STDOUT_FILENO, n as u64);
+            let _ = streams::write_all(rt, b"chain");
+            put_byte(rt, TAB);
+            let _ = print!(rt; "{n}");
         }
-        Chained::No(why) => put_refused(why),
+        Chained::No(why) => put_refused(rt, why),
     }
 }
 
@@ -250,18 +254,18 @@ fn at_most(places: u32) -> usize
 }
 
 // Asks for a job's chain, with this many places lent, at most 64; tells whether the line was taken.
-fn ask(d: Desk, job: u32, places: u32) -> bool {
+fn ask(rt: &HostRuntime, d: Desk, job: u32, places: u32) -> bool {
     let mut list = list_before();
     let n = at_most(places);
     let answer = chain(d, job, &mut list[0..n]);
-    put_chained(answer);
-    put_list(list, n);
-    put_end()
+    put_chained(rt, answer);
+    put_list(rt, list, n);
+    put_end(rt)
 }
 
 // One step of the lock desk, if the input has one.
-fn take_turn(d: Desk) -> Turn {
-    let s = next_line();
+fn take_turn(rt: &HostRuntime, d: Desk) -> Turn {
+    let s = next_line(rt);
     if !s.there {
         return Turn {
             desk: d,
@@ -269,7 +273,7 @@ fn take_turn(d: Desk) -> Turn {
         };
     }
     if s.kind == ASKS {
-        let done = ask(d, s.job, s.cell);
+        let done = ask(rt, d, s.job, s.cell);
         return Turn { desk: d, done };
     }
     if s.kind > 255 {
@@ -280,17 +284,17 @@ fn take_turn(d: Desk) -> Turn {
     }
     let o = desk::step::step(d, s.kind as u8, s.job, s.cell);
     let said = o.said;
-    let done = put_said(said);
+    let done = put_said(rt, said);
     let after = o.desk;
     Turn { desk: after, done }
 }
 
 // All the steps of the lock desk. Nothing guarantees that the input ends, so the turns are counted down.
-fn answer_all(d: Desk) {
+fn answer_all(rt: &HostRuntime, d: Desk) {
     let mut now = d;
     let mut turns = u64::MAX;
     while turns > 0 {
-        let t = take_turn(now);
+        let t = take_turn(rt, now);
         if !t.done {
             return;
         }
@@ -300,8 +304,8 @@ fn answer_all(d: Desk) {
 }
 
 // One step of the timestamp desk, if the input has one. A kind above 255 is no step.
-fn take_stamp_turn(d: Stamps) -> StampTurn {
-    let s = next_line();
+fn take_stamp_turn(rt: &HostRuntime, d: Stamps) -> StampTurn {
+    let s = next_line(rt);
     if !s.there {
         return StampTurn {
             stamps: d,
@@ -316,8 +320,8 @@ fn take_stamp_turn(d: Stamps) -> StampTurn {
     }
     let o = stamp_desk::step::step(d, s.kind as u8, s.job, s.cell);
     let answer = o.answer;
-    put_answer(answer);
-    let done = put_end();
+    put_answer(rt, answer);
+    let done = put_end(rt);
     let after = o.stamps;
     StampTurn {
         stamps: after,
@@ -326,11 +330,11 @@ fn take_stamp_turn(d: Stamps) -> StampTurn {
 }
 
 // All the steps of the timestamp desk, with the turns counted down likewise.
-fn answer_stamps(d: Stamps) {
+fn answer_stamps(rt: &HostRuntime, d: Stamps) {
     let mut now = d;
     let mut turns = u64::MAX;
     while turns > 0 {
-        let t = take_stamp_turn(now);
+        let t = take_stamp_turn(rt, now);
         if !t.done {
             return;
         }
@@ -340,36 +344,36 @@ fn answer_stamps(d: Stamps) {
 }
 
 // Writes the refusal of a start.
-fn put_refusal(why: Refusal) {
-    put_refused(why);
-    put_end();
+fn put_refusal(rt: &HostRuntime, why: Refusal) {
+    put_refused(rt, why);
+    put_end(rt);
 }
 
 // Starts the lock desk at a first number, and runs all its steps.
 #[tactic(auto, using(crate::proofs::answer_all::Symbol::name, crate::proofs::put_refusal::Symbol::name, desk_arrays::proofs::Starts::by_start, desk_arrays::proofs::Starts::desk_at, desk_arrays::proofs::Starts::is_desk, desk_arrays::proofs::Starts::is_why, desk_arrays::proofs::Starts::spelt, desk_arrays::proofs::Starts::why_at, desk_arrays::proofs::state::Desk::start::Symbol::name, laws::proofs::Walking::placed))]
-fn open(first: u32) {
+fn open(rt: &HostRuntime, first: u32) {
     match Desk::start(first) {
-        desk_arrays::state::Start::Ready(desk) => answer_all(desk),
-        desk_arrays::state::Start::Refused(why) => put_refusal(why),
+        desk_arrays::state::Start::Ready(desk) => answer_all(rt, desk),
+        desk_arrays::state::Start::Refused(why) => put_refusal(rt, why),
     }
 }
 
 // The same for the timestamp desk.
 #[tactic(auto, using(crate::proofs::answer_stamps::Symbol::name, crate::proofs::put_refusal::Symbol::name, laws::proofs::Walking::placed, stamp_arrays::proofs::Starts::by_start, stamp_arrays::proofs::Starts::desk_at, stamp_arrays::proofs::Starts::is_desk, stamp_arrays::proofs::Starts::is_why, stamp_arrays::proofs::Starts::spelt, stamp_arrays::proofs::Starts::why_at, stamp_arrays::proofs::state::Stamps::start::Symbol::name))]
-fn open_stamps(first: u32) {
+fn open_stamps(rt: &HostRuntime, first: u32) {
     match Stamps::start(first) {
-        stamp_arrays::state::Start::Ready(desk) => answer_stamps(desk),
-        stamp_arrays::state::Start::Refused(why) => put_refusal(why),
+        stamp_arrays::state::Start::Ready(desk) => answer_stamps(rt, desk),
+        stamp_arrays::state::Start::Refused(why) => put_refusal(rt, why),
     }
 }
 
 // A blank behind the first number selects the timestamp desk; the second number itself does not matter.
-fn main() {
-    let first = next_number();
+fn main(rt: HostRuntime) {
+    let first = next_number(&rt);
     if first.end == BLANK {
-        next_number();
-        open_stamps(first.value);
+        next_number(&rt);
+        open_stamps(&rt, first.value);
         return;
     }
-    open(first.value);
+    open(&rt, first.value);
 }

@@ -7,11 +7,16 @@ ghost use Rattle.std.specs.Prelude.{◌≤◌, length};
 use judge::entry::{judge, judge_text};
 use judge_line::verdict::write_verdict;
 use judge_rules::verdict::Verdict;
-use libc::{STDIN_FILENO, STDOUT_FILENO};
 use terms::limits::JUDGED_BYTES;
 use terms::refusals::{Refusal, field_of, number_of};
 use terms::words::NEWLINE;
 use text_rules::Written;
+
+// As many bytes are read at once.
+const BUFFER: usize = 65_536;
+
+// More bytes than a verdict's line has.
+const ROOM: usize = 4_096;
 
 // The most places lent.
 const ORDER_PLACES: usize = 300;
@@ -51,33 +56,33 @@ struct Numbers {
     fourth: u32,
 }
 
-fn put_bytes(bytes: &[u8]) {
-    if !io::write_all(STDOUT_FILENO, bytes) {
-        os::fail(b"try_judge: cannot write");
+fn put_bytes(rt: &HostRuntime, bytes: &[u8]) {
+    if let Err(e) = streams::write_all(rt, bytes) {
+        streams::fail(rt, "try_judge: cannot write", &e);
     }
 }
 
-fn put_mark() {
-    io::write_all(STDOUT_FILENO, b"!\n");
+fn put_mark(rt: &HostRuntime) {
+    let _ = streams::write_all(rt, b"!\n");
 }
 
 // Writes the verdict's line.
 #[tactic(auto, using(text_rules::proofs::WriterLaws::next_told))]
-fn put_verdict(said: Verdict, order: &[u8; ORDER_PLACES]) {
-    let mut out = io::buffer();
+fn put_verdict(rt: &HostRuntime, said: Verdict, order: &[u8; ORDER_PLACES]) {
+    let mut out = [0u8; ROOM];
     match write_verdict(said, order, &mut out) {
         Written::Next(next) => {
-            put_bytes(&out[0..next]);
+            put_bytes(rt, &out[0..next]);
         }
-        Written::Refused(_) => put_mark(),
+        Written::Refused(_) => put_mark(rt),
     }
 }
 
 // Writes the line handed back.
-fn put_line(line: &[u8]) {
-    io::write_all(STDOUT_FILENO, b"line\t");
-    io::write_all(STDOUT_FILENO, line);
-    io::write_all(STDOUT_FILENO, &[NEWLINE]);
+fn put_line(rt: &HostRuntime, line: &[u8]) {
+    let _ = streams::write_all(rt, b"line\t");
+    let _ = streams::write_all(rt, line);
+    let _ = streams::write_all(rt, &[NEWLINE]);
 }
 
 // How many places a verdict fills.
@@ -143,12 +148,12 @@ fn rest_stays<'a>(one: &'a [u8; ORDER_PLACES], other: &'a [u8; ORDER_PLACES], n:
 }
 
 // Calls two of the judge's entries on a text, each with its own buffer, and writes what they say.
-fn report(text: &[u8], places: usize)
+fn report(rt: &HostRuntime, text: &[u8], places: usize)
     requires { places ≤ 300 }
 {
     let mut order = [UNTOUCHED; ORDER_PLACES];
     let said = judge_text(text, &mut order[0..places]);
-    put_verdict(said, &order);
+    put_verdict(rt, said, &order);
     let mut again = [UNTOUCHED; ORDER_PLACES];
     let mut answer = [0u32; 4];
     let line = judge(text, &mut again[0..places], &mut answer);
@@ -159,18 +164,18 @@ fn report(text: &[u8], places: usize)
         fourth: answer[3],
     };
     if numbers.case == 2 && numbers.third > 0 {
-        put_line(line);
+        put_line(rt, line);
     }
     if !(same_verdict(said, numbers)
         && pair_stands(said, &order)
         && rest_stays(&order, &again, told_places(said)))
     {
-        put_mark();
+        put_mark(rt);
     }
 }
 
 // A case that has ended: a text that is too long is refused before anything else.
-fn close(case: Case, text: &[u8])
+fn close(rt: &HostRuntime, case: Case, text: &[u8])
     requires { (case.len ≤ length text.now) × (case.places ≤ 300) }
 {
     if !case.open {
@@ -180,6 +185,7 @@ fn close(case: Case, text: &[u8])
     if len > JUDGED_BYTES {
         let none = [UNTOUCHED; ORDER_PLACES];
         put_verdict(
+            rt,
             Verdict::No {
                 line: 0,
                 why: Refusal::TooLong,
@@ -188,7 +194,7 @@ fn close(case: Case, text: &[u8])
         );
         return;
     }
-    report(&text[0..len], case.places);
+    report(rt, &text[0..len], case.places);
 }
 
 // The number of places with one more digit, at most 300.
@@ -266,7 +272,7 @@ fn in_text(case: Case, byte: u8, text: &mut [u8]) -> Case
 }
 
 // Takes one byte of the input.
-fn take_byte(case: Case, byte: u8, text: &mut [u8]) -> Case
+fn take_byte(rt: &HostRuntime, case: Case, byte: u8, text: &mut [u8]) -> Case
     requires { (case.len ≤ length text.old) × (case.places ≤ 300) }
     ensures { (result.len ≤ length text.new) × (result.places ≤ 300) }
 {
@@ -276,7 +282,7 @@ fn take_byte(case: Case, byte: u8, text: &mut [u8]) -> Case
         Spot::Further => in_text(case, byte, text),
         Spot::First => {
             if byte == MARK {
-                close(case, text);
+                close(rt, case, text);
                 Case {
                     open: false,
                     places: 0,
@@ -291,32 +297,34 @@ fn take_byte(case: Case, byte: u8, text: &mut [u8]) -> Case
 }
 
 // Takes the bytes of a chunk, one after another.
-fn take_chunk(before: Case, chunk: &[u8], text: &mut [u8]) -> Case
+fn take_chunk(rt: &HostRuntime, before: Case, chunk: &[u8], text: &mut [u8]) -> Case
     requires { (before.len ≤ length text.old) × (before.places ≤ 300) }
     ensures { (result.len ≤ length text.new) × (result.places ≤ 300) }
 {
     let mut case = before;
     let mut i: usize = 0;
     while i < chunk.len() {
-        case = take_byte(case, chunk[i], text);
+        case = take_byte(rt, case, chunk[i], text);
         i += 1;
     }
     case
 }
 
 // One read of the input; returns how many bytes came.
-fn read_some(input: &mut [u8]) -> usize
+fn read_some(rt: &HostRuntime, input: &mut [u8]) -> usize
     ensures { result ≤ length input.new }
 {
-    let got = libc::read(STDIN_FILENO, input);
-    if got < 0 {
-        os::fail(b"try_judge: cannot read");
+    match streams::read(rt, input) {
+        Ok(n) => n,
+        Err(e) => {
+            streams::fail(rt, "try_judge: cannot read", &e);
+            0
+        }
     }
-    io::count(got, input)
 }
 
 // Reads chunk after chunk. Nothing guarantees that the input ends, so the loop counts down from more turns than any run uses.
-fn take_all(input: &mut [u8], text: &mut [u8]) {
+fn take_all(rt: &HostRuntime, input: &mut [u8], text: &mut [u8]) {
     let mut case = Case {
         open: false,
         places: 0,
@@ -325,18 +333,18 @@ fn take_all(input: &mut [u8], text: &mut [u8]) {
     };
     let mut turns = u64::MAX;
     while turns > 0 {
-        let n = read_some(input);
+        let n = read_some(rt, input);
         if n == 0 {
             break;
         }
-        case = take_chunk(case, &input[0..n], text);
+        case = take_chunk(rt, case, &input[0..n], text);
         turns -= 1;
     }
-    close(case, text);
+    close(rt, case, text);
 }
 
-fn main() {
-    let mut input = io::large_buffer();
+fn main(rt: HostRuntime) {
+    let mut input = [0u8; BUFFER];
     let mut text = [0u8; KEPT];
-    take_all(&mut input, &mut text);
+    take_all(&rt, &mut input, &mut text);
 }

@@ -8,7 +8,6 @@ ghost use Rattle.terms.specs.Limits.{request_lines};
 use conflict::action::Action;
 use desk_arrays::state::{Desk, Said};
 use desks::Answer;
-use libc::{STDIN_FILENO, STDOUT_FILENO};
 use stamp_arrays::state::Stamps;
 use terms::letters::byte_of;
 use terms::limits::{PLACES, REQUEST_LINES};
@@ -49,12 +48,15 @@ const STAMPS: u8 = 116;
 const ROOM: usize = 32;
 
 // The next byte of the input, if there is one.
-fn next_byte() -> Byte {
+fn next_byte(rt: &HostRuntime) -> Byte {
     let mut one = [0u8; 1];
-    let got = libc::read(STDIN_FILENO, &mut one);
-    if got < 0 {
-        os::fail(b"try_lent: cannot read");
-    }
+    let got = match streams::read(rt, &mut one) {
+        Ok(n) => n,
+        Err(e) => {
+            streams::fail(rt, "try_lent: cannot read", &e);
+            0
+        }
+    };
     Byte {
         byte: one[0],
         there: got > 0,
@@ -62,11 +64,11 @@ fn next_byte() -> Byte {
 }
 
 // The next line, cut byte by byte. Nothing guarantees that the input ends, so the turns are counted down.
-fn hear_line(before: Splitter) -> Heard {
+fn hear_line(rt: &HostRuntime, before: Splitter) -> Heard {
     let mut splitter = before;
     let mut turns = u64::MAX;
     while turns > 0 {
-        let next = next_byte();
+        let next = next_byte(rt);
         if !next.there {
             return Heard {
                 splitter,
@@ -91,50 +93,52 @@ fn hear_line(before: Splitter) -> Heard {
 }
 
 // Writes out what stands before this place; tells whether it was taken.
-fn put_out(out: &[u8], at: usize) -> bool
+fn put_out(rt: &HostRuntime, out: &[u8], at: usize) -> bool
     requires { at ≤ length out.now }
 {
-    if io::write_all(STDOUT_FILENO, &out[0..at]) {
-        return true;
+    match streams::write_all(rt, &out[0..at]) {
+        Ok(()) => true,
+        Err(e) => {
+            streams::fail(rt, "try_lent: cannot write", &e);
+            false
+        }
     }
-    os::fail(b"try_lent: cannot write");
-    false
 }
 
 // Writes an answer record; tells whether it was taken.
 #[tactic(auto, using(text::proofs::Placed::placed))]
-fn put_record(line: u64, word: Word, number: u64, fault: u64) -> bool {
+fn put_record(rt: &HostRuntime, line: u64, word: Word, number: u64, fault: u64) -> bool {
     let mut out = [0u8; ROOM];
     match write_answer(&mut out, 0, line, word, number, fault) {
-        Written::Next(at) => put_out(&out, at),
+        Written::Next(at) => put_out(rt, &out, at),
         Written::Refused(_) => false,
     }
 }
 
 // Writes a refusal's record; tells whether it was taken.
-fn put_no(line: u64, why: Refusal) -> bool {
-    put_record(line, Word::No, number_of(why) as u64, field_of(why) as u64)
+fn put_no(rt: &HostRuntime, line: u64, why: Refusal) -> bool {
+    put_record(rt, line, Word::No, number_of(why) as u64, field_of(why) as u64)
 }
 
 // Writes an answer's record; tells whether it was taken.
-fn put_answer(line: u64, answer: Answer) -> bool {
+fn put_answer(rt: &HostRuntime, line: u64, answer: Answer) -> bool {
     match answer {
-        Answer::Go(job) => put_record(line, Word::Go, job as u64, 0),
-        Answer::Wait(job) => put_record(line, Word::Wait, job as u64, 0),
-        Answer::Back(job) => put_record(line, Word::Back, job as u64, 0),
-        Answer::No(why) => put_no(line, why),
+        Answer::Go(job) => put_record(rt, line, Word::Go, job as u64, 0),
+        Answer::Wait(job) => put_record(rt, line, Word::Wait, job as u64, 0),
+        Answer::Back(job) => put_record(rt, line, Word::Back, job as u64, 0),
+        Answer::No(why) => put_no(rt, line, why),
     }
 }
 
 // Writes one record for each of the `count` wakes; tells whether all were taken.
-fn put_wakes(line: u64, wakes: [Action; PLACES], count: usize) -> bool {
+fn put_wakes(rt: &HostRuntime, line: u64, wakes: [Action; PLACES], count: usize) -> bool {
     let mut i: usize = 0;
     while i < PLACES {
         if count <= i {
             return true;
         }
         let a = wakes[i];
-        if !put_record(line, Word::Wake, a.job as u64, 0) {
+        if !put_record(rt, line, Word::Wake, a.job as u64, 0) {
             return false;
         }
         i += 1;
@@ -143,13 +147,13 @@ fn put_wakes(line: u64, wakes: [Action; PLACES], count: usize) -> bool {
 }
 
 // Writes the records of what the lock desk said; tells whether all were taken.
-fn put_said(line: u64, said: Said) -> bool {
+fn put_said(rt: &HostRuntime, line: u64, said: Said) -> bool {
     let answer = said.answer;
     let wakes = said.wakes;
-    if !put_answer(line, answer) {
+    if !put_answer(rt, line, answer) {
         return false;
     }
-    put_wakes(line, wakes, said.count)
+    put_wakes(rt, line, wakes, said.count)
 }
 
 // No further request.
@@ -166,26 +170,26 @@ fn none(splitter: Splitter) -> Asked
 }
 
 // The input has ended: a line under way has no newline and is bad; there is no further request.
-fn at_end(s: Splitter) -> Asked
+fn at_end(rt: &HostRuntime, s: Splitter) -> Asked
     ensures { result.left ≤ 0 }
 {
     if !s.ended {
-        put_no(s.line, Refusal::BadLine(torn_held(s)));
+        put_no(rt, s.line, Refusal::BadLine(torn_held(s)));
     }
     none(s)
 }
 
 // The next good line, with this many lines still to be answered. Bad lines before it are answered here, since the desk is not asked about them.
-fn next_request(before: Splitter, lines: u64) -> Asked
+fn next_request(rt: &HostRuntime, before: Splitter, lines: u64) -> Asked
     ensures { result.left ≤ lines }
 {
     let mut splitter = before;
     let mut left = lines;
     while left > 0 {
-        let heard = hear_line(splitter);
+        let heard = hear_line(rt, splitter);
         splitter = heard.splitter;
         if !heard.whole {
-            return at_end(splitter);
+            return at_end(rt, splitter);
         }
         match read_held(splitter) {
             Reading::Good { letter, job, cell } => {
@@ -198,7 +202,7 @@ fn next_request(before: Splitter, lines: u64) -> Asked
                 };
             }
             Reading::Bad(field) => {
-                if !put_no(splitter.line, Refusal::BadLine(field)) {
+                if !put_no(rt, splitter.line, Refusal::BadLine(field)) {
                     return none(splitter);
                 }
             }
@@ -209,14 +213,14 @@ fn next_request(before: Splitter, lines: u64) -> Asked
 }
 
 // The first request of the text.
-fn first_request() -> Asked
+fn first_request(rt: &HostRuntime) -> Asked
     ensures { result.left ≤ request_lines }
 {
-    next_request(Splitter::started(), REQUEST_LINES)
+    next_request(rt, Splitter::started(), REQUEST_LINES)
 }
 
 // The request after an answered one, if its records were taken and a line may still be answered.
-fn request_after(a: Asked, taken: bool) -> Asked
+fn request_after(rt: &HostRuntime, a: Asked, taken: bool) -> Asked
     ensures { result.left ≤ a.left - 1 }
 {
     let splitter = a.splitter;
@@ -226,54 +230,54 @@ fn request_after(a: Asked, taken: bool) -> Asked
     if a.left == 0 {
         return none(splitter);
     }
-    next_request(splitter, a.left - 1)
+    next_request(rt, splitter, a.left - 1)
 }
 
 // Writes out what the lock desk said, and reads the next request.
-fn after_said(a: Asked, said: Said) -> Asked
+fn after_said(rt: &HostRuntime, a: Asked, said: Said) -> Asked
     ensures { result.left ≤ a.left - 1 }
 {
     let splitter = a.splitter;
-    let taken = put_said(splitter.line, said);
-    request_after(a, taken)
+    let taken = put_said(rt, splitter.line, said);
+    request_after(rt, a, taken)
 }
 
 // Writes out what the timestamp desk answered, and reads the next request.
-fn after_answer(a: Asked, answer: Answer) -> Asked
+fn after_answer(rt: &HostRuntime, a: Asked, answer: Answer) -> Asked
     ensures { result.left ≤ a.left - 1 }
 {
     let splitter = a.splitter;
-    let taken = put_answer(splitter.line, answer);
-    request_after(a, taken)
+    let taken = put_answer(rt, splitter.line, answer);
+    request_after(rt, a, taken)
 }
 
 // One lock desk, lent to every request of the text.
 #[tactic(auto, using(crate::proofs::Requests::asking, crate::proofs::Requests::splitter, crate::proofs::after_said::Symbol::name, crate::proofs::first_request::Symbol::name, desk_arrays::proofs::state::Desk::first::Symbol::name, lent::proofs::AllNight::night_runs, lent::proofs::Desks::locks, lent::proofs::Desks::outcome, lent::proofs::Desks::said, lent::proofs::locks::step_lent::Symbol::name))]
-fn serve_locks() {
+fn serve_locks(rt: &HostRuntime) {
     let mut d = Desk::first();
-    let mut a = first_request();
+    let mut a = first_request(rt);
     while a.left > 0 {
         let said = lent::locks::step_lent(&mut d, a.kind, a.job, a.cell);
-        a = after_said(a, said);
+        a = after_said(rt, a, said);
     }
 }
 
 // One timestamp desk, lent to every request of the text.
 #[tactic(auto, using(crate::proofs::Requests::asking, crate::proofs::Requests::splitter, crate::proofs::after_answer::Symbol::name, crate::proofs::first_request::Symbol::name, lent::proofs::AllNight::night_runs, lent::proofs::Desks::answer, lent::proofs::Desks::stamped, lent::proofs::Desks::stamps, lent::proofs::stamps::step_lent::Symbol::name, stamp_arrays::proofs::state::Stamps::first::Symbol::name))]
-fn serve_stamps() {
+fn serve_stamps(rt: &HostRuntime) {
     let mut d = Stamps::first();
-    let mut a = first_request();
+    let mut a = first_request(rt);
     while a.left > 0 {
         let answer = lent::stamps::step_lent(&mut d, a.kind, a.job, a.cell);
-        a = after_answer(a, answer);
+        a = after_answer(rt, a, answer);
     }
 }
 
-fn main() {
-    let first = next_byte();
+fn main(rt: HostRuntime) {
+    let first = next_byte(&rt);
     if first.byte == STAMPS {
-        serve_stamps();
+        serve_stamps(&rt);
         return;
     }
-    serve_locks();
+    serve_locks(&rt);
 }

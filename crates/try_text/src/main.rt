@@ -4,10 +4,12 @@
 ghost use Rattle.std.specs.Prelude.{◌≤◌, length};
 ghost use Rattle.text_rules.specs.Split.{Sized};
 
-use libc::{STDIN_FILENO, STDOUT_FILENO};
 use terms::{Field, Letter, Refusal, Word, byte_of, field_number, has_cell, has_job, number_of};
 use text::{read_history, read_request, write_answer, write_line};
 use text_rules::{Reading, Splitter, Written};
+
+// As many bytes are read at once, and as many have room before they are written out.
+const BUFFER: usize = 65_536;
 
 // The records of one line take fewer bytes than this, whatever its number.
 const ROOM: usize = 128;
@@ -98,53 +100,55 @@ fn history(out: &mut [u8], at: usize, line: u64, bytes: &[u8]) -> usize
 }
 
 // Writes out what stands before this place.
-fn flush(out: &[u8], at: usize)
+fn flush(rt: &HostRuntime, out: &[u8], at: usize)
     requires { at ≤ length out.now }
 {
-    if !io::write_all(STDOUT_FILENO, &out[0..at]) {
-        os::fail(b"try_text: cannot write");
+    if let Err(e) = streams::write_all(rt, &out[0..at]) {
+        streams::fail(rt, "try_text: cannot write", &e);
     }
 }
 
 // One read of the input; returns how many bytes came.
-fn read_some(input: &mut [u8]) -> usize
+fn read_some(rt: &HostRuntime, input: &mut [u8]) -> usize
     ensures { result ≤ length input.new }
 {
-    let got = libc::read(STDIN_FILENO, input);
-    if got < 0 {
-        os::fail(b"try_text: cannot read");
+    match streams::read(rt, input) {
+        Ok(n) => n,
+        Err(e) => {
+            streams::fail(rt, "try_text: cannot read", &e);
+            0
+        }
     }
-    io::count(got, input)
 }
 
 // A place from which a line's records fit: the place given, or 0 after all before it is written out.
-fn with_room(out: &[u8], at: usize) -> usize
+fn with_room(rt: &HostRuntime, out: &[u8], at: usize) -> usize
     requires { at ≤ length out.now }
     ensures { result ≤ length out.now }
 {
     if out.len() - at < ROOM {
-        flush(out, at);
+        flush(rt, out, at);
         return 0;
     }
     at
 }
 
 // Writes the records of the line in the splitter.
-fn report(s: Splitter, out: &mut [u8], at: usize) -> usize
+fn report(rt: &HostRuntime, s: Splitter, out: &mut [u8], at: usize) -> usize
     requires { (Sized s) × (at ≤ length out.old) }
     ensures { result ≤ length out.new }
 {
     let kept = s.kept;
     let len = s.len;
     let bytes = &kept[0..len];
-    let start = with_room(out, at);
+    let start = with_room(rt, out, at);
     let next = request(out, start, s.line, bytes);
     history(out, next, s.line, bytes)
 }
 
 // Writes the records of the lines that end in a chunk. Every cut is looked at once.
 #[tactic(auto, using(crate::proofs::Advance::moves_on, crate::proofs::Advance::stays_sized))]
-fn report_chunk(before: Progress, chunk: &[u8], out: &mut [u8]) -> Progress
+fn report_chunk(rt: &HostRuntime, before: Progress, chunk: &[u8], out: &mut [u8]) -> Progress
     requires { (Sized before.splitter) × (before.at ≤ length out.old) }
     ensures { (Sized result.splitter) × (result.at ≤ length out.new) }
 {
@@ -156,45 +160,45 @@ fn report_chunk(before: Progress, chunk: &[u8], out: &mut [u8]) -> Progress
         splitter = cut.splitter;
         from = cut.next;
         if splitter.ended {
-            at = report(splitter, out, at);
+            at = report(rt, splitter, out, at);
         }
     }
     Progress { splitter, at }
 }
 
 // Writes the record of a last line without its newline, and writes out the rest.
-fn finish(last: Progress, out: &mut [u8])
+fn finish(rt: &HostRuntime, last: Progress, out: &mut [u8])
     requires { (Sized last.splitter) × (last.at ≤ length out.old) }
 {
     if last.splitter.ended {
-        flush(out, last.at);
+        flush(rt, out, last.at);
         return;
     }
-    let at = report(last.splitter, out, last.at);
-    flush(out, at);
+    let at = report(rt, last.splitter, out, last.at);
+    flush(rt, out, at);
 }
 
 // Reads chunk after chunk. Nothing guarantees that the input ends, so the loop counts down from more turns than any run uses.
 #[tactic(auto, using(text_rules::proofs::Held::fresh_sized))]
-fn report_all(input: &mut [u8], out: &mut [u8]) {
+fn report_all(rt: &HostRuntime, input: &mut [u8], out: &mut [u8]) {
     let mut progress = Progress {
         splitter: Splitter::started(),
         at: 0,
     };
     let mut turns = u64::MAX;
     while turns > 0 {
-        let n = read_some(input);
+        let n = read_some(rt, input);
         if n == 0 {
             break;
         }
-        progress = report_chunk(progress, &input[0..n], out);
+        progress = report_chunk(rt, progress, &input[0..n], out);
         turns -= 1;
     }
-    finish(progress, out);
+    finish(rt, progress, out);
 }
 
-fn main() {
-    let mut input = io::large_buffer();
-    let mut out = io::large_buffer();
-    report_all(&mut input, &mut out);
+fn main(rt: HostRuntime) {
+    let mut input = [0u8; BUFFER];
+    let mut out = [0u8; BUFFER];
+    report_all(&rt, &mut input, &mut out);
 }

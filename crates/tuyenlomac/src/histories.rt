@@ -14,8 +14,7 @@ pub struct Judgement {
 }
 
 // The verdict on a history text. Reader and writer, the order or the knot fill the first places of the order buffer, and the rest stay; after a refusal all stay.
-#[unsafe(no_mangle)]
-pub extern "C" fn tuyenlomac_judge(text: &[u8], order: &mut [u8]) -> Judgement
+pub fn tuyenlomac_judge(text: &[u8], order: &mut [u8]) -> Judgement
     ensures said { result.said ≡ in_numbers (judgement_of text.now order.old).said }
     ensures from { result.from ≡ line_from text.now (judgement_of text.now order.old).said }
     ensures length { result.length ≡ length (judgement_of text.now order.old).line }

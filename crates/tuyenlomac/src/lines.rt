@@ -89,25 +89,22 @@ fn placed_at(w: Written) -> Placed
 }
 
 // What a line of requests says; the line comes with its newline.
-#[unsafe(no_mangle)]
-pub extern "C" fn tuyenlomac_read_request(line: &[u8]) -> Line
+pub fn tuyenlomac_read_request(line: &[u8]) -> Line
     ensures { result ≡ line_in (read_line of_requests line.now) }
 {
     line_in(read_request(line))
 }
 
 // What a line of a history says; the line comes with its newline.
-#[unsafe(no_mangle)]
-pub extern "C" fn tuyenlomac_read_history(line: &[u8]) -> Line
+pub fn tuyenlomac_read_history(line: &[u8]) -> Line
     ensures { result ≡ line_in (read_line of_histories line.now) }
 {
     line_in(read_history(line))
 }
 
 // Writes an answer record from a place: 1 if no word has that number, then 15 if the record does not fit; after either every byte stays.
-#[unsafe(no_mangle)]
 #[tactic(auto, unfolding(crate::specs::Texts::answer_bytes), using(crate::proofs::InNumbers::written_none, crate::proofs::InNumbers::written_some))]
-pub extern "C" fn tuyenlomac_write_answer(
+pub fn tuyenlomac_write_answer(
     buffer: &mut [u8],
     at: usize,
     line: u64,
@@ -125,9 +122,8 @@ pub extern "C" fn tuyenlomac_write_answer(
 }
 
 // Writes the line of a letter from a place, a history record or a request: 1 if no letter has that byte, then 15 if the line does not fit; after either every byte stays.
-#[unsafe(no_mangle)]
 #[tactic(auto, unfolding(crate::specs::Texts::line_bytes), using(crate::proofs::InNumbers::written_none, crate::proofs::InNumbers::written_some))]
-pub extern "C" fn tuyenlomac_write_line(
+pub fn tuyenlomac_write_line(
     buffer: &mut [u8],
     at: usize,
     kind: u8,

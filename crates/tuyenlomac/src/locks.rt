@@ -77,9 +77,8 @@ fn tell_wakes<'a>(
 }
 
 // Starts a lock desk at a first number and answers 0. For number 0 the answer is refusal 10, and what is there stays (01, refusal 10).
-#[unsafe(no_mangle)]
 #[tactic(auto, unfolding(desk_arrays::specs::Steps::empty_desk), using(crate::proofs::Starting::locks_refused, crate::proofs::Starting::locks_started))]
-pub extern "C" fn tuyenlomac_locks_start_on(
+pub fn tuyenlomac_locks_start_on(
     next: &mut u64,
     number: &mut [u32; PLACES],
     status: &mut [u8; PLACES],
@@ -104,9 +103,8 @@ pub extern "C" fn tuyenlomac_locks_start_on(
 }
 
 // One request by the letter's byte, the job and the cell asked for. The jobs that it wakes are told in the first places of the three lists.
-#[unsafe(no_mangle)]
 #[tactic(auto, using(crate::proofs::Waking::step_quiet, crate::proofs::Waking::step_told_lem))]
-pub extern "C" fn tuyenlomac_locks_step_on(
+pub fn tuyenlomac_locks_step_on(
     next: &mut u64,
     number: &mut [u32; PLACES],
     status: &mut [u8; PLACES],
@@ -153,8 +151,7 @@ fn chain_said(c: Chained) -> ChainSaid
 }
 
 // The chain of a job, in the first places of the list (02, No. 3). The desk is only read.
-#[unsafe(no_mangle)]
-pub extern "C" fn tuyenlomac_locks_chain_on(
+pub fn tuyenlomac_locks_chain_on(
     next: &u64,
     number: &[u32; PLACES],
     status: &[u8; PLACES],

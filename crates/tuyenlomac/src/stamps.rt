@@ -12,9 +12,8 @@ use terms::limits::PLACES;
 use terms::refusals::{Refusal, number_of};
 
 // Starts a timestamp desk at a first number and answers 0. For number 0 the answer is refusal 10, and what is there stays (01, refusal 10).
-#[unsafe(no_mangle)]
 #[tactic(auto, unfolding(stamp_arrays::specs::Steps::empty_stamps), using(crate::proofs::Starting::stamps_refused, crate::proofs::Starting::stamps_started))]
-pub extern "C" fn tuyenlomac_stamps_start_on(
+pub fn tuyenlomac_stamps_start_on(
     next: &mut u64,
     number: &mut [u32; PLACES],
     reader: &mut [u32; ROWS],
@@ -35,8 +34,7 @@ pub extern "C" fn tuyenlomac_stamps_start_on(
 }
 
 // One request by the letter's byte, the job and the cell. No job waits here, so none wakes.
-#[unsafe(no_mangle)]
-pub extern "C" fn tuyenlomac_stamps_step_on(
+pub fn tuyenlomac_stamps_step_on(
     next: &mut u64,
     number: &mut [u32; PLACES],
     reader: &mut [u32; ROWS],

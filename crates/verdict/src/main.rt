@@ -7,12 +7,17 @@ ghost use Rattle.judge_rules.specs.VerdictLine.{verdict_of, line_limit};
 ghost use Rattle.verdict.specs.Taking.{fitting, kept, Took, Judges};
 
 use judge_line::verdict::verdict_line;
-use libc::{STDIN_FILENO, STDOUT_FILENO};
 use terms::limits::JUDGED_BYTES;
 use text_rules::Written;
 
 // As many bytes as are read: one more than a text may have shows that it is too long.
 const READ: usize = JUDGED_BYTES + 1;
+
+// As many bytes are read at once.
+const CHUNK: usize = 65_536;
+
+// The line takes fewer bytes than this, whatever the text.
+const ROOM: usize = 4_096;
 
 // How many bytes of the text were read, and whether reading ended well: at the input's end or at a text that is too long, with no read failed.
 #[derive(Clone, Copy)]
@@ -64,7 +69,7 @@ fn keep(text: &mut [u8], before: usize, chunk: &[u8]) -> usize
 
 // Reads until the input ends or the text's buffer is full. No contract says that input ends, so the loop counts down from a number of turns that no run uses up.
 #[tactic(auto, using(crate::proofs::Keeping::took_more, crate::proofs::Keeping::took_none, crate::proofs::Keeping::took_within))]
-fn take_all(input: &mut [u8], text: &mut [u8]) -> Taken
+fn take_all(rt: &HostRuntime, input: &mut [u8], text: &mut [u8]) -> Taken
     ensures { Took text.old text.new result.len }
 {
     let mut len = 0;
@@ -73,11 +78,13 @@ fn take_all(input: &mut [u8], text: &mut [u8]) -> Taken
         if text.len() <= len {
             return Taken { len, whole: true };
         }
-        let got = libc::read(STDIN_FILENO, input);
-        if got < 0 {
-            return Taken { len, whole: false };
-        }
-        let n = io::count(got, input);
+        let n = match streams::read(rt, input) {
+            Ok(n) => n,
+            Err(e) => {
+                streams::fail(rt, "verdict: cannot read", &e);
+                return Taken { len, whole: false };
+            }
+        };
         if n == 0 {
             return Taken { len, whole: true };
         }
@@ -99,22 +106,21 @@ fn to_write<'a>(taken: Taken, text: &[u8], out: &'a mut [u8]) -> &'a [u8]
 
 // Writes out the line on what was read, and says on standard error what failed. If a read fails there is no text to judge and no line: half a history gets no verdict.
 #[tactic(auto, using(crate::proofs::Keeping::took_within))]
-fn report(input: &mut [u8], text: &mut [u8], out: &mut [u8])
+fn report(rt: &HostRuntime, input: &mut [u8], text: &mut [u8], out: &mut [u8])
     requires { (length text.old ≡ judged_bytes + 1) × (line_limit ≤ length out.old) }
 {
-    let taken = take_all(input, text);
+    let taken = take_all(rt, input, text);
     if !taken.whole {
-        os::fail(b"verdict: cannot read");
         return;
     }
-    if !io::write_all(STDOUT_FILENO, to_write(taken, text, out)) {
-        os::fail(b"verdict: cannot write");
+    if let Err(e) = streams::write_all(rt, to_write(taken, text, out)) {
+        streams::fail(rt, "verdict: cannot write", &e);
     }
 }
 
-fn main() {
-    let mut input = io::large_buffer();
+fn main(rt: HostRuntime) {
+    let mut input = [0u8; CHUNK];
     let mut text = [0u8; READ];
-    let mut out = io::buffer();
-    report(&mut input, &mut text, &mut out);
+    let mut out = [0u8; ROOM];
+    report(&rt, &mut input, &mut text, &mut out);
 }

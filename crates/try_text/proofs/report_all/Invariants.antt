@@ -6,8 +6,8 @@ use lib.ListN.{length}
 use Rattle.text_rules.specs.Split.{Sized}
 use Rattle.try_text.proofs.report_all.Given as goal
 
-abbrev pub invariant-loop : goal.invariant-loop
-invariant-loop l = (Sized l.progress.splitter) × (l.progress.at ≤ length l.out) × (length l.out ≡ length l.initial.out) × (length l.input ≡ length l.initial.input)
+abbrev pub invariant-loop-turns : goal.invariant-loop-turns
+invariant-loop-turns l = (Sized l.progress.splitter) × (l.progress.at ≤ length l.out) × (length l.out ≡ length l.initial.out) × (length l.input ≡ length l.initial.input)
 
-abbrev pub decreases-loop : goal.decreases-loop
-decreases-loop l = l.turns
+abbrev pub decreases-loop-turns : goal.decreases-loop-turns
+decreases-loop-turns l = l.turns

@@ -7,8 +7,8 @@ use lib.ListN.{length}
 use Rattle.text_rules.specs.Split.{Sized}
 use Rattle.try_text.proofs.report_chunk.Given as goal
 
-abbrev pub invariant-loop : goal.invariant-loop
-invariant-loop l = (Sized l.splitter) × (l.at ≤ length l.out) × (length l.out ≡ length l.initial.out)
+abbrev pub invariant-loop-from : goal.invariant-loop-from
+invariant-loop-from l = (Sized l.splitter) × (l.at ≤ length l.out) × (length l.out ≡ length l.initial.out)
 
-abbrev pub decreases-loop : goal.decreases-loop
-decreases-loop l = length l.chunk - l.from
+abbrev pub decreases-loop-from : goal.decreases-loop-from
+decreases-loop-from l = length l.chunk - l.from

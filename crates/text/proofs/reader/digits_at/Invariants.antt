@@ -8,8 +8,8 @@ use lib.ListN.{drop}
 use Rattle.text_rules.specs.Fields.{digits_at}
 use Rattle.text.proofs.reader.digits_at.Given as goal
 
-abbrev pub invariant-loop : goal.invariant-loop
-invariant-loop l = (l.value ≤ l.most) × (digits_at l.most l.value l.next (drop l.next l.line) ≡ digits_at l.most 0 l.from (drop l.from l.line))
+abbrev pub invariant-loop-next : goal.invariant-loop-next
+invariant-loop-next l = (l.value ≤ l.most) × (digits_at l.most l.value l.next (drop l.next l.line) ≡ digits_at l.most 0 l.from (drop l.from l.line))
 
-abbrev pub decreases-loop : goal.decreases-loop
-decreases-loop l = length l.line - l.next
+abbrev pub decreases-loop-next : goal.decreases-loop-next
+decreases-loop-next l = length l.line - l.next

@@ -9,8 +9,8 @@ use Rattle.text_rules.specs.Decimal.{decimal}
 use Rattle.text_rules.proofs.DigitLaws.{last_digits}
 use Rattle.text.proofs.writer.put_number.Given as goal
 
-abbrev pub invariant-loop : goal.invariant-loop
-invariant-loop l = (l.i ≤ l.digits) × (length l.part ≡ length l.initial.part) × (last_digits l.i l.rest ++ drop l.i l.part ≡ decimal l.n ++ drop l.digits l.initial.part)
+abbrev pub invariant-loop-i : goal.invariant-loop-i
+invariant-loop-i l = (l.i ≤ l.digits) × (length l.part ≡ length l.initial.part) × (last_digits l.i l.rest ++ drop l.i l.part ≡ decimal l.n ++ drop l.digits l.initial.part)
 
-abbrev pub decreases-loop : goal.decreases-loop
-decreases-loop l = l.i
+abbrev pub decreases-loop-i : goal.decreases-loop-i
+decreases-loop-i l = l.i

@@ -4,8 +4,8 @@ use Prim.Native.Nat.{◌-◌}
 use Rattle.text.proofs.WordLaws.{Copying}
 use Rattle.text.proofs.writer.put_word.Given as goal
 
-abbrev pub invariant-loop : goal.invariant-loop
-invariant-loop l = Copying l.initial.part l.bytes l.len l.part l.i
+abbrev pub invariant-loop-i : goal.invariant-loop-i
+invariant-loop-i l = Copying l.initial.part l.bytes l.len l.part l.i
 
-abbrev pub decreases-loop : goal.decreases-loop
-decreases-loop l = l.len - l.i
+abbrev pub decreases-loop-i : goal.decreases-loop-i
+decreases-loop-i l = l.len - l.i

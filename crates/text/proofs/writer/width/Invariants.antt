@@ -3,8 +3,8 @@
 use Rattle.text_rules.proofs.DigitLaws.{Counting}
 use Rattle.text.proofs.writer.width.Given as goal
 
-abbrev pub invariant-loop : goal.invariant-loop
-invariant-loop l = Counting l.n l.w l.rest
+abbrev pub invariant-loop-rest : goal.invariant-loop-rest
+invariant-loop-rest l = Counting l.n l.w l.rest
 
-abbrev pub decreases-loop : goal.decreases-loop
-decreases-loop l = l.rest
+abbrev pub decreases-loop-rest : goal.decreases-loop-rest
+decreases-loop-rest l = l.rest
