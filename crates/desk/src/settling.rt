@@ -27,7 +27,7 @@ fn drop_locks(held: &mut [u8; SPOTS], p: usize)
 }
 
 // Grants waiters of one cell from the front, while each agrees with the other holders; `count` were woken before.
-#[tactic(auto, unfolding(desk_arrays::specs::Settling::settle_cell, laws::specs::Lists::filled), using(crate::proofs::Cells::cell_stops, crate::proofs::Cells::holds, crate::proofs::Cells::reached_as, crate::proofs::Cells::turn_granted, crate::proofs::Cells::turn_place, crate::proofs::Cells::turn_room))]
+#[tactic(auto, unfolding(desk_arrays::specs::Settling::settle_cell, laws::specs::Lists::filled), using(crate::proofs::Cells::reached_as))]
 fn settle_cell<'a>(
     held: &mut [u8; SPOTS],
     status: &mut [u8; PLACES],
@@ -39,7 +39,7 @@ fn settle_cell<'a>(
     c: usize,
 ) -> usize
     requires { (c < cells) × (count + waiters status.old places ≤ places) × (length woken.old ≡ places) }
-    ensures { Reached (settle_cell number.now cell.now ask.now c places (record { held = held.entry.now; status = status.old; woken = take count woken.old })) woken.old held.exit.now status.new woken.new result }
+    ensures { Reached (settle_cell number.now cell.now ask.now c places (record { held = held.old; status = status.old; woken = take count woken.old })) woken.old held.new status.new woken.new result }
 {
     let mut k = count;
     let mut n: usize = 0;
@@ -61,7 +61,7 @@ fn settle_cell<'a>(
 }
 
 // The same for every cell from 0 to 63; a cell without waiters is skipped.
-#[tactic(auto, unfolding(desk_arrays::specs::Settling::settle_all, laws::specs::Lists::filled), using(crate::proofs::Cells::cells_length, crate::proofs::Cells::cells_passed, crate::proofs::Cells::cells_room, crate::proofs::Cells::cells_settled, crate::proofs::Cells::reached_as, crate::proofs::Cells::reached_by, crate::proofs::Room::room, desk_arrays::proofs::WaitingCount::waiters_most))]
+#[tactic(auto, unfolding(desk_arrays::specs::Settling::settle_all, laws::specs::Lists::filled), using(crate::proofs::Cells::reached_as))]
 fn settle_all<'a>(
     held: &mut [u8; SPOTS],
     status: &mut [u8; PLACES],
@@ -71,7 +71,7 @@ fn settle_all<'a>(
     ask: &'a [u8; PLACES],
 ) -> usize
     requires { length woken.old ≡ places }
-    ensures { Reached (settle_all number.now cell.now ask.now cells (record { held = held.entry.now; status = status.old; woken = [] })) woken.old held.exit.now status.new woken.new result }
+    ensures { Reached (settle_all number.now cell.now ask.now cells (record { held = held.old; status = status.old; woken = [] })) woken.old held.new status.new woken.new result }
 {
     let cells = wanted_cells(status, cell);
     let mut k: usize = 0;
@@ -96,7 +96,7 @@ fn settle<'a>(
     ask: &'a [u8; PLACES],
 ) -> usize
     requires { length woken.old ≡ places }
-    ensures { Reached (settle_all number.now cell.now ask.now cells (record { held = held.entry.now; status = status.old; woken = [] })) woken.old held.exit.now status.new woken.new result }
+    ensures { Reached (settle_all number.now cell.now ask.now cells (record { held = held.old; status = status.old; woken = [] })) woken.old held.new status.new woken.new result }
 {
     if none_waits(status) {
         return 0;

@@ -75,7 +75,6 @@ fn sized(status: [u8; PLACES], woken: [u8; PLACES]) -> bool
 
 // One step by letter, job and cell, on the desk's fields, each lent and changed in place.
 // The woken places go into the first places of a lent list, and the result tells how many there are.
-#[tactic(auto, using(crate::proofs::Performed::begin_place, crate::proofs::Performed::begun_at, crate::proofs::Performed::end_place, crate::proofs::Performed::ended_at, crate::proofs::Performed::kept, crate::proofs::Performed::refused, crate::proofs::Performed::stay_spot, crate::proofs::Performed::stayed, crate::proofs::Performed::take_spot, crate::proofs::Performed::taken, crate::proofs::Performed::tried, terms::proofs::Alphabet::letter_of_byte))]
 pub fn step_for(
     next: &mut u64,
     number: &mut [u32; PLACES],
@@ -133,7 +132,7 @@ pub fn step_for(
 }
 
 // The same by a byte; a byte of no letter is refused.
-#[tactic(auto, using(crate::proofs::Performed::by_letter, crate::proofs::Performed::refused_byte))]
+#[tactic(auto, using(crate::proofs::Performed::by_letter))]
 pub fn step_on(
     next: &mut u64,
     number: &mut [u32; PLACES],
