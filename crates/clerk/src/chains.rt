@@ -22,7 +22,6 @@ const JOB_ROOM: usize = 11;
 const CHAINS_ROOM: usize = PLACES * PLACES * JOB_ROOM;
 
 // Writes a job that fits; returns the place after it.
-#[tactic(auto, using(crate::proofs::Adding::added_next, crate::proofs::Adding::never_refused, crate::proofs::Listing::job_digits))]
 fn put_number(out: &mut [u8], at: usize, job: u32) -> usize
     requires { at + 10 ≤ length out.old }
     ensures { Added 10 at result (decimal job) out.old out.new }
@@ -34,7 +33,6 @@ fn put_number(out: &mut [u8], at: usize, job: u32) -> usize
 }
 
 // Writes a tab and a job that fit; returns the place after them.
-#[tactic(auto, using(crate::proofs::Adding::added_next, crate::proofs::Adding::never_refused, crate::proofs::Listing::job_digits))]
 fn put_field(out: &mut [u8], at: usize, job: u32) -> usize
     requires { at + job_room ≤ length out.old }
     ensures { Added job_room at result (tab ∷ decimal job) out.old out.new }
@@ -46,7 +44,6 @@ fn put_field(out: &mut [u8], at: usize, job: u32) -> usize
 }
 
 // Writes the newline, which fits; returns the place after it.
-#[tactic(auto, using(crate::proofs::Adding::added_next, crate::proofs::Adding::never_refused))]
 fn put_end(out: &mut [u8], at: usize) -> usize
     requires { at < length out.old }
     ensures { Added 1 at result (newline ∷ []) out.old out.new }
@@ -58,7 +55,6 @@ fn put_end(out: &mut [u8], at: usize) -> usize
 }
 
 // Writes the line of a chain, which fits; returns the place after it.
-#[tactic(auto, using(crate::proofs::Adding::added_length, crate::proofs::Listing::Listed, crate::proofs::Listing::listed_first, crate::proofs::Listing::listed_line, crate::proofs::Listing::listed_next, text_rules::proofs::WroteLaws::wrote_length))]
 fn put_chain(out: &mut [u8], at: usize, jobs: &[u32]) -> usize
     requires { (0 < length jobs.now) × (at + job_room * length jobs.now ≤ length out.old) }
     ensures { Added (job_room * length jobs.now) at result (jobs_line jobs.now) out.old out.new }

@@ -126,7 +126,6 @@ fn noted_of(letter: Letter, cell: u32, a: Answer) -> Noted
 }
 
 // Writes an answer record, which fits.
-#[tactic(auto, using(crate::proofs::Adding::added_next, crate::proofs::Adding::never_refused, text_rules::proofs::Length::answer_at_most_24))]
 fn put_answer(out: &mut [u8], at: usize, line: u64, word: Word, number: u64, fault: u64) -> usize
     requires { (line ≤ request_lines) × (of_answers word ≡ true) × Besides number fault × (at + longest_record ≤ length out.old) }
     ensures { Added longest_record at result (answer_record line word number fault) out.old out.new }
@@ -138,7 +137,6 @@ fn put_answer(out: &mut [u8], at: usize, line: u64, word: Word, number: u64, fau
 }
 
 // Writes the line of a letter, which fits.
-#[tactic(auto, using(crate::proofs::Adding::added_next, crate::proofs::Adding::line_at_most_24, crate::proofs::Adding::never_refused))]
 fn put_line(out: &mut [u8], at: usize, letter: Letter, job: u32, cell: u32) -> usize
     requires { at + longest_record ≤ length out.old }
     ensures { Added longest_record at result (line_record letter job cell) out.old out.new }
@@ -228,7 +226,6 @@ fn put_wakes<'a>(
 }
 
 // Writes all records of a line with a good request. Most steps wake nobody.
-#[tactic(auto, using(crate::proofs::Waking::records_quiet, crate::proofs::Waking::records_woken))]
 pub fn put_records<'a>(
     view: View,
     out: &mut [u8],

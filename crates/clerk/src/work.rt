@@ -52,7 +52,6 @@ fn is_owing(s: Splitter) -> bool
 }
 
 // Answers a good line on the lock desk's fields, in place, and puts its records into the buffer.
-#[tactic(auto, using(crate::proofs::Answering::on_locks))]
 fn answer_by_locks(
     view: View,
     next: &mut u64,
@@ -82,7 +81,6 @@ fn answer_by_locks(
 }
 
 // Answers a good line on the timestamp desk's fields, in place, and puts its one record into the buffer: nobody waits there.
-#[tactic(auto, using(crate::proofs::Answering::on_stamps_lem))]
 fn answer_by_stamps(
     view: View,
     next: &mut u64,

@@ -7,8 +7,8 @@ use lib.ListN.{length}
 use Rattle.clerk.proofs.Listing.{Listed}
 use Rattle.clerk.proofs.chains.put_chain.Given as goal
 
-abbrev pub invariant-loop : goal.invariant-loop
-invariant-loop l = (before : List ℕ) → Listed l.jobs l.at l.initial.next l.initial.i before l.initial.out → Listed l.jobs l.at l.next l.i before l.out
+abbrev pub invariant-loop-i : goal.invariant-loop-i
+invariant-loop-i l = (before : List ℕ) → Listed l.jobs l.at l.initial.next l.initial.i before l.initial.out → Listed l.jobs l.at l.next l.i before l.out
 
-abbrev pub decreases-loop : goal.decreases-loop
-decreases-loop l = length l.jobs - l.i
+abbrev pub decreases-loop-i : goal.decreases-loop-i
+decreases-loop-i l = length l.jobs - l.i

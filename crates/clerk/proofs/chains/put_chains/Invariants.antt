@@ -4,8 +4,8 @@ use Prim.Native.Nat.{◌-◌}
 use Rattle.clerk.proofs.Chaining.{ChainsPut}
 use Rattle.clerk.proofs.chains.put_chains.Given as goal
 
-abbrev pub invariant-loop : goal.invariant-loop
-invariant-loop l = ChainsPut l.d l.at l.next l.last l.i l.initial.out l.out
+abbrev pub invariant-loop-i : goal.invariant-loop-i
+invariant-loop-i l = ChainsPut l.d l.at l.next l.last l.i l.initial.out l.out
 
-abbrev pub decreases-loop : goal.decreases-loop
-decreases-loop l = 32 - l.i
+abbrev pub decreases-loop-i : goal.decreases-loop-i
+decreases-loop-i l = 32 - l.i

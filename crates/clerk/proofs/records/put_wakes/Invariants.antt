@@ -11,8 +11,8 @@ use Rattle.clerk.specs.Parts.{Added}
 use Rattle.clerk.specs.Parts.{wake_records}
 use Rattle.clerk.proofs.records.put_wakes.Given as goal
 
-abbrev pub invariant-loop : goal.invariant-loop
-invariant-loop l = (l.i ≤ 32) × (l.i ≤ l.count) × (Added (longest_record * l.i) l.at l.next (wake_records l.view l.line (take l.i (map (wake_at l.number l.cells l.ask) l.woken))) l.initial.out l.out)
+abbrev pub invariant-loop-i : goal.invariant-loop-i
+invariant-loop-i l = (l.i ≤ 32) × (l.i ≤ l.count) × (Added (longest_record * l.i) l.at l.next (wake_records l.view l.line (take l.i (map (wake_at l.number l.cells l.ask) l.woken))) l.initial.out l.out)
 
-abbrev pub decreases-loop : goal.decreases-loop
-decreases-loop l = 32 - l.i
+abbrev pub decreases-loop-i : goal.decreases-loop-i
+decreases-loop-i l = 32 - l.i
