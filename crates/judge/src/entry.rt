@@ -25,7 +25,6 @@ pub struct LineAt {
 }
 
 // The verdict on a text, with the place of the faulty line: refusal 14 first, then the lines in order, then what they say.
-#[tactic(auto, using(crate::proofs::Handing::judged_faulty, crate::proofs::Handing::judged_short, crate::proofs::KeptClean::judged_kept))]
 fn judgement(text: &[u8], order: &mut [u8]) -> Judged
     ensures { JudgedAs text.now order.old order.new result }
 {
@@ -88,7 +87,6 @@ pub fn judge_text(text: &[u8], order: &mut [u8]) -> Verdict
 }
 
 // The same with the verdict in four numbers. The faulty line is handed back as the part of the text where it stands, without its newline; if none is faulty, an empty part at the text's start.
-#[tactic(auto, using(crate::proofs::Handing::judged_small, crate::proofs::Handing::part_starts))]
 pub fn judge<'a>(text: &'a [u8], order: &mut [u8], answer: &mut [u32; 4]) -> &'a [u8]
     ensures line { result.now ≡ (judgement_of text.now order.old).line }
     ensures place { result.ref_ptr ≡ line_place text.entry.ref_ptr text.now order.old }
@@ -104,7 +102,6 @@ pub fn judge<'a>(text: &'a [u8], order: &mut [u8], answer: &mut [u32; 4]) -> &'a
 }
 
 // The same for callers that cannot take a part of a text: tells where in the text the faulty line stands.
-#[tactic(auto, using(crate::proofs::Handing::judged_small, crate::proofs::Handing::line_told))]
 pub fn judge_at(text: &[u8], order: &mut [u8], answer: &mut [u32; 4]) -> LineAt
     ensures from { result.from ≡ line_from text.now (judgement_of text.now order.old).said }
     ensures length { result.length ≡ length (judgement_of text.now order.old).line }

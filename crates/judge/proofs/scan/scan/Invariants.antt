@@ -5,8 +5,8 @@ use lib.ListN.{length}
 use Rattle.judge.proofs.Scanning.{Scanning}
 use Rattle.judge.proofs.scan.scan.Given as goal
 
-abbrev pub invariant-loop : goal.invariant-loop
-invariant-loop l = Scanning l.text l.codes l.jobs l.cells l.ended l.n l.from
+abbrev pub invariant-loop-from : goal.invariant-loop-from
+invariant-loop-from l = Scanning l.text l.codes l.jobs l.cells l.ended l.n l.from
 
-abbrev pub decreases-loop : goal.decreases-loop
-decreases-loop l = length l.text - l.from
+abbrev pub decreases-loop-from : goal.decreases-loop-from
+decreases-loop-from l = length l.text - l.from
