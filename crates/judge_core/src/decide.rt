@@ -78,7 +78,6 @@ fn knot<'a>(predecessors: &'a [usize; SLOTS], start: usize, order: &mut [u8]) ->
 }
 
 // The verdict on the first n lines, with its jobs in the buffer's first places. Internal to the crate: the lines are faultless, and the buffer is long enough.
-#[tactic(auto, using(crate::proofs::JobFlags::took, crate::proofs::Said::Took, crate::proofs::Said::order_room, crate::proofs::Said::put_knot, crate::proofs::Said::put_order, crate::proofs::Said::said_knot, crate::proofs::Said::said_order, crate::proofs::Said::take_within, crate::proofs::Said::took_few, crate::proofs::Said::took_knot, crate::proofs::Said::took_room))]
 pub fn decide<'a>(
     codes: &'a [u8; JUDGED_LINES],
     jobs: &'a [u8; JUDGED_LINES],

@@ -32,7 +32,6 @@ fn end_by(code: u8, p: usize, later: u16) -> u16
 }
 
 // For each of the first n lines, where its run ends, worked out from the last line back: 0 if it commits, else the line of its mark, or n.
-#[tactic(auto, using(crate::proofs::DirtyPasses::ends_all, crate::proofs::DirtyPasses::ends_more, crate::proofs::DirtyPasses::ends_none, crate::proofs::DirtyPasses::seen_more, crate::proofs::DirtyPasses::seen_none))]
 fn run_ends<'a>(
     codes: &'a [u8; JUDGED_LINES],
     jobs: &'a [u8; JUDGED_LINES],

@@ -89,7 +89,6 @@ pub fn put(buffer: &mut [u8], at: usize, part: &[u8])
 }
 
 // Puts a round into the first places of a buffer, starting at its smallest job.
-#[tactic(auto, using(crate::proofs::Putting::put_turned))]
 pub fn put_turned(buffer: &mut [u8], round: &[u8])
     requires { length round.now ≤ length buffer.old }
     ensures { buffer.new ≡ filled (turn round.now) buffer.old }

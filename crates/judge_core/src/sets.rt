@@ -70,7 +70,6 @@ pub fn last_key(j: usize, kind: u8, cell: u8) -> usize
 }
 
 // One more than each job's last line of each kind (and of any kind) on each cell, among the first n lines; 0 if there is none.
-#[tactic(auto, using(crate::proofs::Covering::lasts_all, crate::proofs::Covering::lasts_any, crate::proofs::Covering::lasts_keep, crate::proofs::Covering::lasts_more, crate::proofs::Covering::lasts_none))]
 pub fn last_lines<'a>(
     codes: &'a [u8; JUDGED_LINES],
     jobs: &'a [u8; JUDGED_LINES],

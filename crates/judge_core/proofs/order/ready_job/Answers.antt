@@ -7,9 +7,9 @@ use Rattle.judge_core.proofs.order.ready_job.Goals as goal
 
 pub loop-j-preserved : goal.loop-j-preserved
 loop-j-preserved c = elim c.if-left-j.branch [
-    then-left-j+else-i-eq-NOBODY w ↦ rw w.predecessors-is (passed_more _ _ _ _ (omega arith) c.loop-j.invariant _ w.if-left-j.true w.predecessor_from-i.ensures w.if-i-eq-NOBODY.false)
+  | then-left-j+else-i-eq-NOBODY w ↦ rw w.predecessors-is (passed_more _ _ _ _ (omega arith) c.loop-j.invariant _ w.if-left-j.true w.predecessor_from-i.ensures w.if-i-eq-NOBODY.false)
   | else-left-j w ↦ rw w.predecessors-is (passed_skip _ _ _ _ (omega arith) c.loop-j.invariant w.if-left-j.false)
-  ]
+]
 
 pub returns-clause-value : goal.returns-clause-value
 returns-clause-value c = (passed_all _ _ _ c.loop-j.j (omega arith) c.loop-j.invariant).0

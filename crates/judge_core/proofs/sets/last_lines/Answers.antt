@@ -12,11 +12,11 @@ pub loop-p-preserved : goal.loop-p-preserved
 loop-p-preserved c = (
   omega arith,
   elim c.if-j-ne0.branch [
-    then-j-ne0 w ↦
+    | then-j-ne0 w ↦
         let small = c.requires.1.small _ (omega arith) in
         let low = c.requires.1.cell _ (omega arith) (λ z. w.if-j-ne0.true (c.place-j.ensures.0 ∙ z)) in
         let any = lasts_any _ _ _ _ _ c.loop-p.invariant.1 _ _ _ small low c.place-j.ensures.0 w.last_key-any.ensures.0 refl in
         rw w.lasts-is (lasts_more _ _ _ _ _ any.0 small (c.requires.1.code _ (omega arith) (λ z. w.if-j-ne0.true (c.place-j.ensures.0 ∙ z))) low any.1 _ _ _ c.place-j.ensures.0 w.last_key-key.ensures.0 refl)
-  | else-j-ne0 w ↦ rw w.lasts-is (lasts_keep _ _ _ _ _ c.loop-p.invariant.1 (sym c.place-j.ensures.0 ∙ w.if-j-ne0.false))
+    | else-j-ne0 w ↦ rw w.lasts-is (lasts_keep _ _ _ _ _ c.loop-p.invariant.1 (sym c.place-j.ensures.0 ∙ w.if-j-ne0.false))
   ],
 )
