@@ -7,7 +7,6 @@ use desk::step::step;
 use desk_arrays::state::{Desk, Said};
 
 // One request to a lent lock desk: the answer, and the desk left there, are those of the step by value.
-#[tactic(auto, using(crate::proofs::Desks::locks, crate::proofs::Desks::outcome, crate::proofs::Desks::said, crate::proofs::Entry::entry_runs, desk::proofs::step::step::Symbol::name))]
 pub fn step_lent(d: &mut Desk, kind: u8, job: u32, cell: u32) -> Said
     ensures { leaving d.new result ≡ step_of d.old kind job cell }
 {

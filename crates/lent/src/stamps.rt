@@ -8,7 +8,6 @@ use stamp_arrays::state::Stamps;
 use stamp_desk::step::step;
 
 // One request to a lent timestamp desk: the answer, and the desk left there, are those of the step by value.
-#[tactic(auto, using(crate::proofs::Desks::answer, crate::proofs::Desks::stamped, crate::proofs::Desks::stamps, crate::proofs::Entry::entry_runs, stamp_desk::proofs::step::step::Symbol::name))]
 pub fn step_lent(d: &mut Stamps, kind: u8, job: u32, cell: u32) -> Answer
     ensures { stamping d.new result ≡ step_of d.old kind job cell }
 {
