@@ -5,8 +5,8 @@ use lib.ListN.{length}
 use Rattle.judge_line.proofs.SpareRoom.{Spare}
 use Rattle.judge_line.proofs.lines.jobs_fit.Given as goal
 
-abbrev pub invariant-loop : goal.invariant-loop
-invariant-loop l = Spare l.jobs l.room l.spare l.i
+abbrev pub invariant-loop-i : goal.invariant-loop-i
+invariant-loop-i l = Spare l.jobs l.room l.spare l.i
 
-abbrev pub decreases-loop : goal.decreases-loop
-decreases-loop l = length l.jobs - l.i
+abbrev pub decreases-loop-i : goal.decreases-loop-i
+decreases-loop-i l = length l.jobs - l.i

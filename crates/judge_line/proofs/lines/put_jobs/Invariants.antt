@@ -8,8 +8,8 @@ use Rattle.text_rules.specs.Wrote.{Wrote}
 use Rattle.text_rules.specs.Records.{tabbed}
 use Rattle.judge_line.proofs.lines.put_jobs.Given as goal
 
-abbrev pub invariant-loop : goal.invariant-loop
-invariant-loop l = (l.i ≤ length l.jobs) × Wrote l.at l.next (tabbed (take l.i l.jobs)) l.initial.out l.out
+abbrev pub invariant-loop-i : goal.invariant-loop-i
+invariant-loop-i l = (l.i ≤ length l.jobs) × Wrote l.at l.next (tabbed (take l.i l.jobs)) l.initial.out l.out
 
-abbrev pub decreases-loop : goal.decreases-loop
-decreases-loop l = length l.jobs - l.i
+abbrev pub decreases-loop-i : goal.decreases-loop-i
+decreases-loop-i l = length l.jobs - l.i

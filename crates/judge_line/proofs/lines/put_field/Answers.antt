@@ -1,0 +1,10 @@
+-- `judge_line::lines::put_field` meets its contract: there is room, so the writer does not refuse.
+-- Assumes nothing.
+use Rattle.text_rules.proofs.WriterLaws.{next_wrote, not_refused}
+use Rattle.judge_line.proofs.lines.put_field.Goals as goal
+
+pub returns-in-Next : goal.returns-in-Next
+returns-in-Next c = search next_wrote
+
+pub returns-in-Refused : goal.returns-in-Refused
+returns-in-Refused c = not_refused _ _ _ c.write_field-w.ensures.0 c.in-Refused.is c.requires
