@@ -23,7 +23,7 @@ use Rattle.judge_core.specs.Meeting.{kind_by, action_by}
 use Rattle.judge_core.specs.Kept.{event_at}
 use Rattle.judge_core.specs.RunEnds.{run_end, end_at, changing}
 use Rattle.judge_core.proofs.Codes.{act_event, end_event}
-use Rattle.judge_core.proofs.Events.{eventsFrom, history_events, events_length, events_parted}
+use Rattle.judge_core.proofs.Events.{events_from, history_events, events_length, events_parted}
 use Rattle.judge_core.proofs.Ending.{run_commits, run_low, run_past, run_there, run_action}
 
 -- a line that says an action has a number below 3, and is the action that it stands for
@@ -78,26 +78,26 @@ pub record Placed (codes jobs cells : List ℕ) (n p q : ℕ) : Type 0 where
 module _ (codes jobs cells : List ℕ) (n p q : ℕ) (l : q < p) (w : p < n) where
   -- the lines between the two, and those behind
   between : History
-  between = eventsFrom codes jobs cells (suc q) (p - suc q)
+  between = events_from codes jobs cells (suc q) (p - suc q)
 
   after : History
-  after = eventsFrom codes jobs cells (suc p) (n - suc p)
+  after = events_from codes jobs cells (suc p) (n - suc p)
 
   between_length : p ≡ q + 1 + length between
   unfolding between
   between_length = omega (arith, events_length codes jobs cells (suc q) (p - suc q))
 
   -- the lines behind the first
-  rest : eventsFrom codes jobs cells (suc q) (n - suc q) ≡ between ++ event_at codes jobs cells p ∷ after
+  rest : events_from codes jobs cells (suc q) (n - suc q) ≡ between ++ event_at codes jobs cells p ∷ after
   unfolding between after
   rest = events_parted codes jobs cells (suc q) (n - suc q) (p - suc q) p (n - suc p) (omega arith) (omega arith)
 
   -- all lines
-  whole : history_by codes jobs cells n ≡ eventsFrom codes jobs cells 0 q ++ event_at codes jobs cells q ∷ (between ++ event_at codes jobs cells p ∷ after)
+  whole : history_by codes jobs cells n ≡ events_from codes jobs cells 0 q ++ event_at codes jobs cells q ∷ (between ++ event_at codes jobs cells p ∷ after)
   whole =
       history_events codes jobs cells n
       ∙ events_parted codes jobs cells 0 n q q (n - suc q) (omega arith) (omega arith)
-      ∙ ap (λ h. eventsFrom codes jobs cells 0 q ++ event_at codes jobs cells q ∷ h) rest
+      ∙ ap (λ h. events_from codes jobs cells 0 q ++ event_at codes jobs cells q ∷ h) rest
 
   module _ (j : ℕ) (act : get_or codes p 0 < 3) where
     -- a run that has not ended between the two, the second being an action, ends as seen from behind it
@@ -132,7 +132,7 @@ module _ (codes jobs cells : List ℕ) (n p q : ℕ) where
   dirty_placed i j d =
       let l : q < p = write_ahead d in
       let w : p < n = omega (arith, read_within d, ap length (history_events codes jobs cells n), events_length codes jobs cells 0 n) in
-      let t = parts d (eventsFrom codes jobs cells 0 q) (event_at codes jobs cells q) (between codes jobs cells n p q l w) (event_at codes jobs cells p) (after codes jobs cells n p q l w) (whole codes jobs cells n p q l w) (events_length codes jobs cells 0 q) (between_length codes jobs cells n p q l w) in
+      let t = parts d (events_from codes jobs cells 0 q) (event_at codes jobs cells q) (between codes jobs cells n p q l w) (event_at codes jobs cells p) (after codes jobs cells n p q l w) (whole codes jobs cells n p q l w) (events_length codes jobs cells 0 q) (between_length codes jobs cells n p q l w) in
       let write = does_code (get_or codes q 0) (get_or jobs q 0) (get_or cells q 0) d.write t.0 in
       let read = does_code (get_or codes p 0) (get_or jobs p 0) (get_or cells p 0) d.read t.2 in
       let i' : i ≡ get_or jobs p 0 = sym d.reads_by ∙ ap (λ (a : Action). a.job) read.1 in
@@ -159,7 +159,7 @@ module _ (codes jobs cells : List ℕ) (n p q : ℕ) where
   placed_dirty d =
       let l = d.later in
       let w = d.within in
-      let ahead = eventsFrom codes jobs cells 0 q in
+      let ahead = events_from codes jobs cells 0 q in
       let read = action_by (get_or codes p 0) (get_or jobs p 0) (get_or cells p 0) in
       let write = action_by (get_or codes q 0) (get_or jobs q 0) (get_or cells q 0) in
       let act : get_or codes p 0 < 3 = omega (arith, d.reads) in

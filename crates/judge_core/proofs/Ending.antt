@@ -16,7 +16,7 @@ use Rattle.judge_core.specs.Meeting.{action_by}
 use Rattle.judge_core.specs.Kept.{event_at}
 use Rattle.judge_core.specs.RunEnds.{end_by, run_end}
 use Rattle.judge_core.proofs.Codes.{mark_by, act_event, end_event, mark_commit}
-use Rattle.judge_core.proofs.Events.{eventsFrom}
+use Rattle.judge_core.proofs.Events.{events_from}
 
 module _ (codes jobs cells : List ℕ) (j k : ℕ) where
   -- line k does not end a run of job j
@@ -87,13 +87,13 @@ stop_low false k = omega arith
 
 module _ (codes jobs cells : List ℕ) (j : ℕ) where
   -- a run commits where its end is 0
-  pub run_commits : (k m : ℕ) → 0 < k → commits j (eventsFrom codes jobs cells k m) ≡ eqb (run_end codes jobs j k m) 0
-  unfolding eventsFrom run_end
+  pub run_commits : (k m : ℕ) → 0 < k → commits j (events_from codes jobs cells k m) ≡ eqb (run_end codes jobs j k m) 0
+  unfolding events_from run_end
   run_commits k zero l = commits_none j ∙ sym (ne_eqb k 0 (λ e. omega arith))
   run_commits k (suc m) l =
       by_line codes jobs cells j k
-      (λ p. p.commit (eventsFrom codes jobs cells (suc k) m) ∙ run_commits (suc k) m (omega arith) ∙ ap (λ x. eqb x 0) (sym (p.run m)))
-      (λ s. s.commit (eventsFrom codes jobs cells (suc k) m) ∙ stop_is (eqb (get_or codes k 0) 3) k l ∙ ap (λ x. eqb x 0) (sym (s.run m)))
+      (λ p. p.commit (events_from codes jobs cells (suc k) m) ∙ run_commits (suc k) m (omega arith) ∙ ap (λ x. eqb x 0) (sym (p.run m)))
+      (λ s. s.commit (events_from codes jobs cells (suc k) m) ∙ stop_is (eqb (get_or codes k 0) 3) k l ∙ ap (λ x. eqb x 0) (sym (s.run m)))
 
   -- an end that is not 0 is none of the lines before
   pub run_low : (k m : ℕ) → (run_end codes jobs j k m ≡ 0 → ⊥) → k ≤ run_end codes jobs j k m
@@ -105,8 +105,8 @@ module _ (codes jobs cells : List ℕ) (j : ℕ) where
       (λ s. rw (s.run m) (by_test (eqb (get_or codes k 0) 3) (λ t. absurd (z (s.run m ∙ rw t))) (λ f. rw f (omega arith))))
 
   -- a run that has not ended on some lines ends as seen from behind them
-  pub run_past : (k b m r : ℕ) → m ≡ b + r → ended j (eventsFrom codes jobs cells k b) ≡ false → run_end codes jobs j k m ≡ run_end codes jobs j (k + b) r
-  unfolding eventsFrom
+  pub run_past : (k b m r : ℕ) → m ≡ b + r → ended j (events_from codes jobs cells k b) ≡ false → run_end codes jobs j k m ≡ run_end codes jobs j (k + b) r
+  unfolding events_from
   run_past k zero m r e f =
       let one' : m ≡ r = omega arith in
       let two' : k + 0 ≡ k = omega arith in
@@ -116,16 +116,16 @@ module _ (codes jobs cells : List ℕ) (j : ℕ) where
       let two' : k + suc b ≡ suc k + b = omega arith in
       rw (one', two')
       (by_line codes jobs cells j k
-      (λ p. p.run (b + r) ∙ run_past (suc k) b (b + r) r refl (sym (p.end (eventsFrom codes jobs cells (suc k) b)) ∙ f))
-      (λ s. not_both (s.end (eventsFrom codes jobs cells (suc k) b)) f))
+      (λ p. p.run (b + r) ∙ run_past (suc k) b (b + r) r refl (sym (p.end (events_from codes jobs cells (suc k) b)) ∙ f))
+      (λ s. not_both (s.end (events_from codes jobs cells (suc k) b)) f))
 
   -- a run that has ended on some lines has its end there, or commits
-  pub run_there : (k b m r : ℕ) → m ≡ b + r → ended j (eventsFrom codes jobs cells k b) ≡ true → run_end codes jobs j k m < k + b
-  unfolding eventsFrom
+  pub run_there : (k b m r : ℕ) → m ≡ b + r → ended j (events_from codes jobs cells k b) ≡ true → run_end codes jobs j k m < k + b
+  unfolding events_from
   run_there k zero m r e t = not_both t (ended_is j [] ∙ marked_none is_end j)
   run_there k (suc b) m r e t =
       let one' : m ≡ suc (b + r) = omega arith in
       rw one'
       (by_line codes jobs cells j k
-      (λ p. rw (p.run (b + r)) (let l = run_there (suc k) b (b + r) r refl (sym (p.end (eventsFrom codes jobs cells (suc k) b)) ∙ t) in omega arith))
+      (λ p. rw (p.run (b + r)) (let l = run_there (suc k) b (b + r) r refl (sym (p.end (events_from codes jobs cells (suc k) b)) ∙ t) in omega arith))
       (λ s. rw (s.run (b + r)) (omega (arith, stop_low (eqb (get_or codes k 0) 3) k))))

@@ -23,7 +23,7 @@ use Rattle.judge_core.specs.declared.kept.Found.TheVariants.{Faultless, Faulty}
 use Rattle.judge_core.specs.declared.kept.Fault.{Fault}
 use Rattle.judge_core.specs.declared.kept.Fault.TheVariants.{Nothing, Due}
 use Rattle.judge_core.specs.Kept.{job_of, above, ends_job, event_fault, or_later, first_fault, event_at, due_of, Flagged}
-use Rattle.judge_core.proofs.Events.{eventsFrom, history_events}
+use Rattle.judge_core.proofs.Events.{events_from, history_events}
 use Rattle.judge_core.proofs.KeptFaults.{job_of_lem, above_of, due_some, due_none, flags_more}
 
 -- none of the tests in a row holds where nothing is picked
@@ -57,8 +57,8 @@ faultless_sound n before e h =
     }
 
 -- a line and those after it
-one_line_lem : (codes jobs cells : List ℕ) (n p m : ℕ) (before : History) → first_fault n before (eventsFrom codes jobs cells p (suc m)) ≡ or_later (event_fault n before (event_at codes jobs cells p)) n (first_fault (suc n) (before ++ event_at codes jobs cells p ∷ []) (eventsFrom codes jobs cells (suc p) m))
-unfolding first_fault eventsFrom
+one_line_lem : (codes jobs cells : List ℕ) (n p m : ℕ) (before : History) → first_fault n before (events_from codes jobs cells p (suc m)) ≡ or_later (event_fault n before (event_at codes jobs cells p)) n (first_fault (suc n) (before ++ event_at codes jobs cells p ∷ []) (events_from codes jobs cells (suc p) m))
+unfolding first_fault events_from
 one_line_lem codes jobs cells n p m before = refl
 
 -- a fault decides, and without one the lines after decide
@@ -85,14 +85,14 @@ module _ (codes jobs cells : List ℕ) where
   module _ (n : ℕ) (all : Found) where
     -- the search has come to line p without a fault
     unfoldable pub At : ℕ → Type 0
-    At p = all ≡ first_fault (p + 1) (history_by codes jobs cells p) (eventsFrom codes jobs cells p (n - p))
+    At p = all ≡ first_fault (p + 1) (history_by codes jobs cells p) (events_from codes jobs cells p (n - p))
 
     -- a line that is left is the first of them
-    next_line : (p : ℕ) → p < n → At p → all ≡ or_later (event_fault (p + 1) (history_by codes jobs cells p) (event_at codes jobs cells p)) (p + 1) (first_fault (p + 1 + 1) (history_by codes jobs cells (p + 1)) (eventsFrom codes jobs cells (p + 1) (n - (p + 1))))
+    next_line : (p : ℕ) → p < n → At p → all ≡ or_later (event_fault (p + 1) (history_by codes jobs cells p) (event_at codes jobs cells p)) (p + 1) (first_fault (p + 1 + 1) (history_by codes jobs cells (p + 1)) (events_from codes jobs cells (p + 1) (n - (p + 1))))
     unfolding At
     next_line p h a =
         let left' : n - p ≡ suc (n - (p + 1)) = omega arith in
-        a ∙ ap (λ m. first_fault (p + 1) (history_by codes jobs cells p) (eventsFrom codes jobs cells p m)) left'
+        a ∙ ap (λ m. first_fault (p + 1) (history_by codes jobs cells p) (events_from codes jobs cells p m)) left'
         ∙ one_line_lem codes jobs cells (p + 1) p (n - (p + 1)) (history_by codes jobs cells p)
         ∙ rw (snoc p, add-one (p + 1), add-one p)
 
@@ -101,17 +101,17 @@ module _ (codes jobs cells : List ℕ) where
     unfolding At
     at_more p h f a =
         next_line p h a
-        ∙ found_later (event_fault (p + 1) (history_by codes jobs cells p) (event_at codes jobs cells p)) (p + 1) (first_fault (p + 1 + 1) (history_by codes jobs cells (p + 1)) (eventsFrom codes jobs cells (p + 1) (n - (p + 1)))) (sym f)
+        ∙ found_later (event_fault (p + 1) (history_by codes jobs cells p) (event_at codes jobs cells p)) (p + 1) (first_fault (p + 1 + 1) (history_by codes jobs cells (p + 1)) (events_from codes jobs cells (p + 1) (n - (p + 1)))) (sym f)
 
     -- a faulty one is found
     pub at_found : (p : ℕ) (why : Refusal) → p < n → some why ≡ event_fault (p + 1) (history_by codes jobs cells p) (event_at codes jobs cells p) → At p → Faulty (p + 1) why ≡ all
     at_found p why h f a =
-        found_here (event_fault (p + 1) (history_by codes jobs cells p) (event_at codes jobs cells p)) (p + 1) (first_fault (p + 1 + 1) (history_by codes jobs cells (p + 1)) (eventsFrom codes jobs cells (p + 1) (n - (p + 1)))) why (sym f)
+        found_here (event_fault (p + 1) (history_by codes jobs cells p) (event_at codes jobs cells p)) (p + 1) (first_fault (p + 1 + 1) (history_by codes jobs cells (p + 1)) (events_from codes jobs cells (p + 1) (n - (p + 1)))) why (sym f)
         ∙ sym (next_line p h a)
 
     -- when all are passed none is
     pub at_end : (p : ℕ) → n ≤ p → At p → Faultless ≡ all
-    unfolding At first_fault eventsFrom
+    unfolding At first_fault events_from
     at_end p h a =
         let z : n - p ≡ 0 = omega arith in
         sym (a ∙ rw z)
@@ -124,17 +124,17 @@ module _ (codes jobs cells : List ℕ) where
       rw same' (ap (first_fault 1 []) (history_events codes jobs cells n))
 
   -- where none of the lines from p on is faulty each is sound
-  sound_from : (m p n : ℕ) → p + m ≡ n → first_fault (suc p) (history_by codes jobs cells p) (eventsFrom codes jobs cells p m) ≡ Faultless → (q : ℕ) → p ≤ q → q < n → Sound (suc q) (history_by codes jobs cells q) (event_at codes jobs cells q)
+  sound_from : (m p n : ℕ) → p + m ≡ n → first_fault (suc p) (history_by codes jobs cells p) (events_from codes jobs cells p m) ≡ Faultless → (q : ℕ) → p ≤ q → q < n → Sound (suc q) (history_by codes jobs cells q) (event_at codes jobs cells q)
   sound_from zero p n e g q a b = absurd (omega arith)
   sound_from (suc m) p n e g q a b =
       let line = sym (one_line_lem codes jobs cells (suc p) p m (history_by codes jobs cells p)) ∙ g in
-      let good = none_here (event_fault (suc p) (history_by codes jobs cells p) (event_at codes jobs cells p)) (suc p) (first_fault (suc (suc p)) (history_by codes jobs cells p ++ event_at codes jobs cells p ∷ []) (eventsFrom codes jobs cells (suc p) m)) line in
+      let good = none_here (event_fault (suc p) (history_by codes jobs cells p) (event_at codes jobs cells p)) (suc p) (first_fault (suc (suc p)) (history_by codes jobs cells p ++ event_at codes jobs cells p ∷ []) (events_from codes jobs cells (suc p) m)) line in
       by_test (eqb p q)
       (λ t. subst (λ i. Sound (suc i) (history_by codes jobs cells i) (event_at codes jobs cells i)) (eqb-true p q t) (faultless_sound (suc p) (history_by codes jobs cells p) (event_at codes jobs cells p) good))
       (λ f.
-      let later' : first_fault (suc (suc p)) (history_by codes jobs cells (suc p)) (eventsFrom codes jobs cells (suc p) m) ≡ Faultless =
-      ap (λ h. first_fault (suc (suc p)) h (eventsFrom codes jobs cells (suc p) m)) (sym (snoc p))
-      ∙ sym (found_later (event_fault (suc p) (history_by codes jobs cells p) (event_at codes jobs cells p)) (suc p) (first_fault (suc (suc p)) (history_by codes jobs cells p ++ event_at codes jobs cells p ∷ []) (eventsFrom codes jobs cells (suc p) m)) good)
+      let later' : first_fault (suc (suc p)) (history_by codes jobs cells (suc p)) (events_from codes jobs cells (suc p) m) ≡ Faultless =
+      ap (λ h. first_fault (suc (suc p)) h (events_from codes jobs cells (suc p) m)) (sym (snoc p))
+      ∙ sym (found_later (event_fault (suc p) (history_by codes jobs cells p) (event_at codes jobs cells p)) (suc p) (first_fault (suc (suc p)) (history_by codes jobs cells p ++ event_at codes jobs cells p ∷ []) (events_from codes jobs cells (suc p) m)) good)
       ∙ line in
       sound_from m (suc p) n (omega arith) later' q (omega (arith, eqb-false p q f)) b)
 

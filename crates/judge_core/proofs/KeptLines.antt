@@ -21,7 +21,7 @@ use Rattle.judge_core.specs.Counted.{has_commit, counted_from}
 use Rattle.judge_core.specs.Meeting.{action_at}
 use Rattle.judge_core.specs.Kept.{event_at}
 use Rattle.judge_core.proofs.Codes.{part_line, back_line}
-use Rattle.judge_core.proofs.Events.{eventsFrom, history_events}
+use Rattle.judge_core.proofs.Events.{events_from, history_events}
 use Rattle.judge_core.proofs.Marked.{has_commit_lem, counted_since}
 
 -- a line that is put in front brings its action
@@ -46,30 +46,30 @@ module _ (codes jobs cells : List ℕ) where
   counts n p = ltb (get_or codes p 0) 3 && (has_commit codes jobs n (get_or jobs p 0) && leb (counted_from codes jobs n (get_or jobs p 0)) p)
 
   -- an action is no k
-  act_no_back : (j k m : ℕ) → ltb (get_or codes k 0) 3 ≡ true → marked is_back j (eventsFrom codes jobs cells k (suc m)) ≡ marked is_back j (eventsFrom codes jobs cells (suc k) m)
-  unfolding eventsFrom event_at
+  act_no_back : (j k m : ℕ) → ltb (get_or codes k 0) 3 ≡ true → marked is_back j (events_from codes jobs cells k (suc m)) ≡ marked is_back j (events_from codes jobs cells (suc k) m)
+  unfolding events_from event_at
   act_no_back j k m t =
       let low : ltb 4 (get_or codes k 0) ≡ false = le-ltb 4 (get_or codes k 0) (omega (arith, ltb-true (get_or codes k 0) 3 t)) in
-      back_line (get_or codes k 0) (get_or jobs k 0) (get_or cells k 0) j (eventsFrom codes jobs cells (suc k) m)
-      ∙ ap (λ b. (eqb (get_or jobs k 0) j && b) || marked is_back j (eventsFrom codes jobs cells (suc k) m)) low
-      ∙ and_none (eqb (get_or jobs k 0) j) (marked is_back j (eventsFrom codes jobs cells (suc k) m))
+      back_line (get_or codes k 0) (get_or jobs k 0) (get_or cells k 0) j (events_from codes jobs cells (suc k) m)
+      ∙ ap (λ b. (eqb (get_or jobs k 0) j && b) || marked is_back j (events_from codes jobs cells (suc k) m)) low
+      ∙ and_none (eqb (get_or jobs k 0) j) (marked is_back j (events_from codes jobs cells (suc k) m))
 
   -- a line counts where it is an action of a job with a c and no k of that job follows
-  counts_is : (k m : ℕ) → (ltb (get_or codes k 0) 3 && (marked is_commit (get_or jobs k 0) (history_by codes jobs cells (k + suc m)) && not (marked is_back (get_or jobs k 0) (eventsFrom codes jobs cells (suc k) m)))) ≡ counts (k + suc m) k
+  counts_is : (k m : ℕ) → (ltb (get_or codes k 0) 3 && (marked is_commit (get_or jobs k 0) (history_by codes jobs cells (k + suc m)) && not (marked is_back (get_or jobs k 0) (events_from codes jobs cells (suc k) m)))) ≡ counts (k + suc m) k
   unfolding counts
   counts_is k m =
       and_under (ltb (get_or codes k 0) 3)
-      (marked is_commit (get_or jobs k 0) (history_by codes jobs cells (k + suc m)) && not (marked is_back (get_or jobs k 0) (eventsFrom codes jobs cells (suc k) m)))
+      (marked is_commit (get_or jobs k 0) (history_by codes jobs cells (k + suc m)) && not (marked is_back (get_or jobs k 0) (events_from codes jobs cells (suc k) m)))
       (has_commit codes jobs (k + suc m) (get_or jobs k 0) && leb (counted_from codes jobs (k + suc m) (get_or jobs k 0)) k)
       (λ t. ap₂ (λ a b. a && b) (has_commit_lem codes jobs cells (get_or jobs k 0) (k + suc m))
       (ap not (sym (act_no_back (get_or jobs k 0) k m t)) ∙ sym (counted_since codes jobs cells (get_or jobs k 0) k (suc m))))
 
   -- of the lines from k on the committed part has those that count
-  part_from : (n k m : ℕ) → k + m ≡ n → part_of (history_by codes jobs cells n) (eventsFrom codes jobs cells k m) ≡ map (action_at codes jobs cells) (listed (counts n) k m)
-  unfolding eventsFrom event_at listed action_at
+  part_from : (n k m : ℕ) → k + m ≡ n → part_of (history_by codes jobs cells n) (events_from codes jobs cells k m) ≡ map (action_at codes jobs cells) (listed (counts n) k m)
+  unfolding events_from event_at listed action_at
   part_from n k zero e = part_none (history_by codes jobs cells n)
   part_from n k (suc m) e =
-      part_line (get_or codes k 0) (get_or jobs k 0) (get_or cells k 0) (history_by codes jobs cells n) (eventsFrom codes jobs cells (suc k) m)
+      part_line (get_or codes k 0) (get_or jobs k 0) (get_or cells k 0) (history_by codes jobs cells n) (events_from codes jobs cells (suc k) m)
       ∙ ap₂ (λ b s. keep b (action_at codes jobs cells k) s) (rw (← e) (counts_is k m)) (part_from n (suc k) m (omega arith))
       ∙ sym (put_map (action_at codes jobs cells) (counts n k) k (listed (counts n) (suc k) m))
 

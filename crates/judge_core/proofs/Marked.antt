@@ -17,7 +17,7 @@ use Rattle.judge_rules.specs.Arrays.{history_by}
 use Rattle.judge_core.specs.Counted.{has_commit, counted_from}
 use Rattle.judge_core.specs.Kept.{event_at}
 use Rattle.judge_core.proofs.Codes.{commit_line, back_line}
-use Rattle.judge_core.proofs.Events.{eventsFrom, events_more}
+use Rattle.judge_core.proofs.Events.{events_from, events_more}
 
 -- a test behind another, with one that fails, may as well stand first
 or_last : (a b c : Bool) → c ≡ false → (a || (b || c)) ≡ (b || a)
@@ -59,15 +59,15 @@ module _ (codes jobs cells : List ℕ) where
       by_test (eqb (get_or jobs n 0) j && ltb 4 (get_or codes n 0)) (λ t. rw t (omega arith)) (λ f. rw f (omega (arith, counted_low j n)))
 
   -- one line more, which may be a k
-  counted_more : (j k m : ℕ) → leb (counted_from codes jobs (k + m) j) k ≡ not (marked is_back j (eventsFrom codes jobs cells k m)) → leb (counted_from codes jobs (suc (k + m)) j) k ≡ not (marked is_back j (eventsFrom codes jobs cells k m ++ event_at codes jobs cells (k + m) ∷ []))
+  counted_more : (j k m : ℕ) → leb (counted_from codes jobs (k + m) j) k ≡ not (marked is_back j (events_from codes jobs cells k m)) → leb (counted_from codes jobs (suc (k + m)) j) k ≡ not (marked is_back j (events_from codes jobs cells k m ++ event_at codes jobs cells (k + m) ∷ []))
   unfolding counted_from
   counted_more j k m h =
-      rw (back_more j (k + m) (eventsFrom codes jobs cells k m))
+      rw (back_more j (k + m) (events_from codes jobs cells k m))
       (by_test (eqb (get_or jobs (k + m) 0) j && ltb 4 (get_or codes (k + m) 0)) (λ t. rw t (lt-leb (suc (k + m)) k (omega arith))) (λ f. rw f h))
 
   -- a job's actions count from line k on exactly where no k of its stands there or later
-  pub counted_since : (j k m : ℕ) → leb (counted_from codes jobs (k + m) j) k ≡ not (marked is_back j (eventsFrom codes jobs cells k m))
-  unfolding eventsFrom
+  pub counted_since : (j k m : ℕ) → leb (counted_from codes jobs (k + m) j) k ≡ not (marked is_back j (events_from codes jobs cells k m))
+  unfolding events_from
   counted_since j k zero = rw (add-zero k, marked_none is_back j) (le-leb (counted_from codes jobs k j) k (counted_low j k))
   counted_since j k (suc m) =
       rw (add-suc k m) (counted_more j k m (counted_since j k m)) ∙ ap (λ h. not (marked is_back j h)) (sym (events_more codes jobs cells k m))
