@@ -11,7 +11,6 @@ use text::{width, write_end, write_field, write_word};
 use text_rules::Written;
 
 // Writes a word that fits; returns the place after it.
-#[tactic(auto, using(text_rules::proofs::WriterLaws::next_wrote, text_rules::proofs::WriterLaws::not_refused))]
 fn put_word(out: &mut [u8], at: usize, word: Word) -> usize
     requires { at + length (spelt word) ≤ length out.old }
     ensures { Wrote at result (spelt word) out.old out.new }
@@ -24,7 +23,6 @@ fn put_word(out: &mut [u8], at: usize, word: Word) -> usize
 }
 
 // Writes a further field that fits; returns the place after it.
-#[tactic(auto, using(text_rules::proofs::WriterLaws::next_wrote, text_rules::proofs::WriterLaws::not_refused))]
 fn put_field(out: &mut [u8], at: usize, n: u64) -> usize
     requires { at + length (tab ∷ decimal n) ≤ length out.old }
     ensures { Wrote at result (tab ∷ decimal n) out.old out.new }
@@ -37,7 +35,6 @@ fn put_field(out: &mut [u8], at: usize, n: u64) -> usize
 }
 
 // Writes the newline, which fits; returns the place after it.
-#[tactic(auto, using(text_rules::proofs::WriterLaws::next_wrote, text_rules::proofs::WriterLaws::not_refused))]
 fn put_end(out: &mut [u8], at: usize) -> usize
     requires { at < length out.old }
     ensures { Wrote at result (newline ∷ []) out.old out.new }
@@ -50,7 +47,6 @@ fn put_end(out: &mut [u8], at: usize) -> usize
 }
 
 // Whether a field for each job fits; no sum here can wrap.
-#[tactic(auto, using(crate::proofs::SpareRoom::spare_all, crate::proofs::SpareRoom::spare_enough, crate::proofs::SpareRoom::spare_next, crate::proofs::SpareRoom::spare_none))]
 fn jobs_fit(jobs: &[u8], room: usize) -> bool
     ensures { result ≡ leb (length (tabbed jobs.now)) room }
 {
@@ -68,7 +64,6 @@ fn jobs_fit(jobs: &[u8], room: usize) -> bool
 }
 
 // Writes a field for each job, all of which fit; returns the place after the last.
-#[tactic(auto, using(text_rules::proofs::TabbedLaws::first_shorter, text_rules::proofs::TabbedLaws::next_length, text_rules::proofs::TabbedLaws::none_written, text_rules::proofs::TabbedLaws::tabbed_all, text_rules::proofs::TabbedLaws::tabbed_next, text_rules::proofs::WroteLaws::wrote_as, text_rules::proofs::WroteLaws::wrote_length, text_rules::proofs::WroteLaws::wrote_then))]
 fn put_jobs(out: &mut [u8], at: usize, jobs: &[u8]) -> usize
     requires { at + length (tabbed jobs.now) ≤ length out.old }
     ensures { Wrote at result (tabbed jobs.now) out.old out.new }
@@ -83,7 +78,6 @@ fn put_jobs(out: &mut [u8], at: usize, jobs: &[u8]) -> usize
 }
 
 // Writes a word and jobs, with a tab before each job.
-#[tactic(auto, using(crate::proofs::WordLines::line_fits, crate::proofs::WordLines::line_too_long, crate::proofs::WordLines::word_line_is, crate::proofs::WordLines::word_too_long, text::proofs::WordLaws::spelling_length, text_rules::proofs::RoomLaws::refused, text_rules::proofs::RoomLaws::written, text_rules::proofs::WroteLaws::wrote_as, text_rules::proofs::WroteLaws::wrote_length, text_rules::proofs::WroteLaws::wrote_then))]
 pub fn write_jobs(out: &mut [u8], word: Word, jobs: &[u8]) -> Written
     ensures { (result ≡ told out.old 0 (word_line word jobs.now)) × (out.new ≡ left out.old 0 (word_line word jobs.now)) }
 {

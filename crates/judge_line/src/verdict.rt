@@ -18,7 +18,6 @@ fn first_places(order: &[u8], n: usize) -> &[u8]
 }
 
 // Writes the judge's verdict, with the jobs that it put into the order.
-#[tactic(auto, using(crate::proofs::Saying::says_dirty, crate::proofs::Saying::says_knot, crate::proofs::Saying::says_no, crate::proofs::Saying::says_orderly))]
 pub fn write_verdict(said: Verdict, order: &[u8], out: &mut [u8]) -> Written
     ensures { (result ≡ told out.old 0 (say_line said order.now)) × (out.new ≡ left out.old 0 (say_line said order.now)) }
 {
@@ -36,7 +35,6 @@ pub fn write_verdict(said: Verdict, order: &[u8], out: &mut [u8]) -> Written
 }
 
 // Writes the verdict on a history text as a line; a text that is too long is refused before anything else.
-#[tactic(auto, using(crate::proofs::Saying::says_judged, crate::proofs::Saying::says_too_long))]
 pub fn verdict_line(text: &[u8], out: &mut [u8]) -> Written
     ensures { (result ≡ told out.old 0 (verdict_of text.now)) × (out.new ≡ left out.old 0 (verdict_of text.now)) }
 {
