@@ -6,7 +6,8 @@ use native.Mathlib.Omega.{arith}
 use lib.Dec.{eqb}
 use lib.ListN.{length, get_or, get_or-eq_default}
 use borrow.Author.Tests.{eq-eqb, ne_eqb, eqb-true}
-use Rattle.laws.specs.Choice.{by_test, pick_then, pick_else}
+use Rattle.laws.specs.Choice.{by_test}
+use Rattle.laws.proofs.Choosing.{pick_then, pick_else}
 use Rattle.laws.specs.Lists.{pos}
 use Rattle.desk_arrays.specs.declared.state.Desk.{Desk}
 use Rattle.desk_arrays.specs.Codes.{free_code, waiting_code, sent_back_code}

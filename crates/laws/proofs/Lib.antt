@@ -10,3 +10,4 @@ pub mod Copies
 pub mod Standing
 pub mod Pigeonhole
 pub mod SameOn
+pub mod Choosing

@@ -1,21 +1,12 @@
--- Choosing by a test: `pick`, the laws that prove a branch of code against it, and the few facts on Bool that proofs use again and again.
+-- Choosing by a test: `pick`, and the few facts on Bool that proofs use again and again; `proofs/Choosing.antt` has the laws of `pick`.
 -- Assumes nothing.
 use Rattle.std.specs.Prelude.{◌≡◌, refl, Bool, true, false}
-use Rattle.std.proofs.Common.{sym, ◌∙◌, subst, eq-eqb, ne_eqb, lt-ltb, le-ltb, le-leb}
-use Rattle.std.proofs.lemmas.Bool.{lt-leb}
+use Rattle.std.proofs.Common.{sym, ◌∙◌, subst}
 
 -- the first value if the test holds, else the second
 abbrev pub pick : {A : Type 0} → Bool → A → A → A
 pick true x y = x
 pick false x y = y
-
--- if the test holds, a result equal to the first value is the choice
-pub pick_then : {A : Type 0} (b : Bool) (r x y : A) → b ≡ true → r ≡ x → r ≡ pick b x y
-pick_then b r x y e h = simp e h
-
--- if the test fails, a result equal to the second value is the choice
-pub pick_else : {A : Type 0} (b : Bool) (r x y : A) → b ≡ false → r ≡ y → r ≡ pick b x y
-pick_else b r x y e h = simp e h
 
 -- a test holds if one computed elsewhere equals it and holds
 pub was_true : {a : Bool} (b : Bool) → a ≡ b → a ≡ true → b ≡ true
@@ -24,9 +15,6 @@ was_true b e h = sym e ∙ h
 -- a test fails if one computed elsewhere equals it and fails
 pub was_false : {a : Bool} (b : Bool) → a ≡ b → a ≡ false → b ≡ false
 was_false b e h = sym e ∙ h
-
--- the rules that prove a return of code that branches as its definition does
-pub ruleset cases = (pick_then, pick_else, was_true, was_false, eq-eqb, ne_eqb, lt-ltb, le-ltb, le-leb, lt-leb)
 
 -- a proof by the two values of a test
 pub by_test : {P : Type 0} (b : Bool) → (b ≡ true → P) → (b ≡ false → P) → P

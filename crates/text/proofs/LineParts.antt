@@ -7,7 +7,8 @@ use mathlib.Core.List.{List, [], ◌∷◌}
 use lib.Dec.{eqb}
 use borrow.Author.Tests.{eqb-true}
 use lib.ListN.{drop}
-use Rattle.laws.specs.Choice.{pick_then, pick_else, by_test, not_both}
+use Rattle.laws.specs.Choice.{by_test, not_both}
+use Rattle.laws.proofs.Choosing.{pick_then, pick_else}
 use Rattle.terms.specs.Words.{tab, newline}
 use Rattle.terms.specs.declared.letters.Letter.{Letter}
 use Rattle.terms.specs.declared.letters.Lettered.{Lettered}

@@ -1,6 +1,6 @@
 -- `text::reader::first_letter` meets its contract: code and definition branch on whether the line has a byte, and its field ends after it.
 -- Assumes nothing.
-use Rattle.laws.specs.Choice.{cases}
+use Rattle.laws.proofs.Choosing.{cases}
 use Rattle.text_rules.proofs.Places.{letter_placed}
 use Rattle.text.proofs.reader.first_letter.Goals as goal
 
