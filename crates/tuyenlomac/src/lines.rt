@@ -54,7 +54,6 @@ fn word_at(n: u32) -> Worded
 }
 
 // What a line says, in numbers.
-#[tactic(auto, using(crate::proofs::InNumbers::bad_told, crate::proofs::InNumbers::good_told))]
 fn line_in(r: Reading) -> Line
     ensures { result ≡ line_in r }
 {
@@ -75,7 +74,6 @@ fn line_in(r: Reading) -> Line
 }
 
 // What writing tells, in two numbers.
-#[tactic(auto, using(crate::proofs::InNumbers::next_told, crate::proofs::InNumbers::refused_told))]
 fn placed_at(w: Written) -> Placed
     ensures { (result.refusal ∷ result.next ∷ []) ≡ written_numbers w }
 {
@@ -103,7 +101,6 @@ pub fn tuyenlomac_read_history(line: &[u8]) -> Line
 }
 
 // Writes an answer record from a place: 1 if no word has that number, then 15 if the record does not fit; after either every byte stays.
-#[tactic(auto, unfolding(crate::specs::Texts::answer_bytes), using(crate::proofs::InNumbers::written_none, crate::proofs::InNumbers::written_some))]
 pub fn tuyenlomac_write_answer(
     buffer: &mut [u8],
     at: usize,
@@ -122,14 +119,7 @@ pub fn tuyenlomac_write_answer(
 }
 
 // Writes the line of a letter from a place, a history record or a request: 1 if no letter has that byte, then 15 if the line does not fit; after either every byte stays.
-#[tactic(auto, unfolding(crate::specs::Texts::line_bytes), using(crate::proofs::InNumbers::written_none, crate::proofs::InNumbers::written_some))]
-pub fn tuyenlomac_write_line(
-    buffer: &mut [u8],
-    at: usize,
-    kind: u8,
-    job: u64,
-    cell: u64,
-) -> Placed
+pub fn tuyenlomac_write_line(buffer: &mut [u8], at: usize, kind: u8, job: u64, cell: u64) -> Placed
     ensures said { (result.refusal ∷ result.next ∷ []) ≡ written_numbers (told_of buffer.old at (line_bytes (letter_of kind) job cell)) }
     ensures buffer { buffer.new ≡ left_of buffer.old at (line_bytes (letter_of kind) job cell) }
 {

@@ -48,7 +48,6 @@ fn sized(jobs: [u32; PLACES], cells: [u32; PLACES], kinds: [u8; PLACES]) -> bool
 }
 
 // Writes the wakes of the places woken, this many, into the first places of three lists: the jobs, the cells, and what each does there.
-#[tactic(auto, using(crate::proofs::Waking::wakes_all, crate::proofs::Waking::wakes_end, crate::proofs::Waking::wakes_more, crate::proofs::Waking::wakes_none))]
 fn tell_wakes<'a>(
     number: &'a [u32; PLACES],
     cell: &'a [u8; PLACES],
@@ -77,7 +76,6 @@ fn tell_wakes<'a>(
 }
 
 // Starts a lock desk at a first number and answers 0. For number 0 the answer is refusal 10, and what is there stays (01, refusal 10).
-#[tactic(auto, unfolding(desk_arrays::specs::Steps::empty_desk), using(crate::proofs::Starting::locks_refused, crate::proofs::Starting::locks_started))]
 pub fn tuyenlomac_locks_start_on(
     next: &mut u64,
     number: &mut [u32; PLACES],
@@ -103,7 +101,6 @@ pub fn tuyenlomac_locks_start_on(
 }
 
 // One request by the letter's byte, the job and the cell asked for. The jobs that it wakes are told in the first places of the three lists.
-#[tactic(auto, using(crate::proofs::Waking::step_quiet, crate::proofs::Waking::step_told_lem))]
 pub fn tuyenlomac_locks_step_on(
     next: &mut u64,
     number: &mut [u32; PLACES],
@@ -134,7 +131,6 @@ pub fn tuyenlomac_locks_step_on(
 }
 
 // The answer to a question for a chain, in two numbers.
-#[tactic(auto, using(crate::proofs::InNumbers::jobs_told, crate::proofs::InNumbers::no_told))]
 fn chain_said(c: Chained) -> ChainSaid
     ensures { (result.refusal ∷ result.jobs ∷ []) ≡ chain_numbers c }
 {

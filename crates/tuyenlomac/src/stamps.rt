@@ -12,7 +12,6 @@ use terms::limits::PLACES;
 use terms::refusals::{Refusal, number_of};
 
 // Starts a timestamp desk at a first number and answers 0. For number 0 the answer is refusal 10, and what is there stays (01, refusal 10).
-#[tactic(auto, unfolding(stamp_arrays::specs::Steps::empty_stamps), using(crate::proofs::Starting::stamps_refused, crate::proofs::Starting::stamps_started))]
 pub fn tuyenlomac_stamps_start_on(
     next: &mut u64,
     number: &mut [u32; PLACES],

@@ -27,7 +27,7 @@ struct Taken {
 }
 
 // The line on a text, put before the place told. There is room for the longest, so none is refused.
-#[tactic(auto, using(crate::proofs::Written::line_stands, crate::proofs::Written::not_refused, crate::proofs::Written::place_within))]
+#[tactic(auto, using(crate::proofs::Written::line_stands, crate::proofs::Written::place_within))]
 fn put_line(text: &[u8], out: &mut [u8]) -> usize
     requires { line_limit ≤ length out.old }
     ensures { (result ≤ length out.new) × (take result out.new ≡ verdict_of text.now) }
@@ -49,7 +49,6 @@ fn line_on<'a>(text: &[u8], out: &'a mut [u8]) -> &'a [u8]
 }
 
 // Keeps a chunk's bytes after those already kept, as far as there is room, and tells how many are kept then.
-#[tactic(auto, using(crate::proofs::Keeping::all_fitted, crate::proofs::Keeping::all_kept, crate::proofs::Keeping::paste_more, crate::proofs::Keeping::room_used))]
 fn keep(text: &mut [u8], before: usize, chunk: &[u8]) -> usize
     requires { before ≤ length text.old }
     ensures { (result ≡ before + fitting text.old before chunk.now) × (text.new ≡ kept text.old before chunk.now) }
@@ -68,7 +67,7 @@ fn keep(text: &mut [u8], before: usize, chunk: &[u8]) -> usize
 }
 
 // Reads until the input ends or the text's buffer is full. No contract says that input ends, so the loop counts down from a number of turns that no run uses up.
-#[tactic(auto, using(crate::proofs::Keeping::took_more, crate::proofs::Keeping::took_none, crate::proofs::Keeping::took_within))]
+#[tactic(auto, using(crate::proofs::Keeping::took_none))]
 fn take_all(rt: &HostRuntime, input: &mut [u8], text: &mut [u8]) -> Taken
     ensures { Took text.old text.new result.len }
 {
@@ -95,7 +94,6 @@ fn take_all(rt: &HostRuntime, input: &mut [u8], text: &mut [u8]) -> Taken
 }
 
 // The part of the buffer to be written: the line on all that was read.
-#[tactic(auto, using(crate::proofs::Keeping::took_judged))]
 fn to_write<'a>(taken: Taken, text: &[u8], out: &'a mut [u8]) -> &'a [u8]
     requires { (length text.now ≡ judged_bytes + 1) × (taken.len ≤ length text.now) × (line_limit ≤ length out.old) }
     ensures { Judges text.now taken.len result.now }
@@ -105,7 +103,6 @@ fn to_write<'a>(taken: Taken, text: &[u8], out: &'a mut [u8]) -> &'a [u8]
 }
 
 // Writes out the line on what was read, and says on standard error what failed. If a read fails there is no text to judge and no line: half a history gets no verdict.
-#[tactic(auto, using(crate::proofs::Keeping::took_within))]
 fn report(rt: &HostRuntime, input: &mut [u8], text: &mut [u8], out: &mut [u8])
     requires { (length text.old ≡ judged_bytes + 1) × (line_limit ≤ length out.old) }
 {

@@ -4,8 +4,8 @@ use Prim.Native.Nat.{◌≤◌}
 use Prim.Native.Nat.{◌-◌}
 use Rattle.try_judge.proofs.rest_stays.Given as goal
 
-abbrev pub invariant-loop : goal.invariant-loop
-invariant-loop l = l.i ≤ 300
+abbrev pub invariant-loop-i : goal.invariant-loop-i
+invariant-loop-i l = l.i ≤ 300
 
-abbrev pub decreases-loop : goal.decreases-loop
-decreases-loop l = 300 - l.i
+abbrev pub decreases-loop-i : goal.decreases-loop-i
+decreases-loop-i l = 300 - l.i

@@ -5,8 +5,8 @@ use mathlib.Core.Path.{◌≡◌}
 use lib.ListN.{length}
 use Rattle.try_judge.proofs.take_all.Given as goal
 
-abbrev pub invariant-loop : goal.invariant-loop
-invariant-loop l = (l.case.len ≤ length l.text) × (l.case.places ≤ 300) × (length l.text ≡ length l.initial.text) × (length l.input ≡ length l.initial.input)
+abbrev pub invariant-loop-turns : goal.invariant-loop-turns
+invariant-loop-turns l = (l.case.len ≤ length l.text) × (l.case.places ≤ 300) × (length l.text ≡ length l.initial.text) × (length l.input ≡ length l.initial.input)
 
-abbrev pub decreases-loop : goal.decreases-loop
-decreases-loop l = l.turns
+abbrev pub decreases-loop-turns : goal.decreases-loop-turns
+decreases-loop-turns l = l.turns

@@ -6,8 +6,8 @@ use mathlib.Core.Path.{◌≡◌}
 use lib.ListN.{length}
 use Rattle.try_judge.proofs.take_chunk.Given as goal
 
-abbrev pub invariant-loop : goal.invariant-loop
-invariant-loop l = (l.case.len ≤ length l.text) × (l.case.places ≤ 300) × (length l.text ≡ length l.initial.text)
+abbrev pub invariant-loop-i : goal.invariant-loop-i
+invariant-loop-i l = (l.case.len ≤ length l.text) × (l.case.places ≤ 300) × (length l.text ≡ length l.initial.text)
 
-abbrev pub decreases-loop : goal.decreases-loop
-decreases-loop l = length l.chunk - l.i
+abbrev pub decreases-loop-i : goal.decreases-loop-i
+decreases-loop-i l = length l.chunk - l.i

@@ -8,8 +8,8 @@ use lib.ListN.{length}
 use lib.Seq.{paste}
 use Rattle.verdict.proofs.keep.Given as goal
 
-abbrev pub invariant-loop : goal.invariant-loop
-invariant-loop l = (l.i ≤ length l.chunk) × (l.len ≡ l.before + l.i) × (l.before + l.i ≤ length l.initial.text) × (length l.text ≡ length l.initial.text) × (l.text ≡ paste l.initial.text l.before l.chunk l.i)
+abbrev pub invariant-loop-i : goal.invariant-loop-i
+invariant-loop-i l = (l.i ≤ length l.chunk) × (l.len ≡ l.before + l.i) × (l.before + l.i ≤ length l.initial.text) × (length l.text ≡ length l.initial.text) × (l.text ≡ paste l.initial.text l.before l.chunk l.i)
 
-abbrev pub decreases-loop : goal.decreases-loop
-decreases-loop l = length l.chunk - l.i
+abbrev pub decreases-loop-i : goal.decreases-loop-i
+decreases-loop-i l = length l.chunk - l.i

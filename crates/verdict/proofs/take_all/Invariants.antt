@@ -6,8 +6,8 @@ use lib.ListN.{length}
 use Rattle.verdict.specs.Taking.{Took}
 use Rattle.verdict.proofs.take_all.Given as goal
 
-abbrev pub invariant-loop : goal.invariant-loop
-invariant-loop l = (Took l.initial.text l.text l.len) × (l.len ≤ length l.text) × (length l.text ≡ length l.initial.text) × (length l.input ≡ length l.initial.input)
+abbrev pub invariant-loop-turns : goal.invariant-loop-turns
+invariant-loop-turns l = (Took l.initial.text l.text l.len) × (l.len ≤ length l.text) × (length l.text ≡ length l.initial.text) × (length l.input ≡ length l.initial.input)
 
-abbrev pub decreases-loop : goal.decreases-loop
-decreases-loop l = l.turns
+abbrev pub decreases-loop-turns : goal.decreases-loop-turns
+decreases-loop-turns l = l.turns

@@ -10,8 +10,8 @@ use Rattle.tuyenlomac.specs.Desks.{lists_of}
 use Rattle.tuyenlomac.specs.Desks.{wakes_in}
 use Rattle.tuyenlomac.proofs.locks.tell_wakes.Given as goal
 
-abbrev pub invariant-loop : goal.invariant-loop
-invariant-loop l = (l.i ≤ 32) × (l.i ≤ l.count) × (lists_of l.jobs l.cells l.kinds ≡ wakes_in (map (wake_at l.number l.cell l.ask) (take l.i l.woken)) (lists_of l.initial.jobs l.initial.cells l.initial.kinds))
+abbrev pub invariant-loop-i : goal.invariant-loop-i
+invariant-loop-i l = (l.i ≤ 32) × (l.i ≤ l.count) × (lists_of l.jobs l.cells l.kinds ≡ wakes_in (map (wake_at l.number l.cell l.ask) (take l.i l.woken)) (lists_of l.initial.jobs l.initial.cells l.initial.kinds))
 
-abbrev pub decreases-loop : goal.decreases-loop
-decreases-loop l = 32 - l.i
+abbrev pub decreases-loop-i : goal.decreases-loop-i
+decreases-loop-i l = 32 - l.i

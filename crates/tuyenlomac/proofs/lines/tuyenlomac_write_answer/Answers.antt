@@ -1,0 +1,22 @@
+-- `tuyenlomac::lines::tuyenlomac_write_answer` meets its contract: the record writer, in numbers, or 1 if there is no such word.
+-- Assumes nothing.
+use mathlib.Core.Path.{sym, ap, ◌∙◌}
+use Rattle.tuyenlomac.specs.Texts.{answer_bytes}
+use Rattle.tuyenlomac.proofs.InNumbers.{written_some, written_none}
+use Rattle.tuyenlomac.proofs.lines.tuyenlomac_write_answer.Goals as goal
+
+pub returns-in-Known : goal.returns-in-Known
+unfolding answer_bytes
+returns-in-Known c =
+    let a = c.args in
+    let e = sym c.word_at.ensures ∙ c.in-Known.is in
+    let p = written_some a.buffer.now a.at _ (ap (λ x. answer_bytes a.line x a.number a.field) e) c.write_answer.ensures c.placed_at.ensures in
+    record { said = p.0; buffer = p.1 }
+
+pub returns-in-Unknown : goal.returns-in-Unknown
+unfolding answer_bytes
+returns-in-Unknown c =
+    let a = c.args in
+    let e = sym c.word_at.ensures ∙ c.in-Unknown.is in
+    let p = written_none a.buffer.now a.at (ap (λ x. answer_bytes a.line x a.number a.field) e) c.placed_at-in-Unknown.ensures in
+    record { said = p.0; buffer = p.1 }

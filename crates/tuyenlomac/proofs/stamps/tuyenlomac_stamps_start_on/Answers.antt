@@ -1,0 +1,12 @@
+-- `tuyenlomac::stamps::tuyenlomac_stamps_start_on` meets its contract: 0 is refused, and any other number starts a desk without jobs.
+-- Assumes nothing.
+use Rattle.stamp_arrays.specs.Steps.{empty_stamps}
+use Rattle.tuyenlomac.proofs.Starting.{stamps_refused, stamps_started}
+use Rattle.tuyenlomac.proofs.stamps.tuyenlomac_stamps_start_on.Goals as goal
+
+pub returns-then-first-eq0 : goal.returns-then-first-eq0
+returns-then-first-eq0 c = let p = stamps_refused _ _ _ c.if-first-eq0.true c.number_of.ensures in record { refusal = p.0; desk = p.1 }
+
+pub returns : goal.returns
+unfolding empty_stamps
+returns c = let p = stamps_started _ _ c.if-first-eq0.false in record { refusal = p.0; desk = p.1 }

@@ -1,0 +1,8 @@
+-- `verdict::put_line` meets its contract: the reporter tells the line's length and leaves the line in the first places.
+-- Assumes nothing.
+use mathlib.Core.Path.{refl}
+use Rattle.verdict.proofs.Written.{not_refused}
+use Rattle.verdict.proofs.put_line.Goals as goal
+
+pub returns-in-Refused : goal.returns-in-Refused
+returns-in-Refused c = not_refused _ _ _ c.requires c.in-Refused.ensures.0 _ refl

@@ -1,0 +1,13 @@
+-- `verdict::take_all` meets its contract: one more chunk is kept, as far as there is room.
+-- Assumes nothing.
+use native.Mathlib.Omega.{arith}
+use borrow.Author.Rules.{rules}
+use Rattle.verdict.proofs.Keeping.{took_more, took_within}
+use Rattle.verdict.proofs.take_all.Goals as goal
+
+pub loop-turns-preserved : goal.loop-turns-preserved
+loop-turns-preserved c =
+    let i = c.loop-turns.invariant in
+    let k = c.keep-len in
+    let t = took_more i.0 (omega arith) _ i.2 k.ensures.0 k.ensures.1 in
+    (t, omega (arith, took_within t), search rules, search rules)
