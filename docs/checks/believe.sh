@@ -25,7 +25,7 @@ believe() {
         else echo ok; fi
     done
     # and every other file of definitions is counted, or told of there
-    find crates -path '*/specs/*.antt' ! -name Lib.antt | sort | while IFS= read -r file; do
+    find crates -path '*/specs/*.antt' -not -path '*/out/*' ! -name Lib.antt | sort | while IFS= read -r file; do
         if grep -qxF "$file" "$log/counted" || grep -qF -e "\`$file\`" -e "\`${file%/*}\`" "$log/rest"; then echo ok; else echo "docs/BELIEVE.md neither counts $file nor tells of it"; fi
     done
 }

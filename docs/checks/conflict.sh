@@ -5,12 +5,12 @@ conflict() {
     # the page names them in the row "Conflict's definitions stay open to computing"
     allowed=" $(sed -n "/^| Conflict's definitions stay open/p" docs/DECISIONS.md | grep -oE '`[a-z0-9_]+/proofs/[A-Za-z0-9_]+\.antt`' | tr -d '`' | sed 's,^,crates/,' | tr '\n' ' ')"
     for crate in $above; do
-        find "crates/$crate" -name '*.antt'
+        find "crates/$crate" -name '*.antt' -not -path '*/out/*'
     done | while IFS= read -r file; do
         case $allowed in *" $file "*) continue ;; esac
         awk -v file="$file" '
             # names that come from the definitions of conflict, under the names that they have here
-            /^use Rattle·conflict(·specs)?\.specs\.[A-Z]/ {
+            /^use Rattle\.conflict\.specs\.[A-Z]/ {
                 line = $0
                 if (match(line, /\.\{.*\}/)) {
                     n = split(substr(line, RSTART + 2, RLENGTH - 3), part, ",")
@@ -22,7 +22,7 @@ conflict() {
                 n = split(line, part, /[ \t(),]+/)
                 for (i = 1; i <= n; i++) {
                     head = part[i]; sub(/\..*$/, "", head)
-                    if (part[i] in from || (part[i] ~ /\./ && head in under) || part[i] ~ /^Rattle·conflict/) wrong = wrong " " part[i]
+                    if (part[i] in from || (part[i] ~ /\./ && head in under) || part[i] ~ /^Rattle\.conflict/) wrong = wrong " " part[i]
                 }
             }
             END { if (wrong == "") print "ok"; else print file " unfolds what conflict promises by laws alone:" wrong }' "$file"

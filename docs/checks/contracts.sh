@@ -29,7 +29,7 @@ reached() { # CRATE
         head && /{$/ && !/^ *(ensures|requires) / { head = 0; print FILENAME, name, module type name, states, requires, lends }'
 }
 
-# the theorems NAME-unique of a crate, in the files that its proofs/Lib.antt declares; to a line, parted by tabs: the theorem, how it says that there is
+# the theorems NAME_unique of a crate, in the files that its proofs/Lib.antt declares; to a line, parted by tabs: the theorem, how it says that there is
 # no second result, each module over whose contract it says so, and its file
 uniques() { # CRATE
     # shellcheck disable=SC2046
@@ -40,11 +40,12 @@ uniques() { # CRATE
             theorem = ""
         }
         FNR == 1 { if (theorem != "") tell(); split("", of) }
-        $1 == "use" && index($2, "Rattle·" crate "·proofs.proofs.") == 1 && $3 == "as" { path = $2; sub(/^.*·proofs\.proofs\./, "", path); sub(/\.Reads$/, "", path); of[$4] = path }
+        $1 == "use" && index($2, "Rattle." crate ".proofs.") == 1 && $3 == "as" { path = substr($2, length("Rattle." crate ".proofs.") + 1); sub(/\.Reads$/, "", path); of[$4] = path }
+        $1 == "use" && index($2, "Rattle." crate ".specs.contracts.") == 1 && $3 == "as" { of[$4] = substr($2, length("Rattle." crate ".specs.contracts.") + 1) }
         theorem != "" && $1 == theorem { tell() }
-        $1 == "pub" && $2 ~ /-unique$/ && $3 == ":" { theorem = $2; file = FILENAME; how = $4 ~ /^Unique/ ? $4 : "other"; said = "" }
+        $1 == "pub" && $2 ~ /_unique$/ && $3 == ":" { theorem = $2; file = FILENAME; how = $4 ~ /^Unique/ ? $4 : "other"; said = "" }
         theorem != "" { said = said " " $0; if (how == "other" && /x ≡ y/) how = "x ≡ y" }
-        END { if (theorem != "") tell() }' $(sed -n "s,^pub mod \([A-Za-z0-9]*\)\$,crates/$1/proofs/\1.antt,p" "crates/$1/proofs/Lib.antt") /dev/null
+        END { if (theorem != "") tell() }' $(sed -n "s,^pub mod \([A-Za-z0-9]*\)\$,crates/$1/proofs/\1.antt,p" "crates/$1/proofs/Lib.antt" 2>/dev/null) /dev/null
 }
 
 contracts() {
@@ -62,8 +63,8 @@ contracts() {
             case $excepted in *" $crate::$name "*) echo ok; continue ;; esac
             [ "$states" = yes ] || echo "$file: $name is public, and states nothing of what it returns"
             # where two functions have one name the theorem has the module in front of it
-            theorem=${name//_/-}-unique
-            [ "$(cut -f 2 "$log/reached" | grep -cx "$name")" = 1 ] || theorem=$(sed 's/.*\.\([^.]*\)\.[^.]*$/\1/; s/_/-/g' <<<".$module")-$theorem
+            theorem=${name}_unique
+            [ "$(cut -f 2 "$log/reached" | grep -cx "$name")" = 1 ] || theorem=$(sed 's/.*\.\([^.]*\)\.[^.]*$/\1/' <<<".$module")_$theorem
             IFS=$'\t' read -r how proof < <(awk -F '\t' -v OFS='\t' -v theorem="$theorem" -v module="$module" '$1 == theorem && $3 == module { print $2, $4; exit }' "$log/uniques")
             case $how:$lends in
             '':*) echo "$file: of $name there is no theorem $theorem over its contract" ;;

@@ -9,7 +9,7 @@ refusal_rows() {
 defined_refusals() {
     awk -v OFS='\t' '
         /^-- / { words = substr($0, 4); sub(/ \(02, No\. [0-9]+\)$/, "", words) }
-        /^numberOf / { number = $0; sub(/^.*= /, "", number); print number, words }' crates/terms/specs/Refusals.antt
+        /^number_of / { number = $0; sub(/^.*= /, "", number); print number, words }' crates/terms/specs/Refusals.antt
 }
 # the numbers that code has, with what the comments say: number, comment. Of the enum of refusals, of the header, and of the face in Rust
 coded_refusals() { # FILE
