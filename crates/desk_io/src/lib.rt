@@ -135,7 +135,6 @@ fn put_out(rt: &HostRuntime, program: Program, bytes: &[u8]) -> bool {
 }
 
 // One call of the work, from a place of a chunk: its records are left in the buffer, to be written out.
-#[tactic(auto, using(crate::proofs::Places::call_turned))]
 fn serve_some(front: Front, chunk: &[u8], from: usize, out: &mut [u8]) -> Called
     requires { (from < length chunk.now) × (line_room ≤ length out.old) }
     ensures { Turned front chunk.now from result out.new }

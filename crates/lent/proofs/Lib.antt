@@ -1,10 +1,3 @@
 pub mod Calling
 pub mod LentPromises
-pub mod Parts
-pub mod Entry
-pub mod Asking
-pub mod Night
-pub mod Turns
-pub mod AllNight
-pub mod Desks
 pub mod Unique

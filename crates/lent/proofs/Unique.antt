@@ -1,4 +1,4 @@
--- The entries' contracts, as the source states them, are the calls that the promises speak of; no second result or desk at exit meets them. The entries are walked by hand and have no `Reads`, so both are stated over the clauses read off the source.
+-- The entries' contracts, as the source states them, are the calls that the promises speak of; no second result or desk at exit meets them. Both are stated over the clauses read off the source.
 -- Assumes nothing.
 use mathlib.Core.Path.{◌≡◌, refl, sym, ap, ◌∙◌}
 use seplogic.Ra.Ura.{Ura}

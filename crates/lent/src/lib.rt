@@ -2,4 +2,5 @@
 #![tactic(auto)]
 
 pub mod locks;
+pub mod night;
 pub mod stamps;

@@ -1,8 +1,10 @@
 // The lock desk, lent to each request (02, No. 7).
 ghost use Rattle.std.specs.Prelude.{◌≡◌};
 ghost use Rattle.desk_arrays.specs.Steps.{step_of};
+ghost use Rattle.desk_arrays.specs.declared.state.Outcome.{Outcome};
 ghost use Rattle.lent.specs.Entries.{leaving};
 
+use crate::night::{ByValue, Left};
 use desk::step::step;
 use desk_arrays::state::{Desk, Said};
 
@@ -13,4 +15,23 @@ pub fn step_lent(d: &mut Desk, kind: u8, job: u32, cell: u32) -> Said
     let o = step(*d, kind, job, cell);
     *d = o.desk;
     o.said
+}
+
+// The lock desk is stepped by value.
+impl ByValue for Desk {
+    type Said = Said;
+
+    ghost Step = { Outcome };
+
+    ghost leaving = { leaving };
+
+    ghost step_of = { step_of };
+
+    fn step(self, kind: u8, job: u32, cell: u32) -> Left<Desk, Said> {
+        let o = step(self, kind, job, cell);
+        Left {
+            desk: o.desk,
+            said: o.said,
+        }
+    }
 }

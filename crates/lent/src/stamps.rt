@@ -1,8 +1,10 @@
 // The timestamp desk, lent to each request (02, No. 7).
 ghost use Rattle.std.specs.Prelude.{◌≡◌};
 ghost use Rattle.stamp_arrays.specs.Steps.{step_of};
+ghost use Rattle.stamp_arrays.specs.declared.state.Stamped.{Stamped};
 ghost use Rattle.lent.specs.Entries.{stamping};
 
+use crate::night::{ByValue, Left};
 use desks::Answer;
 use stamp_arrays::state::Stamps;
 use stamp_desk::step::step;
@@ -14,4 +16,23 @@ pub fn step_lent(d: &mut Stamps, kind: u8, job: u32, cell: u32) -> Answer
     let o = step(*d, kind, job, cell);
     *d = o.stamps;
     o.answer
+}
+
+// The timestamp desk is stepped by value.
+impl ByValue for Stamps {
+    type Said = Answer;
+
+    ghost Step = { Stamped };
+
+    ghost leaving = { stamping };
+
+    ghost step_of = { step_of };
+
+    fn step(self, kind: u8, job: u32, cell: u32) -> Left<Stamps, Answer> {
+        let o = step(self, kind, job, cell);
+        Left {
+            desk: o.stamps,
+            said: o.answer,
+        }
+    }
 }

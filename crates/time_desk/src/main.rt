@@ -359,7 +359,6 @@ fn after_answer(rt: &HostRuntime, a: Drawn, answer: Answer) -> Drawn
 }
 
 // All the steps, on one lock desk that is lent to each.
-#[tactic(auto, using(crate::proofs::Draws::drawing, crate::proofs::Draws::hands, crate::proofs::after_said::Symbol::name, crate::proofs::first_draw::Symbol::name, desk_arrays::proofs::state::Desk::first::Symbol::name, lent::proofs::AllNight::night_runs, lent::proofs::Desks::locks, lent::proofs::Desks::outcome, lent::proofs::Desks::said, lent::proofs::locks::step_lent::Symbol::name))]
 fn lend_locks(rt: &HostRuntime) {
     let mut d = Desk::first();
     let mut a = first_draw();
@@ -370,7 +369,6 @@ fn lend_locks(rt: &HostRuntime) {
 }
 
 // All the steps, on one timestamp desk that is lent to each.
-#[tactic(auto, using(crate::proofs::Draws::drawing, crate::proofs::Draws::hands, crate::proofs::after_answer::Symbol::name, crate::proofs::first_draw::Symbol::name, lent::proofs::AllNight::night_runs, lent::proofs::Desks::answer, lent::proofs::Desks::stamped, lent::proofs::Desks::stamps, lent::proofs::stamps::step_lent::Symbol::name, stamp_arrays::proofs::state::Stamps::first::Symbol::name))]
 fn lend_stamps(rt: &HostRuntime) {
     let mut d = Stamps::first();
     let mut a = first_draw();

@@ -350,7 +350,6 @@ fn put_refusal(rt: &HostRuntime, why: Refusal) {
 }
 
 // Starts the lock desk at a first number, and runs all its steps.
-#[tactic(auto, using(crate::proofs::answer_all::Symbol::name, crate::proofs::put_refusal::Symbol::name, desk_arrays::proofs::Starts::by_start, desk_arrays::proofs::Starts::desk_at, desk_arrays::proofs::Starts::is_desk, desk_arrays::proofs::Starts::is_why, desk_arrays::proofs::Starts::spelt, desk_arrays::proofs::Starts::why_at, desk_arrays::proofs::state::Desk::start::Symbol::name, laws::proofs::Walking::placed))]
 fn open(rt: &HostRuntime, first: u32) {
     match Desk::start(first) {
         desk_arrays::state::Start::Ready(desk) => answer_all(rt, desk),
@@ -359,7 +358,6 @@ fn open(rt: &HostRuntime, first: u32) {
 }
 
 // The same for the timestamp desk.
-#[tactic(auto, using(crate::proofs::answer_stamps::Symbol::name, crate::proofs::put_refusal::Symbol::name, laws::proofs::Walking::placed, stamp_arrays::proofs::Starts::by_start, stamp_arrays::proofs::Starts::desk_at, stamp_arrays::proofs::Starts::is_desk, stamp_arrays::proofs::Starts::is_why, stamp_arrays::proofs::Starts::spelt, stamp_arrays::proofs::Starts::why_at, stamp_arrays::proofs::state::Stamps::start::Symbol::name))]
 fn open_stamps(rt: &HostRuntime, first: u32) {
     match Stamps::start(first) {
         stamp_arrays::state::Start::Ready(desk) => answer_stamps(rt, desk),

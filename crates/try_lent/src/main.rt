@@ -106,7 +106,6 @@ fn put_out(rt: &HostRuntime, out: &[u8], at: usize) -> bool
 }
 
 // Writes an answer record; tells whether it was taken.
-#[tactic(auto, using(text::proofs::Placed::placed))]
 fn put_record(rt: &HostRuntime, line: u64, word: Word, number: u64, fault: u64) -> bool {
     let mut out = [0u8; ROOM];
     match write_answer(&mut out, 0, line, word, number, fault) {
@@ -117,7 +116,13 @@ fn put_record(rt: &HostRuntime, line: u64, word: Word, number: u64, fault: u64) 
 
 // Writes a refusal's record; tells whether it was taken.
 fn put_no(rt: &HostRuntime, line: u64, why: Refusal) -> bool {
-    put_record(rt, line, Word::No, number_of(why) as u64, field_of(why) as u64)
+    put_record(
+        rt,
+        line,
+        Word::No,
+        number_of(why) as u64,
+        field_of(why) as u64,
+    )
 }
 
 // Writes an answer's record; tells whether it was taken.
@@ -252,7 +257,6 @@ fn after_answer(rt: &HostRuntime, a: Asked, answer: Answer) -> Asked
 }
 
 // One lock desk, lent to every request of the text.
-#[tactic(auto, using(crate::proofs::Requests::asking, crate::proofs::Requests::splitter, crate::proofs::after_said::Symbol::name, crate::proofs::first_request::Symbol::name, desk_arrays::proofs::state::Desk::first::Symbol::name, lent::proofs::AllNight::night_runs, lent::proofs::Desks::locks, lent::proofs::Desks::outcome, lent::proofs::Desks::said, lent::proofs::locks::step_lent::Symbol::name))]
 fn serve_locks(rt: &HostRuntime) {
     let mut d = Desk::first();
     let mut a = first_request(rt);
@@ -263,7 +267,6 @@ fn serve_locks(rt: &HostRuntime) {
 }
 
 // One timestamp desk, lent to every request of the text.
-#[tactic(auto, using(crate::proofs::Requests::asking, crate::proofs::Requests::splitter, crate::proofs::after_answer::Symbol::name, crate::proofs::first_request::Symbol::name, lent::proofs::AllNight::night_runs, lent::proofs::Desks::answer, lent::proofs::Desks::stamped, lent::proofs::Desks::stamps, lent::proofs::stamps::step_lent::Symbol::name, stamp_arrays::proofs::state::Stamps::first::Symbol::name))]
 fn serve_stamps(rt: &HostRuntime) {
     let mut d = Stamps::first();
     let mut a = first_request(rt);

@@ -5,8 +5,8 @@ use lib.ListN.{length}
 use Rattle.desk_io.specs.Serving.{Saw}
 use Rattle.desk_io.proofs.serve_all.Given as goal
 
-abbrev pub invariant-loop : goal.invariant-loop
-invariant-loop l = (Saw l.initial.front l.front) × (length l.input ≡ length l.initial.input) × (length l.out ≡ length l.initial.out)
+abbrev pub invariant-loop-turns : goal.invariant-loop-turns
+invariant-loop-turns l = (Saw l.initial.front l.front) × (length l.input ≡ length l.initial.input) × (length l.out ≡ length l.initial.out)
 
-abbrev pub decreases-loop : goal.decreases-loop
-decreases-loop l = l.turns
+abbrev pub decreases-loop-turns : goal.decreases-loop-turns
+decreases-loop-turns l = l.turns

@@ -7,8 +7,8 @@ use lib.ListN.{take}
 use Rattle.desk_io.specs.Serving.{front_after}
 use Rattle.desk_io.proofs.serve_chunk.Given as goal
 
-abbrev pub invariant-loop : goal.invariant-loop
-invariant-loop l = (l.front ≡ front_after l.initial.front (take l.seen l.chunk)) × (length l.out ≡ length l.initial.out)
+abbrev pub invariant-loop-seen : goal.invariant-loop-seen
+invariant-loop-seen l = (l.front ≡ front_after l.initial.front (take l.seen l.chunk)) × (length l.out ≡ length l.initial.out)
 
-abbrev pub decreases-loop : goal.decreases-loop
-decreases-loop l = length l.chunk - l.seen
+abbrev pub decreases-loop-seen : goal.decreases-loop-seen
+decreases-loop-seen l = length l.chunk - l.seen

@@ -2,8 +2,5 @@
 -- Assumes nothing.
 use Rattle.try_desk.proofs.answer_stamps.Given as goal
 
-abbrev pub invariant-loop : goal.invariant-loop
-invariant-loop l = Unit {0}
-
-abbrev pub decreases-loop : goal.decreases-loop
-decreases-loop l = l.turns
+abbrev pub decreases-loop-turns : goal.decreases-loop-turns
+decreases-loop-turns l = l.turns

@@ -1,11 +1,10 @@
 -- `try_desk::put_list` is safe and ends. The loop's measure is what is left of 64.
 -- Assumes nothing.
-use Prim.Native.Nat.{◌≤◌}
-use Prim.Native.Nat.{◌-◌}
+use Prim.Native.Nat.{◌-◌, ◌≤◌}
 use Rattle.try_desk.proofs.put_list.Given as goal
 
-abbrev pub invariant-loop : goal.invariant-loop
-invariant-loop l = l.i ≤ 64
+abbrev pub invariant-loop-i : goal.invariant-loop-i
+invariant-loop-i l = l.i ≤ 64
 
-abbrev pub decreases-loop : goal.decreases-loop
-decreases-loop l = 64 - l.i
+abbrev pub decreases-loop-i : goal.decreases-loop-i
+decreases-loop-i l = 64 - l.i

@@ -3,8 +3,8 @@
 use Prim.Native.Nat.{◌≤◌}
 use Rattle.try_lent.proofs.next_request.Given as goal
 
-abbrev pub invariant-loop : goal.invariant-loop
-invariant-loop l = l.left ≤ l.lines
+abbrev pub invariant-loop-left : goal.invariant-loop-left
+invariant-loop-left l = l.left ≤ l.lines
 
-abbrev pub decreases-loop : goal.decreases-loop
-decreases-loop l = l.left
+abbrev pub decreases-loop-left : goal.decreases-loop-left
+decreases-loop-left l = l.left
