@@ -7,9 +7,9 @@ ghost use Rattle.desk_chain.specs.Chains.{asked_on};
 ghost use Rattle.tuyenlomac.specs.Desks.{start_number, start_leaves, lists_of};
 ghost use Rattle.tuyenlomac.specs.Calls.{locks_call, OnLocks};
 
-use tuyenlomac::answers::Answered;
 use desk_arrays::state::SPOTS;
 use terms::limits::PLACES;
+use tuyenlomac::answers::Answered;
 use tuyenlomac::locks::ChainSaid;
 
 // Starts a lock desk at a first number and answers 0. For number 0 the answer is refusal 10, and what is there stays (01, refusal 10).
@@ -47,7 +47,9 @@ pub extern "C" fn tuyenlomac_locks_step_on(
 ) -> Answered
     ensures { OnLocks (desk_of next.old number.old status.old cell.old ask.old held.old) (request kind job asked) (locks_call (desk_of next.new number.new status.new cell.new ask.new held.new) (lists_of jobs.old cells.old kinds.old) (lists_of jobs.new cells.new kinds.new) result) }
 {
-    tuyenlomac::locks::tuyenlomac_locks_step_on(next, number, status, cell, ask, held, jobs, cells, kinds, kind, job, asked)
+    tuyenlomac::locks::tuyenlomac_locks_step_on(
+        next, number, status, cell, ask, held, jobs, cells, kinds, kind, job, asked,
+    )
 }
 
 // The chain of a job, in the first places of the list (02, No. 3). The desk is only read.

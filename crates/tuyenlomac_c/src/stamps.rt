@@ -5,9 +5,9 @@ ghost use Rattle.stamp_arrays.specs.Steps.{stamps_of, start_of};
 ghost use Rattle.tuyenlomac.specs.Desks.{stamps_number, stamps_leaves};
 ghost use Rattle.tuyenlomac.specs.Calls.{stamps_call, OnStamps};
 
-use tuyenlomac::answers::Answered;
 use stamp_arrays::state::ROWS;
 use terms::limits::PLACES;
+use tuyenlomac::answers::Answered;
 
 // Starts a timestamp desk at a first number and answers 0. For number 0 the answer is refusal 10, and what is there stays (01, refusal 10).
 #[unsafe(no_mangle)]
