@@ -6,7 +6,7 @@ declared() {
             while ((got = (getline line < $1)) > 0) {
                 there[$1] = 1
                 sub(/^[ \t]+/, "", line)
-                while (match(line, /^(pub|unfoldable|abbrev|data|record|const|fn|struct|enum|type|extern "C") +/)) line = substr(line, RLENGTH + 1)
+                while (match(line, /^(pub|unfoldable|abbrev|data|record|const|fn|struct|enum|trait|type|extern "C") +/)) line = substr(line, RLENGTH + 1)
                 if (match(line, /^[^ \t(:{=;,<]+/)) {
                     name = substr(line, 1, RLENGTH)
                     rest = substr(line, RLENGTH + 1)
