@@ -14,8 +14,8 @@ import os
 import re
 import sys
 
-# Constructors: one would fall together with a definition that stands in the same files; no file has the other two beside their definitions.
-OTHERWISE = {"other-kind": "of_other_kind", "all-open": "all_open", "in-front": "in_front"}
+# The first would fall together with a definition that stands in the same files; no file has the others beside the definitions of the same word.
+OTHERWISE = {"other-kind": "of_other_kind", "all-open": "all_open", "in-front": "in_front", "is-orderly": "is_orderly", "one_more": "one_more"}
 # Values that were spelled in capitals.
 CAPITALS = {"S1": "s1", "S1-history": "s1_history"}
 # Parameters of definitions.

@@ -37,8 +37,8 @@ pub number_order_none : ActsInNumberOrder []
 number_order_none = record { rises = λ before a between b after e c. not_empty_mid (before ++ Does a ∷ between) (Does b) after e }
 
 -- a history in number order stays so with one more event, unless that is an action that conflicts with an earlier one of a job whose number is not smaller
-one_more_lem : (h : History) (e : Event) → ActsInNumberOrder h → ((before : History) (a : Action) (after : History) (b : Action) → h ≡ before ++ Does a ∷ after → e ≡ Does b → conflicts a b ≡ true → a.job < b.job) → ActsInNumberOrder (h ++ e ∷ [])
-one_more_lem h e o new =
+one_more : (h : History) (e : Event) → ActsInNumberOrder h → ((before : History) (a : Action) (after : History) (b : Action) → h ≡ before ++ Does a ∷ after → e ≡ Does b → conflicts a b ≡ true → a.job < b.job) → ActsInNumberOrder (h ++ e ∷ [])
+one_more h e o new =
     record {
       rises = λ before a between b after q c. last_split h e (before ++ Does a ∷ between) (Does b) after q
           (λ p r. new before a between b p r c)
@@ -47,12 +47,12 @@ one_more_lem h e o new =
 
 -- with any mark
 pub number_order_ends : (h : History) (m : Mark) (j : ℕ) → ActsInNumberOrder h → ActsInNumberOrder (h ++ Ends m j ∷ [])
-number_order_ends h m j o = one_more_lem h (Ends m j) o (λ before a after b p r c. let z : ◌≡◌ {A = ℕ} 0 1 = cc in absurd (omega arith))
+number_order_ends h m j o = one_more h (Ends m j) o (λ before a after b p r c. let z : ◌≡◌ {A = ℕ} 0 1 = cc in absurd (omega arith))
 
 -- with an action whose job is not below the largest that has changed its cell, nor, if the action changes the cell, below the largest that has read it
 pub number_order_grows : (h : History) (b : Action) → ActsInNumberOrder h → largest changes b.cell h ≤ b.job → (changes b.kind ≡ true → largest reads b.cell h ≤ b.job) → ActsInNumberOrder (h ++ Does b ∷ [])
 number_order_grows h b o over-writers over-readers =
-    one_more_lem h (Does b) o
+    one_more h (Does b) o
     (λ before a after d p r c. let e : b ≡ d = cc in subst (λ x. a.job < x.job) e (below before a after p (subst (λ x. conflicts a x ≡ true) (sym e) c)))
   where
     below : (before : History) (a : Action) (after : History) → h ≡ before ++ Does a ∷ after → conflicts a b ≡ true → a.job < b.job

@@ -31,10 +31,10 @@ swap_behind (a ∷ before) w = later (swap_behind before w)
 -- each swap is of two neighbours
 pub swap_splits : {s t : Schedule} → Swap s t → Neighbours s t
 swap_splits (here {a} {b} {s} o f) = record { before = []; first = a; second = b; behind = s; was = refl; becomes = refl; others = o; agreeing = f }
-swap_splits (later {a} w) = one_more_lem a (swap_splits w)
+swap_splits (later {a} w) = one_more a (swap_splits w)
   where
-    one_more_lem : (a : Action) {s t : Schedule} → Neighbours s t → Neighbours (a ∷ s) (a ∷ t)
-    one_more_lem a n = record { before = a ∷ n.before; first = n.first; second = n.second; behind = n.behind; was = ap (λ s. a ∷ s) n.was; becomes = ap (λ s. a ∷ s) n.becomes; others = n.others; agreeing = n.agreeing }
+    one_more : (a : Action) {s t : Schedule} → Neighbours s t → Neighbours (a ∷ s) (a ∷ t)
+    one_more a n = record { before = a ∷ n.before; first = n.first; second = n.second; behind = n.behind; was = ap (λ s. a ∷ s) n.was; becomes = ap (λ s. a ∷ s) n.becomes; others = n.others; agreeing = n.agreeing }
 
 -- two such neighbours can be swapped
 pub swap_joins : {s t : Schedule} → Neighbours s t → Swap s t

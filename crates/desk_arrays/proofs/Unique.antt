@@ -30,7 +30,7 @@ ask_code_unique κs a x y e f p q = p ∙ sym q
 pub ask_of_unique : Unique ask-ofK.ps ask-ofK.r ask-of.Post
 ask_of_unique κs a x y e f p q = p ∙ sym q
 
--- `start` is walked by hand and has no `Reads`: its one clause says that the result is `start_of` of the number, and so there is no second one
+-- Over the clauses of `start` as they are read off the source: its one clause says that the result is `start_of` of the number, and so there is no second one
 pub start_unique : {M : Type 1} {𝓤 : Ura M} (𝓛 : Logic 𝓤) (κs : Lfts 0) (mem : Memory → SProp 𝓤) (run : Routine → Fun 𝓤) (n : ℕ) (both : Both ℕ ℕ)
     → ((r : Start) → start.ensures-1 𝓛 κs mem run n both r ≡ fact 𝓤 (r ≡ start_of n)) × ((x y : Start) → x ≡ start_of n → y ≡ start_of n → x ≡ y)
 start_unique 𝓛 κs mem run n both = (λ r. refl, λ x y p q. p ∙ sym q)

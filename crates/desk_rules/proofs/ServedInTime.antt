@@ -69,8 +69,8 @@ module _ {d : Desk} (v : Inv d) (r : Request) (rs : List Request) (c : ℕ) (w :
           (i, (step_undisturbed v r c w k h).ways i way, ended_neither i (events d r) (history_of (step d r).desk s.before) (step_not_ended v r c w k i way) e)
 
   -- one more request, given the claim for the rest
-  one_more_lem : Patient (from d) c w (r ∷ rs) → (IsWaiting (step d r).desk c w → Patient (from (step d r).desk) c w rs → Waits (desk_after (step d r).desk) c w rs ⊎ Served (from (step d r).desk) c w rs) → Waits (desk_after d) c w (r ∷ rs) ⊎ Served (from d) c w (r ∷ rs)
-  one_more_lem p more = by_side (step_on v r c w k (p [] r rs refl k))
+  one_more : Patient (from d) c w (r ∷ rs) → (IsWaiting (step d r).desk c w → Patient (from (step d r).desk) c w rs → Waits (desk_after (step d r).desk) c w rs ⊎ Served (from (step d r).desk) c w rs) → Waits (desk_after d) c w (r ∷ rs) ⊎ Served (from d) c w (r ∷ rs)
+  one_more p more = by_side (step_on v r c w k (p [] r rs refl k))
     where
       patient : Patient (from (step d r).desk) c w rs
       patient before x rest e l = p (r ∷ before) x rest (ap (λ l. r ∷ l) e) (k, l)
@@ -86,7 +86,7 @@ module _ {d : Desk} (v : Inv d) (r : Request) (rs : List Request) (c : ℕ) (w :
 -- after any requests in which it does not give up while it waits, it still waits or has been served
 waits_on : {d : Desk} → Inv d → (c : ℕ) (w : Waiter) (rs : List Request) → IsWaiting d c w → Patient (from d) c w rs → Waits (desk_after d) c w rs ⊎ Served (from d) c w rs
 waits_on v c w [] k p = inl k
-waits_on {d} v c w (r ∷ rs) k p = one_more_lem v r rs c w k p (waits_on {d = (step d r).desk} (step_inv v r) c w rs)
+waits_on {d} v c w (r ∷ rs) k p = one_more v r rs c w k p (waits_on {d = (step d r).desk} (step_inv v r) c w rs)
 
 -- if one of two fails, the other holds
 otherwise : {A B : Type 0} → A ⊎ B → (A → ⊥) → B

@@ -98,8 +98,8 @@ unfolding wake
 cell_below g = let e = ap (λ t. t.cell) g.is in let l = g.below in omega arith
 
 -- and was granted at one of a larger set of cells
-one_more_lem : {s : ℕ → Settled} {n : ℕ} {x : Action} → GrantedAt s n x → GrantedAt s (suc n) x
-one_more_lem g = record { cell = g.cell; below = omega (arith, g.below); waiter = g.waiter; granted = g.granted; is = g.is }
+one_more : {s : ℕ → Settled} {n : ℕ} {x : Action} → GrantedAt s n x → GrantedAt s (suc n) x
+one_more g = record { cell = g.cell; below = omega (arith, g.below); waiter = g.waiter; granted = g.granted; is = g.is }
 
 -- THE SEARCH: cell by cell from 0 on, each from the front (01, rule 4)
 pub search_order : (s : ℕ → Settled) (n : ℕ) → Search s n
@@ -108,7 +108,7 @@ search_order s zero = record { granted = in_none; reached = λ c w l h. absurd (
 search_order s (suc n) =
     let k = search_order s n in
     record {
-      granted = λ h. in_either (wakes_of s n) (wakes_at n (s n).woken) h (λ i. one_more_lem (k.granted i))
+      granted = λ h. in_either (wakes_of s n) (wakes_at n (s n).woken) h (λ i. one_more (k.granted i))
           (λ i. let (w, m, e) = in_at n (s n).woken i in record { cell = n; below = omega arith; waiter = w; granted = m; is = e });
       reached = λ c w l h. by_test (eqb c n)
           (λ t. in_right (wakes_of s n) (subst (λ b. In (wake c w) (wakes_at b (s b).woken)) (eqb-true c n t) (at_in c h)))

@@ -69,9 +69,9 @@ module _ (d : Desk) (v : Inv d) where
   }
 
   -- a job takes a mode that covers what it holds and is granted beside every other job's
-  one_more_lem : (j c : ℕ) (m : Mode) → covers m ((d.row c).held j) ≡ true → ((i : ℕ) → i ≢ j → grants ((d.row c).held i) m ≡ true) → Grew d.row (grant d j c m).desk.row
+  one_more : (j c : ℕ) (m : Mode) → covers m ((d.row c).held j) ≡ true → ((i : ℕ) → i ≢ j → grants ((d.row c).held i) m ≡ true) → Grew d.row (grant d j c m).desk.row
   unfolding grant with_row
-  one_more_lem j c m g h = record {
+  one_more j c m g h = record {
     grown = λ i b. at_each (λ x. covers (x.held i) ((d.row b).held i) ≡ true) d.row c (record { held = at (d.row c).held j m; queue = (d.row c).queue }) b
         (λ e. rw e (at_each (λ y. covers y ((d.row c).held i) ≡ true) (d.row c).held j m i (λ p. rw p g) (λ _. covers_refl ((d.row c).held i))))
         (λ _. covers_refl ((d.row b).held i));
@@ -82,7 +82,7 @@ module _ (d : Desk) (v : Inv d) where
 module _ (d : Desk) (r : Request) (v : Inv d) where
   -- the mode that was asked for is granted, and the action written
   granted_wrote : (a : Ask) (m : Mode) → Asking d r a → covers m ((d.row r.cell).held r.job) ≡ true → covers m (needed a) ≡ true → ((i : ℕ) → i ≢ r.job → grants ((d.row r.cell).held i) m ≡ true) → Wrote d r (grant d r.job r.cell m) (Does (asking r a) ∷ [])
-  granted_wrote a m k g c h = action a k (one_more_lem d v r.job r.cell m g h) (rw (granted_mode d r.job r.cell m) c)
+  granted_wrote a m k g c h = action a k (one_more d v r.job r.cell m g h) (rw (granted_mode d r.job r.cell m) c)
 
   -- every move, by what it writes
   moved_wrote : {o : Outcome} → Moved d r o → Wrote d r o (records_of r o.said o.wakes)

@@ -6,7 +6,7 @@ use mathlib.Core.List.{List, [], ◌∷◌, ◌++◌, append-nil, append_assoc}
 use Rattle.conflict.specs.History.{History}
 use Rattle.desks.specs.Request.{Request}
 use Rattle.desks.specs.Stepping.{Stepping, through}
-use Rattle.desks.specs.Started.{StartedOn, fresh, after as one_more_lem, ReachedOn}
+use Rattle.desks.specs.Started.{StartedOn, fresh, after as one_more, ReachedOn}
 use Rattle.desks.specs.Records.{records_by}
 use Rattle.desks.specs.Requests.{writes}
 
@@ -27,7 +27,7 @@ module _ {S : Type 0} {step : Stepping S} {new : ℕ → S} where
   pub run_started : {d : S} {h : History} → StartedOn step new d h → (rs : List Request) → StartedOn step new (through step d rs) (h ++ writes step d rs)
   unfolding writes
   run_started {d} {h} s [] = rw (append-nil h) s
-  run_started {d} {h} s (r ∷ rs) = subst (StartedOn step new (through step (step d r).desk rs)) (append_assoc h (records_by step d r) (writes step (step d r).desk rs)) (run_started {d = (step d r).desk} {h = h ++ records_by step d r} (one_more_lem s r) rs)
+  run_started {d} {h} s (r ∷ rs) = subst (StartedOn step new (through step (step d r).desk rs)) (append_assoc h (records_by step d r) (writes step (step d r).desk rs)) (run_started {d = (step d r).desk} {h = h ++ records_by step d r} (one_more s r) rs)
 
   -- every started desk is reached in this way
   pub started_reached : {d : S} {h : History} → StartedOn step new d h → ReachedOn step new d h
@@ -35,7 +35,7 @@ module _ {S : Type 0} {step : Stepping S} {new : ℕ → S} where
     where
       nothing_written : (e : S) → writes step e [] ≡ []
       nothing_written e = unfold writes in refl
-  started_reached (one_more_lem {d = d} {h = h} s r) = more (started_reached s)
+  started_reached (one_more {d = d} {h = h} s r) = more (started_reached s)
     where
       one_written : (e : S) → writes step e (r ∷ []) ≡ records_by step e r
       one_written e = unfold writes in append-nil (records_by step e r)

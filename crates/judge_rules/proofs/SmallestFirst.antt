@@ -34,8 +34,8 @@ module _ (e : Edges) where
       }
 
   -- the smallest that is ready stands first, before an order of the others
-  one_more_lem : (j : ℕ) (left order : List ℕ) → Smallest (λ k. not (preceded e left k)) left j → SmallestFirst e (without j left) order → SmallestFirst e left (j ∷ order)
-  one_more_lem j left order s o = record { all = every; fits = fits'; smallest = smallest' }
+  one_more : (j : ℕ) (left order : List ℕ) → Smallest (λ k. not (preceded e left k)) left j → SmallestFirst e (without j left) order → SmallestFirst e left (j ∷ order)
+  one_more j left order s o = record { all = every; fits = fits'; smallest = smallest' }
     where
       every : (k : ℕ) → member k left ≡ true → member k (j ∷ order) ≡ true
       every k m = by_test (eqb j k) (λ t. rw (← eqb-true j k t) (member_first j order)) (λ f. member_more j order k (o.all k (still j left k m f)))
@@ -64,7 +64,7 @@ module _ (e : Edges) where
   taken_smallest_first (suc n) left a q =
       by_one (ready e left)
       (λ h. let none' : left ≡ [] = rw h at q in rw h (rw none' none_placed))
-      (λ j h. rw h (one_more_lem j left (taken e n (without j left)).order (ready_smallest e left a j h)
+      (λ j h. rw h (one_more j left (taken e n (without j left)).order (ready_smallest e left a j h)
       (taken_smallest_first n (without j left) (ascending_left j left a) (rw h at q))))
 
   -- the order given is the paper's, if all jobs stand in it

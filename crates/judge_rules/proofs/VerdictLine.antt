@@ -22,7 +22,7 @@ use Rattle.text_rules.specs.Decimal.{decimal}
 use Rattle.text_rules.proofs.DigitLaws.{decimal_0}
 use Rattle.text_rules.proofs.DecimalLaws.{decimal_digits, decimal_shortest, decimal_value}
 use Rattle.judge_rules.specs.declared.verdict.Verdict.{Verdict}
-use Rattle.judge_rules.specs.declared.verdict.Verdict.TheVariants.{Orderly as is_orderly_lem, Knot as is_knot, Dirty as is_dirty, No as is_refused}
+use Rattle.judge_rules.specs.declared.verdict.Verdict.TheVariants.{Orderly as is_orderly, Knot as is_knot, Dirty as is_dirty, No as is_refused}
 use Rattle.text_rules.specs.Records.{tabbed, word_line, given}
 use Rattle.text_rules.specs.Split.{no_newline}
 use Rattle.judge_rules.specs.Judgement.{judgement_of}
@@ -60,7 +60,7 @@ word_one_line w ns = record {
 -- so is every verdict's
 said_one_line : (v : Verdict) (order : List ℕ) → OneLine (say_line v order)
 unfolding say_line
-said_one_line (is_orderly_lem n) order = word_one_line Orderly (take n order)
+said_one_line (is_orderly n) order = word_one_line Orderly (take n order)
 said_one_line (is_knot n) order = word_one_line Knot (take n order)
 said_one_line (is_dirty i j) order = word_one_line Dirty (i ∷ j ∷ [])
 said_one_line (is_refused line why) order = word_one_line No (line ∷ number_of why ∷ given (field_of why))
@@ -95,7 +95,7 @@ module _ (text : List ℕ) where
   -- so the line printed for its verdict is not no, 0, 16
   not_16 : (v : Verdict) (order : List ℕ) → (judgement_of text (replicate judged_jobs 0)).said ≡ v → say_line v order ≡ word_line No (0 ∷ 16 ∷ []) → ⊥
   unfolding say_line word_line
-  not_16 (is_orderly_lem n) order e p = other_word Orderly (take n order) p refl
+  not_16 (is_orderly n) order e p = other_word Orderly (take n order) p refl
   not_16 (is_knot n) order e p = other_word Knot (take n order) p refl
   not_16 (is_dirty i j) order e p = other_word Dirty (i ∷ j ∷ []) p refl
   not_16 (is_refused n why) order e p = refused_line n why e (printed_line_0 n (number_of why) (given (field_of why)) p)

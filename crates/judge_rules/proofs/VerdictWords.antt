@@ -69,12 +69,12 @@ first_byte (Knot n) order b e = e
 first_byte (Dirty i j) order b e = e
 first_byte (No n why) order b e = e
 
-is_orderly_lem : (v : Verdict) → get_or (word_bytes v) 0 0 ≡ 111 → (n : ℕ) × (v ≡ Orderly n)
+is_orderly : (v : Verdict) → get_or (word_bytes v) 0 0 ≡ 111 → (n : ℕ) × (v ≡ Orderly n)
 unfolding word_bytes
-is_orderly_lem (Orderly n) e = (n, refl)
-is_orderly_lem (Knot n) e = absurd (omega arith)
-is_orderly_lem (Dirty i j) e = absurd (omega arith)
-is_orderly_lem (No n why) e = absurd (omega arith)
+is_orderly (Orderly n) e = (n, refl)
+is_orderly (Knot n) e = absurd (omega arith)
+is_orderly (Dirty i j) e = absurd (omega arith)
+is_orderly (No n why) e = absurd (omega arith)
 
 is_knot : (v : Verdict) → get_or (word_bytes v) 0 0 ≡ 107 → (n : ℕ) × (v ≡ Knot n)
 unfolding word_bytes
@@ -151,7 +151,7 @@ module _ (text : List ℕ) where
   begins_orderly = (
     λ e.
         let f = said_first _ 111 e (λ (q : ◌≡◌ {A = ℕ} 111 110). omega arith) in
-        let o = (orderly_as_worded text (replicate 255 0)).0 (is_orderly_lem said f.1) in
+        let o = (orderly_as_worded text (replicate 255 0)).0 (is_orderly said f.1) in
         (f.0, o.1, o.2, o.3),
     λ p. let o = (orderly_as_worded text (replicate 255 0)).1 (room, p.1, p.2, p.3) in begins_said p.0 (Orderly o.0) o.1,
   )

@@ -9,12 +9,12 @@ use Rattle.terms.specs.Words.{newline}
 use Rattle.text_rules.specs.Records.{word_line, given}
 use Rattle.text_rules.specs.Split.{no_newline}
 use Rattle.judge_rules.specs.declared.verdict.Verdict.{Verdict}
-use Rattle.judge_rules.specs.declared.verdict.Verdict.TheVariants.{Orderly as is_orderly_lem, Knot as is_knot, Dirty as is_dirty, No as is_refused}
+use Rattle.judge_rules.specs.declared.verdict.Verdict.TheVariants.{Orderly as is_orderly, Knot as is_knot, Dirty as is_dirty, No as is_refused}
 use Rattle.judge_rules.specs.Judgement.{judgement_of}
 
 -- the verdict as a line: the word and the jobs; dirty, reader, writer (02, No. 2); or no, line number, refusal, and for refusal 9 the field at fault (01, The judge's rules; 02, No. 5)
 unfoldable pub say_line : Verdict → List ℕ → List ℕ
-say_line (is_orderly_lem n) order = word_line Orderly (take n order)
+say_line (is_orderly n) order = word_line Orderly (take n order)
 say_line (is_knot n) order = word_line Knot (take n order)
 say_line (is_dirty reader writer) order = word_line Dirty (reader ∷ writer ∷ [])
 say_line (is_refused line why) order = word_line No (line ∷ number_of why ∷ given (field_of why))

@@ -1,4 +1,4 @@
--- Shared by proofs that walk a function by hand: the locals at each block, and a machine test as a Bool.
+-- The locals of a function at each block, and a machine test as a Bool. The checker proves by itself what was proved over this.
 -- Assumes nothing.
 use Prim.Native.Nat.{ℕ}
 use mathlib.Core.Path.{◌≡◌, refl}

@@ -1,4 +1,4 @@
--- A start as the machine has it: its locals at each block, its two variants and what each holds; for the walks of functions that make a start or take one apart.
+-- A start as the machine has it: its locals at each block, its two variants and what each holds. The checker proves by itself what was proved over this.
 -- Assumes nothing.
 use mathlib.Core.Path.{◌≡◌, refl, subst}
 use mathlib.Core.List.{[], ◌∷◌, head-eq_of_cons-eq}

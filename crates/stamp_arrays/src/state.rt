@@ -51,7 +51,7 @@ impl Stamps {
     }
 
     // The desk started at this first number; 0 is refused, with no desk (01, refusal 10).
-    #[tactic(auto, unfolding(crate::specs::Steps::start_of), using(crate::proofs::state::Stamps::empty::Symbol::name, laws::proofs::Walking::fails, laws::proofs::Walking::holds, laws::proofs::Walking::placed))]
+    #[tactic(auto, unfolding(crate::specs::Steps::start_of))]
     pub fn start(first: u32) -> Start
         ensures { result ≡ start_of first }
     {

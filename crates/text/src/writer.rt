@@ -61,7 +61,7 @@ fn put_byte(part: &mut [u8], byte: u8) -> usize
 }
 
 // Writes a number of this many digits, from its last digit to its first.
-#[tactic(auto, using(text_rules::proofs::DigitLaws::all_to_write, text_rules::proofs::DigitLaws::none_to_write, text_rules::proofs::DigitLaws::one_more_lem))]
+#[tactic(auto, using(text_rules::proofs::DigitLaws::all_to_write, text_rules::proofs::DigitLaws::none_to_write, text_rules::proofs::DigitLaws::one_more))]
 fn put_number(part: &mut [u8], n: u64, digits: usize) -> usize
     requires { (digits ≡ length (decimal n)) × (digits ≤ length part.old) }
     ensures { Wrote 0 result (decimal n) part.old part.new }

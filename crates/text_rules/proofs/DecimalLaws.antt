@@ -85,8 +85,8 @@ shortest_in p n h =
     (λ s. rw s (leads_shortest _ (leads_append (digits_in p (n / 10)) (digit (n % 10) ∷ []) (leads_in p (n / 10) (omega (arith, ltb-false n 10 s)) (omega arith)))))
 
 -- a further digit is written after the others
-one_more_lem : (n b : ℕ) → 0 < n → is_digit b ≡ true → decimal (n * 10 + (b - 48)) ≡ decimal n ++ b ∷ []
-one_more_lem n b z d =
+one_more : (n b : ℕ) → 0 < n → is_digit b ≡ true → decimal (n * 10 + (b - 48)) ≡ decimal n ++ b ∷ []
+one_more n b z d =
     let m = n * 10 + (b - 48) in
     let lo : 48 ≤ b = (digit_bounds b d).0 in
     let hi : b ≤ 57 = (digit_bounds b d).1 in
@@ -100,7 +100,7 @@ unfolding digits_only value_from
 further n [] z o = sym (append-nil _)
 further n (d ∷ ds) z o =
     further (n * 10 + (d - 48)) ds (omega arith) (only_parts d ds o).1
-    ∙ ap (λ es. es ++ ds) (one_more_lem n d z (only_parts d ds o).0)
+    ∙ ap (λ es. es ++ ds) (one_more n d z (only_parts d ds o).0)
     ∙ append_assoc (decimal n) (d ∷ []) ds
 
 -- a digit is written as itself

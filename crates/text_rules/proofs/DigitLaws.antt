@@ -120,11 +120,11 @@ unfolding decimal
 all_to_write n w l e = ap (λ t. t ++ drop w l) (ap (λ k. last_digits k n) e ∙ sym (digits_are_last (suc n) n))
 
 -- one more digit is at its place: what is still to be written and what is already there make the same list as before
-pub one_more_lem : (i rest : ℕ) (l whole : List ℕ) → 0 < i → i ≤ length l → last_digits i rest ++ drop i l ≡ whole →
+pub one_more : (i rest : ℕ) (l whole : List ℕ) → 0 < i → i ≤ length l → last_digits i rest ++ drop i l ≡ whole →
     last_digits (i - 1) (rest / 10) ++ drop (i - 1) (set l (i - 1) (digit (rest % 10))) ≡ whole
 unfolding last_digits
-one_more_lem zero rest l whole p h e = absurd (omega arith)
-one_more_lem (suc i) rest l whole p h e = rw (sub-one, drop_written l i (digit (rest % 10)) h) (rw append_assoc at e)
+one_more zero rest l whole p h e = absurd (omega arith)
+one_more (suc i) rest l whole p h e = rw (sub-one, drop_written l i (digit (rest % 10)) h) (rw append_assoc at e)
 
 -- after the last digit, the list is complete
 pub none_to_write : (i rest : ℕ) (l whole : List ℕ) → i ≤ 0 → last_digits i rest ++ drop i l ≡ whole → l ≡ whole

@@ -38,7 +38,7 @@ use Rattle.lent.proofs.Calling.{calls_for}
 use Rattle.lent.proofs.LentPromises.{lent_locks, lent_stamps}
 use Rattle.tuyenlomac.specs.Numbers.{in_three}
 use Rattle.tuyenlomac.specs.Desks.{Lists, wakes_in, start_number, start_leaves, stamps_number, stamps_leaves}
-use Rattle.tuyenlomac.specs.Calls.{LocksCall, locks_call, OnLocks, TellsLocks, StampsCall, stamps_call, OnStamps, TellsStamps, SaysLocks, SaysStamps, Each, none_left, one_more_lem}
+use Rattle.tuyenlomac.specs.Calls.{LocksCall, locks_call, OnLocks, TellsLocks, StampsCall, stamps_call, OnStamps, TellsStamps, SaysLocks, SaysStamps, Each, none_left, one_more}
 use Rattle.tuyenlomac.proofs.Starting.{locks_started, stamps_started}
 
 -- the call that tells what a step by value gives
@@ -63,7 +63,7 @@ module _ {S O K : Type 0} {leaves : O → S} {entry : S → Request → O → Ty
   called_lent (next {d = d} {r = r} {o = k} {rs = rs} c more) =
       let (o, e, t) = one d r k c in
       let (os, l, ts) = called_lent more in
-      (o ∷ os, next e (subst (λ x. Lent leaves entry x rs os) (same o k t) l), one_more_lem t ts)
+      (o ∷ os, next e (subst (λ x. Lent leaves entry x rs os) (same o k t) l), one_more t ts)
 
 -- a call on a lock desk tells what the entry of the lent desk gives; so does one on a timestamp desk
 locks_one : (d : Desk) (r : Request) (k : LocksCall) → OnLocks d r k → (o : Outcome) × entries.OnLocks d r o × TellsLocks o k
@@ -105,7 +105,7 @@ module _ {S T K : Type 0} {see : S → T} {does : Stepping S} {new : ℕ → S} 
       let (e, t) = one d r k c in
       let p = f.same d h s r in
       let further = called_says (subst (λ x. StartedOn does new x (h ++ records_by does d r)) (sym e) (after s r)) more in
-      one_more_lem (subst (λ o. says o.said o.wakes k) p t)
+      one_more (subst (λ o. says o.said o.wakes k) p t)
       (subst (λ x. Each (λ (o : Stepped T). says o.said o.wakes) (steps_of theirs x rs) ks) (ap see e ∙ ap (λ o. o.desk) p) further)
 
 -- a call on a lock desk says what the step of the arrays says; so does one on a timestamp desk

@@ -65,4 +65,4 @@ SaysStamps a ws k = k.answer ≡ in_three a (length ws)
 -- each call of a list tells what the step in its turn gives
 pub data Each {O K : Type 0} (tells : O → K → Type 0) : List O → List K → Type 0 where
   none_left : Each tells [] []
-  one_more_lem : {o : O} {k : K} {os : List O} {ks : List K} → tells o k → Each tells os ks → Each tells (o ∷ os) (k ∷ ks)
+  one_more : {o : O} {k : K} {os : List O} {ks : List K} → tells o k → Each tells os ks → Each tells (o ∷ os) (k ∷ ks)
