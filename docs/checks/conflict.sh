@@ -6,6 +6,7 @@ conflict() {
     allowed=" $(sed -n "/^| Conflict's definitions stay open/p" docs/DECISIONS.md | grep -oE '`[a-z0-9_]+/proofs/[A-Za-z0-9_]+\.antt`' | tr -d '`' | sed 's,^,crates/,' | tr '\n' ' ')"
     for crate in $above; do
         find "crates/$crate" -name '*.antt' -not -path '*/out/*'
+        find "crates/$crate/src" -name '*.rt'
     done | while IFS= read -r file; do
         case $allowed in *" $file "*) continue ;; esac
         awk -v file="$file" '
@@ -25,6 +26,8 @@ conflict() {
                     if (part[i] in from || (part[i] ~ /\./ && head in under) || part[i] ~ /^Rattle\.conflict/) wrong = wrong " " part[i]
                 }
             }
+            # what an attribute of a function opens
+            /^ *#\[tactic\(.*unfolding\(.*conflict::specs::/ { wrong = wrong " conflict::specs in an attribute" }
             END { if (wrong == "") print "ok"; else print file " unfolds what conflict promises by laws alone:" wrong }' "$file"
     done
 }

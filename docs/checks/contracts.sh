@@ -48,10 +48,32 @@ uniques() { # CRATE
         END { if (theorem != "") tell() }' $(sed -n "s,^pub mod \([A-Za-z0-9]*\)\$,crates/$1/proofs/\1.antt,p" "crates/$1/proofs/Lib.antt" 2>/dev/null) /dev/null
 }
 
+# what C calls, the functions of tuyenlomac_c, against those of the same names in tuyenlomac, whose contracts the theorems speak of: parameters, result
+# and clauses are the same, word for word, and each of these has its export
+exports() {
+    local export file
+    signatures() { # FILE
+        awk '
+            /^(#\[unsafe\(no_mangle\)\])$/ { next }
+            /^pub (extern "C" )?fn tuyenlomac_/ { inside = 1; said = ""; sub(/extern "C" /, "") }
+            inside && /{$/ && !/^ *(ensures|requires) / { inside = 0; gsub(/[ ,]+/, " ", said); sub(/ \)/, ")", said); sub(/\( /, "(", said); print said; next }
+            inside { line = $0; gsub(/^ +/, "", line); said = said " " line }' "$1"
+    }
+    [ "$(cat crates/tuyenlomac_c/src/*.rt | grep -cx '#\[unsafe(no_mangle)\]')" = 10 ] && echo ok || echo "crates/tuyenlomac_c has not ten exports"
+    for export in crates/tuyenlomac_c/src/*.rt; do
+        file=crates/tuyenlomac/src/$(basename "$export")
+        [ "$(basename "$export")" != lib.rt ] || continue
+        signatures "$export" >"$log/exports"
+        signatures "$file" >"$log/called"
+        if [ -s "$log/exports" ] && cmp -s "$log/exports" "$log/called"; then echo ok; else echo "$export does not export what $file has, by the same contracts"; diff "$log/exports" "$log/called" | head -n 2; fi
+    done
+}
+
 contracts() {
     local crate file name module states requires lends theorem how proof excepted
     # exceptions stand in rows with these words, each function as `crate::name`
     excepted=" $(grep 'exception to full contracts' docs/DECISIONS.md | grep -oE '`[a-z_]+::[a-z_]+`' | tr -d '`' | tr '\n' ' ')"
+    exports
     for crate in $(sed -n 's/^\([a-z0-9_]*\):.*/\1/p' crates.txt); do
         # a program has no callers, and a crate of theory no functions
         [ -f "crates/$crate/src/lib.rt" ] || continue

@@ -38,9 +38,9 @@ looked_up() {
                 if (body ~ ("^look\\(" table ", Row\\([YN], [YN], [YN], [YN]\\), " first ", " second "\\)$")) print "ok"
                 else print "crates/conflict/src/modes.rt: " name " is not one look into " table " for " first " and " second
             }' "$file"
-        if grep -qE "^use crate::tables::\{.*\b$table\b.*\};$" "$file" && [ "$(grep -cE "(const|let) $table\b" "$file")" = 0 ]; then echo ok; else echo "$file does not take $table from tables.rt"; fi
+        if grep -E "^use crate::tables::\{.*\b$table\b.*\};$" "$file" | grep -qvw as && [ "$(grep -cE "(const|let) $table\b" "$file")" = 0 ]; then echo ok; else echo "$file does not take $table from tables.rt"; fi
     done
-    if grep -qE '^use crate::tables::\{.*\blook\b.*\};$' "$file" && ! grep -qE 'fn look\b' "$file"; then echo ok; else echo "$file does not take look from tables.rt"; fi
+    if grep -E '^use crate::tables::\{.*\blook\b.*\};$' "$file" | grep -qvw as && ! grep -qE 'fn look\b' "$file"; then echo ok; else echo "$file does not take look from tables.rt"; fi
 }
 
 matrix() {
