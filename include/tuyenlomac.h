@@ -8,7 +8,7 @@
 
    Link libtuyenlomac.a, which is for x86-64 Linux. docs/LIBRARY.md says how it is built, what is proved of it, and where the proof ends.
    No function here allocates, does input or output, takes a lock, or keeps anything between calls. A function fails only by what it returns, and
-   every call ends. Only the stack has to be large enough: some 300 KiB for the judge, less than 8 KiB for every other call.
+   every call ends. Only the stack has to be large enough: some 450 KiB for the judge, less than 8 KiB for every other call.
 
    A caller keeps these rules in every call:
    - A pointer is not null, is aligned for its type, and points to as many initialised objects as its array has or as the length beside it says.
