@@ -6,7 +6,6 @@ ghost use Rattle.desk_arrays.specs.Steps.{desk_of, code_after, settled};
 ghost use Rattle.desk.specs.InPlace.{Reached};
 ghost use Rattle.terms.specs.Limits.{cells, places};
 
-use conflict::modes::code_of;
 use desk_arrays::codes::{FREE, RUNNING, SENT_BACK};
 use desk_arrays::moves::Ending;
 use desk_arrays::state::{ROWS, SPOTS};
@@ -49,7 +48,7 @@ fn settle_cell<'a>(
                 return k;
             }
             Grant::To(p, m) => {
-                held[c * PLACES + p] = code_of(m);
+                held[c * PLACES + p] = u8::from(m);
                 status[p] = RUNNING;
                 woken[k] = p as u8;
                 k += 1;

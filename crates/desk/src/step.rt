@@ -7,13 +7,12 @@ ghost use Rattle.terms.specs.Limits.{places};
 
 use crate::settling::end_run;
 use crate::wakes::tell;
-use conflict::modes::code_of;
 use desk_arrays::codes::{RUNNING, WAITING, ask_code};
 use desk_arrays::moves::{Ending, Move};
 use desk_arrays::state::{Desk, Outcome, SPOTS, Said, Told};
 use desk_plan::plan::plan_for;
 use desks::Answer;
-use terms::letters::{Letter, Lettered, letter_of};
+use terms::letters::{Letter, letter_of};
 use terms::limits::PLACES;
 use terms::refusals::Refusal;
 
@@ -102,7 +101,7 @@ pub fn step_for(
         }
         Move::Keep => Told { answer, count: 0 },
         Move::Take(p, mode) => {
-            held[cell as usize * PLACES + p] = code_of(mode);
+            held[cell as usize * PLACES + p] = u8::from(mode);
             Told { answer, count: 0 }
         }
         Move::Stay(p, a) => {
@@ -148,11 +147,11 @@ pub fn step_on(
     ensures { StepsTo (desk_of next.old number.old status.old at.old ask.old held.old) woken.old kind job cell (desk_of next.new number.new status.new at.new ask.new held.new) woken.new result }
 {
     match letter_of(kind) {
-        Lettered::Unknown => Told {
+        None => Told {
             answer: Answer::No(Refusal::UnknownKind),
             count: 0,
         },
-        Lettered::Known(l) => { step_for(next, number, status, at, ask, held, woken, l, job, cell) }
+        Some(l) => { step_for(next, number, status, at, ask, held, woken, l, job, cell) }
     }
 }
 

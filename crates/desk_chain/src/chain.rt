@@ -5,7 +5,7 @@ ghost use Rattle.terms.specs.Limits.{cells, places};
 ghost use Rattle.desk_rules.specs.Chain.{younger_than};
 ghost use Rattle.desk_chain.specs.Chains.{holds_above, holder_above, next_at, chain_from, asked_on, waits_within, waiter_above, next_chain};
 
-use conflict::modes::{mode_is_free, mode_of};
+use conflict::modes::{Mode, mode_is_free};
 use desk_arrays::codes::{FREE, SENT_BACK, WAITING};
 use desk_arrays::state::{Desk, ROWS, SPOTS};
 use desk_plan::plan::find;
@@ -25,7 +25,7 @@ fn holds_above<'a>(
     requires { (c < cells) × (q < places) }
     ensures { result ≡ holds_above number.now held.now c age q }
 {
-    if mode_is_free(mode_of(held[c * PLACES + q])) {
+    if mode_is_free(Mode::from(held[c * PLACES + q])) {
         return false;
     }
     age < number[q]

@@ -5,7 +5,7 @@ ghost use Rattle.desk_plan.specs.Grants.{none_holds};
 ghost use Rattle.desk_arrays.specs.Places.{mode_at, agrees_at, older_at, waits_at, nobody_waits, oldest_of, youngest};
 ghost use Rattle.terms.specs.Limits.{cells, places};
 
-use conflict::modes::{Mode, NOTHING, mode_grants, mode_is_free, mode_of};
+use conflict::modes::{Mode, NOTHING, mode_grants, mode_is_free};
 use desk_arrays::codes::WAITING;
 use desk_arrays::state::SPOTS;
 use terms::limits::PLACES;
@@ -23,7 +23,7 @@ pub fn mode_at(held: &[u8; SPOTS], c: usize, p: usize) -> Mode
     requires { (c < cells) × (p < places) }
     ensures { result ≡ mode_at held.now c p }
 {
-    mode_of(held[c * PLACES + p])
+    Mode::from(held[c * PLACES + p])
 }
 
 // True if the place is the job's own, or its held mode lets the mode be granted.

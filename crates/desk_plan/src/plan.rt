@@ -1,6 +1,5 @@
 // What a step is to do, decided over lent arrays before anything changes (01, rules 1 to 3; 01, Refusals by number).
-ghost use Rattle.std.specs.Prelude.{◌<◌, ◌≡◌, ◌&&◌, length};
-ghost use Rattle.terms.specs.declared.letters.Lettered.TheVariants.{Known};
+ghost use Rattle.std.specs.Prelude.{◌<◌, ◌≡◌, ◌&&◌, length, Some};
 ghost use Rattle.desk_arrays.specs.Places.{mode_at, nobody_waits, agrees_at, older_at, oldest_of};
 ghost use Rattle.desk_arrays.specs.Moves.{found_at, standing_of, begin_move, commit_move, give_up_move, retry_move, promotes, enters, decided, ask_move, move_for};
 ghost use Rattle.terms.specs.Limits.{cells, places};
@@ -170,8 +169,8 @@ fn begin_move(next: u64, number: &[u32; PLACES]) -> Move
     ensures { result ≡ begin_move next number.now }
 {
     match opening_for(next, number) {
-        Opening::At(p, n) => Move::Begin(p, n),
-        Opening::Refused(why) => Move::Refuse(why),
+        Ok(Opening { place, number }) => Move::Begin(place, number),
+        Err(why) => Move::Refuse(why),
     }
 }
 
@@ -252,7 +251,7 @@ pub fn plan_for<'a>(
     job: u32,
     c: u32,
 ) -> Move
-    ensures { result ≡ move_for next number.now status.now cell.now held.now job c (Known letter) }
+    ensures { result ≡ move_for next number.now status.now cell.now held.now job c (Some letter) }
 {
     sized(*number, *status);
     match letter {

@@ -1,9 +1,9 @@
 -- The verdict on faultless lines: a dirty read, whose two jobs fill the buffer's first two places, else the order or the knot (02, No. 2).
 -- Assumes nothing.
+use Rattle.std.specs.Prelude.{Option, None, Some}
 use Prim.Native.Nat.{ℕ}
 use mathlib.Core.Path.{◌≡◌, refl, sym, ◌∙◌}
 use mathlib.Core.List.{List, [], ◌∷◌}
-use mathlib.Core.Option.{Option, none, some}
 use native.Mathlib.Omega.{arith}
 use Rattle.conflict.specs.History.{History}
 use Rattle.conflict.specs.Dirty.{ReadOf, dirty_of}
@@ -18,19 +18,19 @@ use Rattle.judge_core.specs.Rounds.{put_in}
 use Rattle.judge_core.specs.RunEnds.{dirt_of}
 
 -- clean is said where there is no dirty read
-none_is : (o : Option ReadOf) → dirt_of o ≡ Clean → o ≡ none
+none_is : (o : Option ReadOf) → dirt_of o ≡ Clean → o ≡ None
 unfolding dirt_of
-none_is none e = refl
-none_is (some d) e = absurd (let z : ◌≡◌ {A = ℕ} 0 1 = cc in omega arith)
+none_is None e = refl
+none_is (Some d) e = absurd (let z : ◌≡◌ {A = ℕ} 0 1 = cc in omega arith)
 
 -- and else its reader and its writer
-some_is : (o : Option ReadOf) (reader writer : ℕ) → dirt_of o ≡ Read reader writer → o ≡ some (record { reader = reader; writer = writer })
+some_is : (o : Option ReadOf) (reader writer : ℕ) → dirt_of o ≡ Read reader writer → o ≡ Some (record { reader = reader; writer = writer })
 unfolding dirt_of
-some_is none reader writer e = absurd (let z : ◌≡◌ {A = ℕ} 0 1 = cc in omega arith)
-some_is (some d) reader writer e =
+some_is None reader writer e = absurd (let z : ◌≡◌ {A = ℕ} 0 1 = cc in omega arith)
+some_is (Some d) reader writer e =
     let one' : d.reader ≡ reader = cc in
     let two' : d.writer ≡ writer = cc in
-    λ t. some (record { reader = one' t; writer = two' t })
+    λ t. Some (record { reader = one' t; writer = two' t })
 
 module _ (buffer : List ℕ) (h : History) (r : Dirt) (e : r ≡ dirt_of (dirty_of h)) where
   -- of a clean history the order or the knot is told

@@ -1,10 +1,10 @@
 -- Faultless lines: what the table leaves of a line, test by test, and of all lines if none is faulty.
 -- Assumes nothing.
+use Rattle.std.specs.Prelude.{Option, None, Some}
 use Prim.Native.Nat.{ℕ, zero, suc, ◌+◌, ◌-◌, ◌≤◌, ◌<◌}
 use mathlib.Core.Path.{◌≡◌, refl, sym, ap, ◌∙◌, subst}
 use mathlib.Core.Bool.{Bool, true, false, not, ◌&&◌, ◌||◌}
 use mathlib.Core.List.{List, [], ◌∷◌, ◌++◌}
-use mathlib.Core.Option.{Option, none, some}
 use native.Mathlib.Numerals.{add-one}
 use native.Mathlib.Omega.{arith}
 use lib.Dec.{eqb, ltb, leb}
@@ -27,7 +27,7 @@ use Rattle.judge_core.proofs.Events.{events_from, history_events}
 use Rattle.judge_core.proofs.KeptFaults.{job_of_lem, above_of, due_some, due_none, flags_more}
 
 -- none of the tests in a row holds where nothing is picked
-picked_none : {A : Type 0} (a b c d : Bool) (w x y z : A) → pick a (some w) (pick b (some x) (pick c (some y) (pick d (some z) none))) ≡ none → (a ≡ false) × (b ≡ false) × (c ≡ false) × (d ≡ false)
+picked_none : {A : Type 0} (a b c d : Bool) (w x y z : A) → pick a (Some w) (pick b (Some x) (pick c (Some y) (pick d (Some z) None))) ≡ None → (a ≡ false) × (b ≡ false) × (c ≡ false) × (d ≡ false)
 picked_none true b c d w x y z e = absurd (let q : ◌≡◌ {A = ℕ} 0 1 = cc in omega arith)
 picked_none false true c d w x y z e = absurd (let q : ◌≡◌ {A = ℕ} 0 1 = cc in omega arith)
 picked_none false false true d w x y z e = absurd (let q : ◌≡◌ {A = ℕ} 0 1 = cc in omega arith)
@@ -43,7 +43,7 @@ pub record Sound (n : ℕ) (before : History) (e : Event) : Type 0 where
   pub open' : marked ends_job (job_of e) before ≡ false
 
 -- a line without a fault is sound
-pub faultless_sound : (n : ℕ) (before : History) (e : Event) → event_fault n before e ≡ none → Sound n before e
+pub faultless_sound : (n : ℕ) (before : History) (e : Event) → event_fault n before e ≡ None → Sound n before e
 unfolding event_fault
 faultless_sound n before e h =
     let t = picked_none (ltb judged_lines n) (not (leb 1 (job_of e) && leb (job_of e) judged_jobs)) (above e) (marked ends_job (job_of e) before) TooManyLines JobOutside CellAbove Ended h in
@@ -62,19 +62,19 @@ unfolding first_fault events_from
 one_line_lem codes jobs cells n p m before = refl
 
 -- a fault decides, and without one the lines after decide
-found_here : (o : Option Refusal) (n : ℕ) (later : Found) (why : Refusal) → o ≡ some why → Faulty n why ≡ or_later o n later
+found_here : (o : Option Refusal) (n : ℕ) (later : Found) (why : Refusal) → o ≡ Some why → Faulty n why ≡ or_later o n later
 unfolding or_later
 found_here o n later why e = rw e
 
-found_later : (o : Option Refusal) (n : ℕ) (later : Found) → o ≡ none → or_later o n later ≡ later
+found_later : (o : Option Refusal) (n : ℕ) (later : Found) → o ≡ None → or_later o n later ≡ later
 unfolding or_later
 found_later o n later e = rw e
 
 -- where nothing is found this line has no fault
-none_here : (o : Option Refusal) (n : ℕ) (later : Found) → or_later o n later ≡ Faultless → o ≡ none
+none_here : (o : Option Refusal) (n : ℕ) (later : Found) → or_later o n later ≡ Faultless → o ≡ None
 unfolding or_later
-none_here none n later e = refl
-none_here (some why) n later e = absurd (let q : ◌≡◌ {A = ℕ} 0 1 = cc in omega arith)
+none_here None n later e = refl
+none_here (Some why) n later e = absurd (let q : ◌≡◌ {A = ℕ} 0 1 = cc in omega arith)
 
 module _ (codes jobs cells : List ℕ) where
   -- the line and the history with it
@@ -97,14 +97,14 @@ module _ (codes jobs cells : List ℕ) where
         ∙ rw (snoc p, add-one (p + 1), add-one p)
 
     -- a line without a fault is passed
-    pub at_more : (p : ℕ) → p < n → none ≡ event_fault (p + 1) (history_by codes jobs cells p) (event_at codes jobs cells p) → At p → At (p + 1)
+    pub at_more : (p : ℕ) → p < n → None ≡ event_fault (p + 1) (history_by codes jobs cells p) (event_at codes jobs cells p) → At p → At (p + 1)
     unfolding At
     at_more p h f a =
         next_line p h a
         ∙ found_later (event_fault (p + 1) (history_by codes jobs cells p) (event_at codes jobs cells p)) (p + 1) (first_fault (p + 1 + 1) (history_by codes jobs cells (p + 1)) (events_from codes jobs cells (p + 1) (n - (p + 1)))) (sym f)
 
     -- a faulty one is found
-    pub at_found : (p : ℕ) (why : Refusal) → p < n → some why ≡ event_fault (p + 1) (history_by codes jobs cells p) (event_at codes jobs cells p) → At p → Faulty (p + 1) why ≡ all
+    pub at_found : (p : ℕ) (why : Refusal) → p < n → Some why ≡ event_fault (p + 1) (history_by codes jobs cells p) (event_at codes jobs cells p) → At p → Faulty (p + 1) why ≡ all
     at_found p why h f a =
         found_here (event_fault (p + 1) (history_by codes jobs cells p) (event_at codes jobs cells p)) (p + 1) (first_fault (p + 1 + 1) (history_by codes jobs cells (p + 1)) (events_from codes jobs cells (p + 1) (n - (p + 1)))) why (sym f)
         ∙ sym (next_line p h a)
@@ -161,7 +161,7 @@ module _ (codes jobs cells : List ℕ) where
         (sym (ap (λ t. t && leb 64 (get_or cells p 0)) (lt-ltb (get_or codes p 0) 3 h)) ∙ sym (above_of (get_or codes p 0) (get_or jobs p 0) (get_or cells p 0)) ∙ (line_sound p b).low)
 
 -- the job of a line without a fault had not ended
-pub open_line : (codes jobs cells : List ℕ) (p : ℕ) → none ≡ event_fault (p + 1) (history_by codes jobs cells p) (event_at codes jobs cells p) → marked ends_job (get_or jobs p 0) (history_by codes jobs cells p) ≡ false
+pub open_line : (codes jobs cells : List ℕ) (p : ℕ) → None ≡ event_fault (p + 1) (history_by codes jobs cells p) (event_at codes jobs cells p) → marked ends_job (get_or jobs p 0) (history_by codes jobs cells p) ≡ false
 unfolding event_at
 open_line codes jobs cells p g =
     subst (λ j. marked ends_job j (history_by codes jobs cells p) ≡ false) (job_of_lem (get_or codes p 0) (get_or jobs p 0) (get_or cells p 0))

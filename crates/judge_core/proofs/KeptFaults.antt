@@ -1,10 +1,10 @@
 -- The fault of one kept line, from what the code tests, and the flags of ended jobs after one line more.
 -- Assumes nothing.
+use Rattle.std.specs.Prelude.{Option, None, Some}
 use Prim.Native.Nat.{ℕ, suc, ◌+◌, ◌≤◌, ◌<◌}
 use mathlib.Core.Path.{◌≡◌, refl, sym, ap, ◌∙◌}
 use mathlib.Core.Bool.{Bool, true, false, not, ◌&&◌, ◌||◌, or-false}
 use mathlib.Core.List.{List, [], ◌∷◌}
-use mathlib.Core.Option.{Option, none, some}
 use native.Mathlib.Numerals.{add-one}
 use native.Mathlib.Omega.{arith}
 use lib.Dec.{eqb, ltb, leb}
@@ -70,13 +70,13 @@ module _ (codes jobs cells : List ℕ) (p : ℕ) where
       (ends_line (get_or codes p 0) (get_or jobs p 0) (get_or cells p 0) j [] ∙ rw (marked_none ends_job j) (or-false (eqb (get_or jobs p 0) j && (eqb (get_or codes p 0) 3 || eqb (get_or codes p 0) 4))))
 
   -- a line too many is refused whatever it is
-  pub fault_many : (before : History) → 4096 ≤ p → some TooManyLines ≡ event_fault (p + 1) before (event_at codes jobs cells p)
+  pub fault_many : (before : History) → 4096 ≤ p → Some TooManyLines ≡ event_fault (p + 1) before (event_at codes jobs cells p)
   unfolding event_fault
   fault_many before h = rw (lt-ltb 4096 (p + 1) (omega arith))
 
   module _ (before : History) (h : p < 4096) (j : ℕ) (q : j ≡ get_or jobs p 0) (small : j < 256) where
     -- the tests that are left of any other
-    fault_is : event_fault (p + 1) before (event_at codes jobs cells p) ≡ pick (eqb j 0) (some JobOutside) (pick (ltb (get_or codes p 0) 3 && leb 64 (get_or cells p 0)) (some CellAbove) (pick (marked ends_job j before) (some Ended) none))
+    fault_is : event_fault (p + 1) before (event_at codes jobs cells p) ≡ pick (eqb j 0) (Some JobOutside) (pick (ltb (get_or codes p 0) 3 && leb 64 (get_or cells p 0)) (Some CellAbove) (pick (marked ends_job j before) (Some Ended) None))
     unfolding event_fault event_at
     fault_is =
         rw (le-ltb 4096 (p + 1) (omega arith), job_of_lem (get_or codes p 0) (get_or jobs p 0) (get_or cells p 0), above_of (get_or codes p 0) (get_or jobs p 0) (get_or cells p 0), ← q, le-leb j 255 (omega arith))
@@ -85,22 +85,22 @@ module _ (codes jobs cells : List ℕ) (p : ℕ) where
         (λ f. rw (f, le-leb 1 j (omega (arith, eqb-false j 0 f)))))
 
     -- 12
-    pub fault_outside : j ≡ 0 → some JobOutside ≡ event_fault (p + 1) before (event_at codes jobs cells p)
+    pub fault_outside : j ≡ 0 → Some JobOutside ≡ event_fault (p + 1) before (event_at codes jobs cells p)
     fault_outside z = sym (fault_is ∙ rw (eq-eqb j 0 z))
 
     module _ (z : j ≡ 0 → ⊥) where
       module _ (b : Bool) (e : b ≡ (ltb (get_or codes p 0) 3 && leb 64 (get_or cells p 0))) where
         -- 2
-        pub fault_above : b ≡ true → some CellAbove ≡ event_fault (p + 1) before (event_at codes jobs cells p)
+        pub fault_above : b ≡ true → Some CellAbove ≡ event_fault (p + 1) before (event_at codes jobs cells p)
         fault_above t = sym (fault_is ∙ rw (ne_eqb j 0 z, sym e ∙ t))
 
         module _ (low : b ≡ false) (flags : List Bool) (f : Flagged flags before) where
           -- 13
-          pub fault_ended : get_or flags j false ≡ true → some Ended ≡ event_fault (p + 1) before (event_at codes jobs cells p)
+          pub fault_ended : get_or flags j false ≡ true → Some Ended ≡ event_fault (p + 1) before (event_at codes jobs cells p)
           fault_ended t = sym (fault_is ∙ rw (ne_eqb j 0 z, sym e ∙ low, sym (f.says j small) ∙ t))
 
           -- or none
-          pub fault_none : get_or flags j false ≡ false → none ≡ event_fault (p + 1) before (event_at codes jobs cells p)
+          pub fault_none : get_or flags j false ≡ false → None ≡ event_fault (p + 1) before (event_at codes jobs cells p)
           fault_none t = sym (fault_is ∙ rw (ne_eqb j 0 z, sym e ∙ low, sym (f.says j small) ∙ t))
 
 -- before the first line nobody has ended
@@ -123,10 +123,10 @@ flags_more codes jobs cells p j flags b f q small over e =
     }
 
 -- a fault that is due, and none
-pub due_some : (r : Fault) (o : Option Refusal) (why : Refusal) → r ≡ Due why → due_of r ≡ o → some why ≡ o
+pub due_some : (r : Fault) (o : Option Refusal) (why : Refusal) → r ≡ Due why → due_of r ≡ o → Some why ≡ o
 due_some r o why e h = ap due_of (sym e) ∙ h
 
-pub due_none : (r : Fault) (o : Option Refusal) → r ≡ Nothing → due_of r ≡ o → none ≡ o
+pub due_none : (r : Fault) (o : Option Refusal) → r ≡ Nothing → due_of r ≡ o → None ≡ o
 due_none r o e h = ap due_of (sym e) ∙ h
 
 -- a line that is no action has no cell, and one that is has the one that is looked at

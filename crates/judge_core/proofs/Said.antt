@@ -1,10 +1,10 @@
 -- The verdict: an order if no job remains, else the knot, with the jobs that fill the buffer.
 -- Assumes nothing.
+use Rattle.std.specs.Prelude.{Option, None, Some}
 use Prim.Native.Nat.{ℕ, ◌+◌, ◌-◌, ◌≤◌, ◌<◌, min}
 use mathlib.Core.Path.{◌≡◌, refl, sym, ap, ◌∙◌, subst}
 use mathlib.Core.Bool.{Bool, true}
 use mathlib.Core.List.{List, [], ◌∷◌}
-use mathlib.Core.Option.{Option, none, some}
 use native.Mathlib.Nat.{zero-add}
 use native.Mathlib.Omega.{arith}
 use lib.ListN.{length, take, drop, length-append, length-take, length-drop}
@@ -70,23 +70,23 @@ take_within l part k e q =
     omega arith
 
 -- where nobody is the first there is nobody
-first_nobody : (js : List ℕ) → first (λ j. true) js ≡ none → js ≡ []
+first_nobody : (js : List ℕ) → first (λ j. true) js ≡ None → js ≡ []
 unfolding first
 first_nobody [] h = refl
 first_nobody (j ∷ js) h =
-    let here' : some j ≡ none = h in
+    let here' : Some j ≡ None = h in
     let z : ◌≡◌ {A = ℕ} 0 1 = cc in
     absurd (omega arith)
 
 -- and the first job leads the others
-first_leads : (js : List ℕ) (s : ℕ) → first (λ j. true) js ≡ some s → (rest : List ℕ) × (js ≡ s ∷ rest)
+first_leads : (js : List ℕ) (s : ℕ) → first (λ j. true) js ≡ Some s → (rest : List ℕ) × (js ≡ s ∷ rest)
 unfolding first
 first_leads [] s h =
-    let here' : ◌≡◌ {A = Option ℕ} none (some s) = h in
+    let here' : ◌≡◌ {A = Option ℕ} None (Some s) = h in
     let z : ◌≡◌ {A = ℕ} 0 1 = cc in
     absurd (omega arith)
 first_leads (j ∷ js) s h =
-    let here' : some j ≡ some s = h in
+    let here' : Some j ≡ Some s = h in
     let e : j ≡ s = cc in
     (js, ap (λ i. i ∷ js) e)
 

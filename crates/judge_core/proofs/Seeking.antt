@@ -1,10 +1,10 @@
 -- The smallest remaining job that passes a test, searched from the smallest number on.
 -- Assumes nothing.
+use Rattle.std.specs.Prelude.{Option, None, Some}
 use Prim.Native.Nat.{ℕ, zero, suc, ◌+◌, ◌-◌, ◌≤◌, ◌<◌}
 use mathlib.Core.Path.{◌≡◌, refl, sym, ap, ◌∙◌, subst}
 use mathlib.Core.Bool.{Bool, true, false}
 use mathlib.Core.List.{List}
-use mathlib.Core.Option.{Option, none, some}
 use native.Mathlib.Numerals.{add-one}
 use native.Mathlib.Omega.{arith}
 use lib.ListN.{length, get_or}
@@ -45,7 +45,7 @@ module _ (left : List Bool) where
     pub seek_found : (i : ℕ) (o : Option ℕ) → i < 256 → get_or left i false ≡ true → test i ≡ true → o ≡ first test (left_from left i) → i ≡ or_nobody o
     unfolding put first or_nobody
     seek_found i o h t p e =
-        let there : first test (left_from left i) ≡ some i = rw (left_next i h, t, p) in
+        let there : first test (left_from left i) ≡ Some i = rw (left_next i h, t, p) in
         sym (ap or_nobody (e ∙ there))
 
     -- when all numbers are passed there is none
@@ -53,7 +53,7 @@ module _ (left : List Bool) where
     unfolding left_from listed first or_nobody
     seek_none i o h e =
         let z : 256 - i ≡ 0 = omega arith in
-        let empty : first test (left_from left i) ≡ none = rw z in
+        let empty : first test (left_from left i) ≡ None = rw z in
         sym (ap or_nobody (e ∙ empty))
 
     -- where none of the first i passes, the others are looked at
@@ -90,17 +90,17 @@ module _ (left : List Bool) where
   left_few = listed_few (λ i. get_or left i false) 0 256
 
   -- the job found is one of those left
-  pub found_left : (test : ℕ → Bool) (j : ℕ) → j ≡ or_nobody (first test (left_of left)) → (j ≡ 256 → ⊥) → (first test (left_of left) ≡ some j) × (j < 256)
+  pub found_left : (test : ℕ → Bool) (j : ℕ) → j ≡ or_nobody (first test (left_of left)) → (j ≡ 256 → ⊥) → (first test (left_of left) ≡ Some j) × (j < 256)
   unfolding or_nobody
   found_left test j h n =
       by_one (first test (left_of left))
       (λ q. absurd (n (h ∙ ap or_nobody q)))
       (λ i q.
       let same' : j ≡ i = h ∙ ap or_nobody q in
-      (q ∙ ap some (sym same'), rw same' (left_small i (first_is test (left_of left) i q).0)))
+      (q ∙ ap Some (sym same'), rw same' (left_small i (first_is test (left_of left) i q).0)))
 
   -- where nobody is found there is none
-  pub none_left : (test : ℕ → Bool) (j : ℕ) → j ≡ or_nobody (first test (left_of left)) → j ≡ 256 → first test (left_of left) ≡ none
+  pub none_left : (test : ℕ → Bool) (j : ℕ) → j ≡ or_nobody (first test (left_of left)) → j ≡ 256 → first test (left_of left) ≡ None
   unfolding or_nobody
   none_left test j h n =
       by_one (first test (left_of left)) (λ q. q)

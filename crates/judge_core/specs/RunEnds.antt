@@ -1,6 +1,5 @@
 -- Where runs end, over the arrays that keep a history; from that, which lines are dirty reads, and which writes and increments make them dirty (02, No. 2).
-use Rattle.std.specs.Prelude.{ℕ, zero, suc, ◌-◌, ◌≤◌, ◌<◌, ◌≡◌, Bool, true, false, ◌&&◌, ◌||◌, List, eqb, ltb, leb, length, get_or}
-use Rattle.std.proofs.Math.Option.{Option, none, some}
+use Rattle.std.specs.Prelude.{ℕ, zero, suc, ◌-◌, ◌≤◌, ◌<◌, ◌≡◌, Bool, true, false, ◌&&◌, ◌||◌, List, eqb, ltb, leb, length, get_or, Option, None, Some}
 use Rattle.laws.specs.Choice.{pick}
 use Rattle.terms.specs.Limits.{judged_lines}
 use Rattle.conflict.specs.Dirty.{ReadOf}
@@ -64,5 +63,5 @@ pub record LastWrite (codes cells ends : List ℕ) (p q : ℕ) : Type 0 where
 
 -- clean, or reader and writer of the first dirty read
 unfoldable pub dirt_of : Option ReadOf → Dirt
-dirt_of none = Clean
-dirt_of (some d) = Read d.reader d.writer
+dirt_of None = Clean
+dirt_of (Some d) = Read d.reader d.writer

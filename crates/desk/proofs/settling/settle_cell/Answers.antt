@@ -38,4 +38,4 @@ pub loop-n-preserved : goal.loop-n-preserved
 loop-n-preserved c =
     let e : length (take c.args.count c.args.woken.now) ≡ c.args.count = length-take-le c.args.count c.args.woken.now (omega arith) in
     let b : c.loop-n.k < 32 = turn_room _ _ _ _ _ c.requires.0 _ c.loop-n.invariant.1 c.front_grant.ensures c.in-To.is (rw e c.requires.1) in
-    (omega arith, turn_granted _ _ _ _ _ c.requires.0 _ c.loop-n.invariant.1 c.front_grant.ensures c.in-To.is c.code_of.ensures (omega arith))
+    (omega arith, turn_granted _ _ _ _ _ c.requires.0 _ c.loop-n.invariant.1 c.front_grant.ensures c.in-To.is c.from.ensures (omega arith))

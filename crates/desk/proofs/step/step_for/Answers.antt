@@ -80,7 +80,7 @@ returns-in-Keep c =
 pub returns-in-Take : goal.returns-in-Take
 returns-in-Take c =
     let a = c.args in
-    taken (desk_of a.next.now a.number.now a.status.now a.at.now a.ask.now a.held.now) a.woken.now (byte_of a.letter) a.job a.cell (letter_of_byte a.letter) c.plan_for-m.ensures c.answer_to-answer.ensures c.in-Take.is c.code_of.ensures
+    taken (desk_of a.next.now a.number.now a.status.now a.at.now a.ask.now a.held.now) a.woken.now (byte_of a.letter) a.job a.cell (letter_of_byte a.letter) c.plan_for-m.ensures c.answer_to-answer.ensures c.in-Take.is c.from.ensures
 
 pub returns-in-Stay : goal.returns-in-Stay
 returns-in-Stay c =
