@@ -13,6 +13,7 @@ ghost use Rattle.clerk.specs.Parts.{Added, Besides, asking, noted_bytes, first_r
 use conflict::action::{Action, Kind};
 use conflict::modes::recorded_kind;
 use desk::wakes::wake_at;
+use desk_arrays::board::Waits;
 use desks::Answer;
 use program_rules::View;
 use terms::letters::{Ask, Letter};
@@ -217,7 +218,12 @@ fn put_wakes<'a>(
         if count <= i {
             break;
         }
-        let a = wake_at(number, cells, ask, woken[i] as usize);
+        let w = Waits {
+            number,
+            cell: cells,
+            ask,
+        };
+        let a = wake_at(w, woken[i] as usize);
         next = put_wake(view, out, next, line, a);
         i += 1;
     }

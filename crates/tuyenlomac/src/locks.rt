@@ -12,6 +12,7 @@ use crate::answers::{Answered, in_three};
 use conflict::action::Kind;
 use desk::step::step_on;
 use desk::wakes::wake_at;
+use desk_arrays::board::Waits;
 use desk_arrays::codes::FREE;
 use desk_arrays::state::{Desk, SPOTS};
 use desk_chain::chain::chain;
@@ -66,7 +67,7 @@ fn tell_wakes<'a>(
         if count <= i {
             break;
         }
-        let a = wake_at(number, cell, ask, woken[i] as usize);
+        let a = wake_at(Waits { number, cell, ask }, woken[i] as usize);
         let kind = a.kind;
         jobs[i] = a.job;
         cells[i] = a.cell;
