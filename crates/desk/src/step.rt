@@ -7,7 +7,6 @@ ghost use Rattle.terms.specs.Limits.{places};
 
 use crate::settling::end_run;
 use crate::wakes::tell;
-use conflict::modes::code_of;
 use desk_arrays::board::{Board, Waits};
 use desk_arrays::codes::{RUNNING, WAITING, ask_code};
 use desk_arrays::moves::{Ending, Move};

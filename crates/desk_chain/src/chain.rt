@@ -5,7 +5,7 @@ ghost use Rattle.terms.specs.Limits.{cells, places};
 ghost use Rattle.desk_rules.specs.Chain.{younger_than};
 ghost use Rattle.desk_chain.specs.Chains.{holds_above, holder_above, next_at, chain_from, asked_on, waits_within, waiter_above, next_chain};
 
-use conflict::modes::{mode_is_free, mode_of};
+use conflict::modes::{Mode, mode_is_free};
 use desk_arrays::board::Board;
 use desk_arrays::codes::{FREE, SENT_BACK, WAITING};
 use desk_arrays::state::{Desk, ROWS};
@@ -23,7 +23,7 @@ fn holds_above(b: Board, c: usize, age: u32, q: usize) -> bool
     requires { (c < cells) × (q < places) }
     ensures { result ≡ holds_above b.entry.number.now b.entry.held.now c age q }
 {
-    if mode_is_free(mode_of(b.held[c * PLACES + q])) {
+    if mode_is_free(Mode::from(b.held[c * PLACES + q])) {
         return false;
     }
     age < b.number[q]

@@ -1,6 +1,5 @@
 // What a step is to do, decided over lent arrays before anything changes (01, rules 1 to 3; 01, Refusals by number).
-ghost use Rattle.std.specs.Prelude.{◌<◌, ◌≡◌, ◌&&◌};
-ghost use Rattle.terms.specs.declared.letters.Lettered.TheVariants.{Known};
+ghost use Rattle.std.specs.Prelude.{◌<◌, ◌≡◌, ◌&&◌, Some};
 ghost use Rattle.desk_arrays.specs.Places.{mode_at, nobody_waits, agrees_at, older_at, oldest_of};
 ghost use Rattle.desk_arrays.specs.Moves.{found_at, standing_of, begin_move, commit_move, give_up_move, retry_move, promotes, enters, decided, ask_move, move_for};
 ghost use Rattle.terms.specs.Limits.{cells, places};
@@ -191,7 +190,7 @@ fn ask_move(b: Board, job: u32, c: u32, a: Ask) -> Move
 // The move of a request, by its letter.
 #[tactic(auto, unfolding(desk_arrays::specs::Moves::move_for))]
 pub fn plan_for(next: u64, b: Board, letter: Letter, job: u32, c: u32) -> Move
-    ensures { result ≡ move_for next b.entry.number.now b.entry.status.now b.entry.cell.now b.entry.held.now job c (Known letter) }
+    ensures { result ≡ move_for next b.entry.number.now b.entry.status.now b.entry.cell.now b.entry.held.now job c (Some letter) }
 {
     match letter {
         Letter::Back => Move::Refuse(Refusal::UnknownKind),
