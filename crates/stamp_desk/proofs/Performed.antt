@@ -23,7 +23,6 @@ use Rattle.desks.specs.declared.Answer.{Answer}
 use Rattle.desks.specs.declared.Answer.TheVariants.{No}
 use Rattle.desks.specs.Opening.{opening_of}
 use Rattle.stamp_arrays.specs.declared.state.Stamps.{Stamps}
-use Rattle.stamp_arrays.specs.declared.state.Stamped.{Stamped}
 use Rattle.stamp_arrays.specs.declared.moves.Move.{Move}
 use Rattle.stamp_arrays.specs.Steps.{late_with, opened, begin_move, found_at, close_move, retry_move, act_move, ask_move, move_for, carried, answer_to, move_of, step_of}
 use Rattle.stamp_desk.specs.InPlace.{Fits, StepsTo}
@@ -95,7 +94,3 @@ refused_byte d kind job c h = record { desk = rw h; said = rw h }
 -- a step by a letter is the step by the byte that is the letter's
 pub by_letter : {d e : Stamps} {kind job c : ℕ} {letter : Letter} {x : Answer} → letter_of kind ≡ Known letter → StepsTo d (byte_of letter) job c e x → StepsTo d kind job c e x
 by_letter {d} {e} {kind} {job} {c} {letter} {x} h s = subst (λ k. StepsTo d k job c e x) (byte_of_letter kind letter h) s
-
--- what the fields hold and the answer make up the step by value
-pub step_whole : {d e : Stamps} {kind job c : ℕ} {x : Answer} → StepsTo d kind job c e x → ◌≡◌ {A = Stamped} (record { stamps = e; answer = x }) (step_of d kind job c)
-step_whole s = λ i. record { stamps = s.desk i; answer = s.said i }

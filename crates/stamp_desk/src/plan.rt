@@ -27,7 +27,7 @@ fn late_to_write(reader: u32, writer: u32, job: u32) -> bool
 }
 
 // Whether a job's request is too late, by the cell's two numbers; equal numbers go. An increment is late exactly when a write is.
-#[tactic(auto, unfolding(stamp_arrays::specs::Steps::late_with, stamp_rules::specs::Rules::late, stamp_rules::specs::Rules::late_to_read), using(crate::proofs::Late::late_increment, crate::proofs::Late::late_write))]
+#[tactic(auto, unfolding(stamp_arrays::specs::Steps::late_with, stamp_rules::specs::Rules::late, stamp_rules::specs::Rules::late_to_read, stamp_rules::specs::Rules::late_to_write))]
 fn is_late(reader: u32, writer: u32, job: u32, a: Ask) -> bool
     ensures { result ≡ late_with reader writer job a }
 {

@@ -144,7 +144,7 @@ pub fn step_in(d: &mut Stamps, letter: Letter, job: u32, cell: u32) -> Answer
 }
 
 // One step by value, by a byte: takes the desk, and returns the new desk and the answer.
-#[tactic(auto, using(crate::proofs::Performed::by_letter, crate::proofs::Performed::refused_byte, crate::proofs::Performed::step_whole))]
+#[tactic(auto, using(crate::proofs::Performed::by_letter, crate::proofs::Performed::refused_byte))]
 pub fn step(d: Stamps, kind: u8, job: u32, cell: u32) -> Stamped
     ensures { result ≡ step_of d kind job cell }
 {
