@@ -357,8 +357,8 @@ fn open(rt: &HostRuntime, first: u32) {
 // The same for the timestamp desk.
 fn open_stamps(rt: &HostRuntime, first: u32) {
     match Stamps::start(first) {
-        stamp_arrays::state::Start::Ready(desk) => answer_stamps(rt, desk),
-        stamp_arrays::state::Start::Refused(why) => put_refusal(rt, why),
+        Ok(desk) => answer_stamps(rt, desk),
+        Err(why) => put_refusal(rt, why),
     }
 }
 
