@@ -150,8 +150,8 @@ pub fn step(d: Stamps, kind: u8, job: u32, cell: u32) -> Stamped
 {
     let mut stamps = d;
     let answer = match letter_of(kind) {
-        Lettered::Unknown => Answer::No(Refusal::UnknownKind),
-        Lettered::Known(l) => step_in(&mut stamps, l, job, cell),
+        None => Answer::No(Refusal::UnknownKind),
+        Some(l) => step_in(&mut stamps, l, job, cell),
     };
     Stamped { stamps, answer }
 }
