@@ -30,7 +30,7 @@ module _ (codes jobs cells buffer : List ℕ) (n : ℕ) where
 
     module _ (q : Ok tt ≡ first_fault 1 [] (history_by codes jobs cells n)) where
       -- or else the verdict
-      kept_decided : kept_judgement codes jobs cells buffer n ≡ say_history buffer (history_by codes jobs cells n) (dirty_of (history_by codes jobs cells n))
+      pub kept_decided : kept_judgement codes jobs cells buffer n ≡ say_history buffer (history_by codes jobs cells n) (dirty_of (history_by codes jobs cells n))
       unfolding kept_judgement say_found
       kept_decided = rw (le-ltb (length buffer) judged_jobs h, sym q)
 

@@ -1,3 +1,4 @@
+pub mod Optional
 pub mod Tabled
 pub mod Listing
 pub mod Events

@@ -32,7 +32,8 @@ use Rattle.judge_core.specs.Preceding.{walk_by}
 use Rattle.judge_core.specs.Taking.{Took}
 use Rattle.judge_core.specs.Rounds.{RoundAt}
 use Rattle.judge_core.proofs.Turning.{turn_length}
-use Rattle.judge_core.proofs.Seeking.{as_some, as_none, left_position, found_small, left_few, left_is}
+use Rattle.judge_core.proofs.Optional.{as_some, as_none}
+use Rattle.judge_core.proofs.Seeking.{left_position, found_small, left_few, left_is}
 use Rattle.judge_core.proofs.Trail.{walk_known}
 
 -- how many jobs a cycle on a trail has

@@ -13,23 +13,11 @@ use Rattle.laws.specs.Choice.{by_test, not_both}
 use Rattle.laws.specs.Lists.{member, put}
 use Rattle.judge_rules.specs.Order.{first}
 use Rattle.judge_rules.proofs.Firsts.{by_one, first_is}
-use Rattle.std.specs.Prelude.{None, Some}
 use Rattle.std.specs.List.{position, position_from}
 use Rattle.std.proofs.lemmas.Iterator.Adapters.{position_from-zero}
 use Rattle.judge_core.specs.Lists.{listed, as_option}
 use Rattle.judge_core.specs.Left.{left_of, left_from, or_nobody}
 use Rattle.judge_core.proofs.Listing.{listed_is, listed_has, listed_few}
-
--- the optional value behind the code's
-pub as_some : {A : Type 0} (o : Option A) (x : A) → Some x ≡ as_option o → o ≡ some x
-unfolding as_option
-as_some none x e = absurd (let z : ◌≡◌ {A = ℕ} 0 1 = cc in omega arith)
-as_some (some y) x e = let q : x ≡ y = cc in ap some (sym q)
-
-pub as_none : {A : Type 0} (o : Option A) → None ≡ as_option o → o ≡ none
-unfolding as_option
-as_none none e = refl
-as_none (some y) e = absurd (let z : ◌≡◌ {A = ℕ} 0 1 = cc in omega arith)
 
 -- the first flag that is set is that of the first number listed
 position_listed : (f : ℕ → Bool) (bs : List Bool) (k : ℕ) → ((i : ℕ) → i < length bs → f (k + i) ≡ get_or bs i false) → position_from (λ b. b) k bs ≡ as_option (first (λ j. true) (listed f k (length bs)))

@@ -20,7 +20,8 @@ use Rattle.std.specs.Prelude.{None, Some}
 use Rattle.judge_core.specs.Lists.{as_option}
 use Rattle.judge_core.specs.Left.{left_of}
 use Rattle.judge_core.proofs.Listing.{listed_is, listed_has, listed_few, listed_only, listed_ascending}
-use Rattle.judge_core.proofs.Seeking.{as_some, as_none, found_small}
+use Rattle.judge_core.proofs.Optional.{as_some, as_none}
+use Rattle.judge_core.proofs.Seeking.{found_small}
 
 -- a flag struck takes its job away
 left_without : (left : List Bool) (j : ℕ) → length left ≡ 256 → j < 256 → left_of (set left j false) ≡ without j (left_of left)
