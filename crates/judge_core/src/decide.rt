@@ -51,8 +51,9 @@ fn knot(predecessors: &[usize; SLOTS], start: usize, order: &mut [u8]) -> Verdic
 {
     let mut trail = [0u8; STOPS];
     let round = walk_back(predecessors, start, &mut trail);
-    put_turned(order, &trail[round.from..round.to]);
-    Verdict::Knot(round.to - round.from)
+    let length = round.len();
+    put_turned(order, &trail[round]);
+    Verdict::Knot(length)
 }
 
 // The verdict on a history without a dirty read, with its jobs in the buffer's first places. The buffer is long enough.

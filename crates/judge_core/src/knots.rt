@@ -9,13 +9,7 @@ ghost use Rattle.judge_core.specs.Sizes.{slots, stops};
 
 use crate::order::NOBODY;
 use crate::sizes::{SLOTS, STOPS};
-
-// A part of a trail: from one place up to another.
-#[derive(Clone, Copy)]
-pub struct Round {
-    pub from: usize,
-    pub to: usize,
-}
+use std::ops::Range;
 
 // Where a job stands among those seen, if it does.
 fn place_of(seen: &[u8], job: u8) -> Option<usize>
@@ -26,9 +20,13 @@ fn place_of(seen: &[u8], job: u8) -> Option<usize>
 
 // Walks back from a job along smallest predecessors until a job comes again. Each job goes in front of the one before; the cycle is the trail from the second occurrence up to the first.
 #[tactic(auto, using(crate::proofs::Trail::walked_more, crate::proofs::Trail::walked_none, crate::proofs::Trail::walked_off, crate::proofs::Trail::walked_out, crate::proofs::Trail::walked_round))]
-pub fn walk_back(predecessors: &[usize; SLOTS], start: usize, trail: &mut [u8; STOPS]) -> Round
+pub fn walk_back(
+    predecessors: &[usize; SLOTS],
+    start: usize,
+    trail: &mut [u8; STOPS],
+) -> Range<usize>
     requires { start < slots }
-    ensures { RoundAt (walk_by predecessors.now stops [] start) trail.new result.from result.to }
+    ensures { RoundAt (walk_by predecessors.now stops [] start) trail.new result.start result.end }
 {
     let mut j = start;
     for at in (0..STOPS).rev() {
@@ -36,17 +34,14 @@ pub fn walk_back(predecessors: &[usize; SLOTS], start: usize, trail: &mut [u8; S
         let again = place_of(&trail[at + 1..], job);
         trail[at] = job;
         if let Some(ahead) = again {
-            return Round {
-                from: at,
-                to: at + 1 + ahead,
-            };
+            return at..at + 1 + ahead;
         }
         j = predecessors[j];
         if NOBODY <= j {
             break;
         }
     }
-    Round { from: 0, to: 0 }
+    0..0
 }
 
 // The place of the smallest job of a round.

@@ -70,21 +70,18 @@ pub fn take_away(graph: Graph, jobs: [bool; SLOTS]) -> Taken
     ensures placed_after { (take result.count result.placed ≡ order_of (edges_of graph.entry) (left_of jobs)) × (result.count ≡ length (order_of (edges_of graph.entry) (left_of jobs))) }
     ensures known { Known (edges_of graph.entry) result.left result.predecessors slots }
 {
-    let mut left = jobs;
-    let mut placed = [0; SLOTS];
-    let mut predecessors = [0; SLOTS];
-    let mut count = 0;
-    while let Some(j) = ready_job(graph, &left, &mut predecessors) {
-        placed[count] = j as u8;
-        left[j] = false;
-        count += 1;
+    let mut taken = Taken {
+        left: jobs,
+        placed: [0; SLOTS],
+        count: 0,
+        predecessors: [0; SLOTS],
+    };
+    while let Some(j) = ready_job(graph, &taken.left, &mut taken.predecessors) {
+        taken.placed[taken.count] = j as u8;
+        taken.left[j] = false;
+        taken.count += 1;
     }
-    Taken {
-        left,
-        placed,
-        count,
-        predecessors,
-    }
+    taken
 }
 
 // The smallest remaining job.

@@ -8,7 +8,7 @@ use Rattle.judge_core.proofs.TakingAway.{Going}
 use Rattle.judge_core.proofs.order.take_away.Given as goal
 
 abbrev pub invariant-loop-j : goal.invariant-loop-j
-invariant-loop-j l = Going (edges_of l.graph) (left_of l.initial.left) l.left l.placed l.count × Preceding (edges_of l.graph) l.left l.predecessors × (get_or l.left 0 false ≡ false)
+invariant-loop-j l = Going (edges_of l.graph) (left_of l.initial.taken.left) l.taken.left l.taken.placed l.taken.count × Preceding (edges_of l.graph) l.taken.left l.taken.predecessors × (get_or l.taken.left 0 false ≡ false)
 
 abbrev pub decreases-loop-j : goal.decreases-loop-j
-decreases-loop-j l = length (left_of l.left)
+decreases-loop-j l = length (left_of l.taken.left)
