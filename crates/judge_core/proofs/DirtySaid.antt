@@ -3,10 +3,9 @@
 use Prim.Native.Nat.{ℕ}
 use mathlib.Core.Path.{◌≡◌, refl, sym}
 use mathlib.Core.List.{List, [], ◌∷◌, ◌++◌}
-use mathlib.Core.Option.{Option, none, some}
 use native.Mathlib.Omega.{arith}
 use lib.ListN.{drop}
-use Rattle.std.specs.Prelude.{None, Some}
+use Rattle.std.specs.Prelude.{None, Some, Option}
 use Rattle.conflict.specs.History.{History}
 use Rattle.conflict.specs.Dirty.{ReadOf, dirty_of}
 use Rattle.judge_rules.specs.declared.verdict.Verdict.{Verdict}
@@ -18,18 +17,18 @@ use Rattle.judge_core.specs.declared.dirty.Dirt.{Dirt}
 use Rattle.judge_core.specs.RunEnds.{dirt_of}
 
 -- clean is said where there is no dirty read
-none_is : (o : Option ReadOf) → None ≡ dirt_of o → o ≡ none
+none_is : (o : Option ReadOf) → None ≡ dirt_of o → o ≡ None
 unfolding dirt_of
-none_is none e = refl
-none_is (some d) e = absurd (let z : ◌≡◌ {A = ℕ} 0 1 = cc in omega arith)
+none_is None e = refl
+none_is (Some d) e = absurd (let z : ◌≡◌ {A = ℕ} 0 1 = cc in omega arith)
 
 -- and else its reader and its writer
-some_is : (o : Option ReadOf) (d : Dirt) → Some d ≡ dirt_of o → o ≡ some (record { reader = d.reader; writer = d.writer })
+some_is : (o : Option ReadOf) (d : Dirt) → Some d ≡ dirt_of o → o ≡ Some (record { reader = d.reader; writer = d.writer })
 unfolding dirt_of
-some_is none d e = absurd (let z : ◌≡◌ {A = ℕ} 0 1 = cc in omega arith)
-some_is (some r) d e =
+some_is None d e = absurd (let z : ◌≡◌ {A = ℕ} 0 1 = cc in omega arith)
+some_is (Some r) d e =
     let q : d ≡ record { reader = r.reader; writer = r.writer } = cc in
-    λ t. some (record { reader = (sym q t).reader; writer = (sym q t).writer })
+    λ t. Some (record { reader = (sym q t).reader; writer = (sym q t).writer })
 
 module _ (buffer : List ℕ) (h : History) where
   -- of a clean history the order or the knot is told

@@ -4,9 +4,7 @@ use Prim.Native.Nat.{ℕ, zero, suc, ◌+◌, ◌-◌, ◌≤◌, ◌<◌}
 use mathlib.Core.Path.{◌≡◌, refl, sym, ap, ◌∙◌, subst}
 use mathlib.Core.Bool.{Bool, true, false, not, ◌&&◌, ◌||◌}
 use mathlib.Core.List.{List, [], ◌∷◌, ◌++◌}
-use mathlib.Core.Option.{Option, none, some}
-use Rattle.std.specs.Prelude.{None, Some, Ok, Err}
-use Rattle.judge_core.specs.Lists.{as_option}
+use Rattle.std.specs.Prelude.{None, Some, Ok, Err, Option}
 use native.Mathlib.Numerals.{add-one}
 use native.Mathlib.Omega.{arith}
 use lib.Dec.{eqb, ltb, leb}
@@ -23,10 +21,9 @@ use Rattle.judge_rules.specs.Arrays.{event_by, history_by}
 use Rattle.judge_core.specs.Kept.{job_of, above, ends_job, event_fault, Found, or_later, first_fault, event_at, Flagged}
 use Rattle.judge_core.proofs.Events.{events_from, history_events}
 use Rattle.judge_core.proofs.KeptFaults.{job_of_lem, above_of, flags_more}
-use Rattle.judge_core.proofs.Optional.{as_some, as_none}
 
 -- none of the tests in a row holds where nothing is picked
-picked_none : {A : Type 0} (a b c d : Bool) (w x y z : A) → pick a (some w) (pick b (some x) (pick c (some y) (pick d (some z) none))) ≡ none → (a ≡ false) × (b ≡ false) × (c ≡ false) × (d ≡ false)
+picked_none : {A : Type 0} (a b c d : Bool) (w x y z : A) → pick a (Some w) (pick b (Some x) (pick c (Some y) (pick d (Some z) None))) ≡ None → (a ≡ false) × (b ≡ false) × (c ≡ false) × (d ≡ false)
 picked_none true b c d w x y z e = absurd (let q : ◌≡◌ {A = ℕ} 0 1 = cc in omega arith)
 picked_none false true c d w x y z e = absurd (let q : ◌≡◌ {A = ℕ} 0 1 = cc in omega arith)
 picked_none false false true d w x y z e = absurd (let q : ◌≡◌ {A = ℕ} 0 1 = cc in omega arith)
@@ -42,7 +39,7 @@ pub record Sound (n : ℕ) (before : History) (e : Event) : Type 0 where
   pub open' : marked ends_job (job_of e) before ≡ false
 
 -- a line without a fault is sound
-pub faultless_sound : (n : ℕ) (before : History) (e : Event) → event_fault n before e ≡ none → Sound n before e
+pub faultless_sound : (n : ℕ) (before : History) (e : Event) → event_fault n before e ≡ None → Sound n before e
 unfolding event_fault
 faultless_sound n before e h =
     let t = picked_none (ltb judged_lines n) (not (leb 1 (job_of e) && leb (job_of e) judged_jobs)) (above e) (marked ends_job (job_of e) before) TooManyLines JobOutside CellAbove Ended h in
@@ -61,19 +58,19 @@ unfolding first_fault events_from
 one_line_lem codes jobs cells n p m before = refl
 
 -- a fault decides, and without one the lines after decide
-found_here : (o : Option Refusal) (n : ℕ) (later : Found) (why : Refusal) → o ≡ some why → Err (record { line = n; why = why }) ≡ or_later o n later
+found_here : (o : Option Refusal) (n : ℕ) (later : Found) (why : Refusal) → o ≡ Some why → Err (record { line = n; why = why }) ≡ or_later o n later
 unfolding or_later
 found_here o n later why e = rw e
 
-found_later : (o : Option Refusal) (n : ℕ) (later : Found) → o ≡ none → or_later o n later ≡ later
+found_later : (o : Option Refusal) (n : ℕ) (later : Found) → o ≡ None → or_later o n later ≡ later
 unfolding or_later
 found_later o n later e = rw e
 
 -- where nothing is found this line has no fault
-none_here : (o : Option Refusal) (n : ℕ) (later : Found) → or_later o n later ≡ Ok tt → o ≡ none
+none_here : (o : Option Refusal) (n : ℕ) (later : Found) → or_later o n later ≡ Ok tt → o ≡ None
 unfolding or_later
-none_here none n later e = refl
-none_here (some why) n later e = absurd (let q : ◌≡◌ {A = ℕ} 0 1 = cc in omega arith)
+none_here None n later e = refl
+none_here (Some why) n later e = absurd (let q : ◌≡◌ {A = ℕ} 0 1 = cc in omega arith)
 
 module _ (codes jobs cells : List ℕ) where
   -- the line and the history with it
@@ -96,16 +93,16 @@ module _ (codes jobs cells : List ℕ) where
         ∙ rw (snoc p, add-one (p + 1), add-one p)
 
     -- a line without a fault is passed
-    at_more : (p : ℕ) → p < n → none ≡ event_fault (p + 1) (history_by codes jobs cells p) (event_at codes jobs cells p) → At p → At (p + 1)
+    at_more : (p : ℕ) → p < n → None ≡ event_fault (p + 1) (history_by codes jobs cells p) (event_at codes jobs cells p) → At p → At (p + 1)
     unfolding At
     at_more p h f a =
         next_line p h a
         ∙ found_later (event_fault (p + 1) (history_by codes jobs cells p) (event_at codes jobs cells p)) (p + 1) (first_fault (p + 1 + 1) (history_by codes jobs cells (p + 1)) (events_from codes jobs cells (p + 1) (n - (p + 1)))) (sym f)
 
     -- a faulty one is found
-    pub at_found : (p : ℕ) (why : Refusal) → p < n → Some why ≡ as_option (event_fault (p + 1) (history_by codes jobs cells p) (event_at codes jobs cells p)) → At p → Err (record { line = p + 1; why = why }) ≡ all
+    pub at_found : (p : ℕ) (why : Refusal) → p < n → Some why ≡ event_fault (p + 1) (history_by codes jobs cells p) (event_at codes jobs cells p) → At p → Err (record { line = p + 1; why = why }) ≡ all
     at_found p why h f a =
-        found_here (event_fault (p + 1) (history_by codes jobs cells p) (event_at codes jobs cells p)) (p + 1) (first_fault (p + 1 + 1) (history_by codes jobs cells (p + 1)) (events_from codes jobs cells (p + 1) (n - (p + 1)))) why (as_some (event_fault (p + 1) (history_by codes jobs cells p) (event_at codes jobs cells p)) why f)
+        found_here (event_fault (p + 1) (history_by codes jobs cells p) (event_at codes jobs cells p)) (p + 1) (first_fault (p + 1 + 1) (history_by codes jobs cells (p + 1)) (events_from codes jobs cells (p + 1) (n - (p + 1)))) why (sym f)
         ∙ sym (next_line p h a)
 
     -- when all are passed none is
@@ -160,16 +157,15 @@ module _ (codes jobs cells : List ℕ) where
         (sym (ap (λ t. t && leb 64 (get_or cells p 0)) (lt-ltb (get_or codes p 0) 3 h)) ∙ sym (above_of (get_or codes p 0) (get_or jobs p 0) (get_or cells p 0)) ∙ (line_sound p b).low)
 
 -- the job of a line without a fault had not ended
-pub open_line : (codes jobs cells : List ℕ) (p : ℕ) → none ≡ event_fault (p + 1) (history_by codes jobs cells p) (event_at codes jobs cells p) → marked ends_job (get_or jobs p 0) (history_by codes jobs cells p) ≡ false
+pub open_line : (codes jobs cells : List ℕ) (p : ℕ) → None ≡ event_fault (p + 1) (history_by codes jobs cells p) (event_at codes jobs cells p) → marked ends_job (get_or jobs p 0) (history_by codes jobs cells p) ≡ false
 unfolding event_at
 open_line codes jobs cells p g =
     subst (λ j. marked ends_job j (history_by codes jobs cells p) ≡ false) (job_of_lem (get_or codes p 0) (get_or jobs p 0) (get_or cells p 0))
     (faultless_sound (p + 1) (history_by codes jobs cells p) (event_by (get_or codes p 0) (get_or jobs p 0) (get_or cells p 0)) (sym g)).open'
 
 -- a faultless line, passed with the flags of the ended jobs
-pub line_passed : (codes jobs cells : List ℕ) (n : ℕ) (all : Found) (p : ℕ) (flags : List Bool) (j : ℕ) (b : Bool) → None ≡ as_option (event_fault (p + 1) (history_by codes jobs cells p) (event_at codes jobs cells p)) → p < n →
+pub line_passed : (codes jobs cells : List ℕ) (n : ℕ) (all : Found) (p : ℕ) (flags : List Bool) (j : ℕ) (b : Bool) → None ≡ event_fault (p + 1) (history_by codes jobs cells p) (event_at codes jobs cells p) → p < n →
     Flagged flags (history_by codes jobs cells p) → At codes jobs cells n all p → j ≡ get_or jobs p 0 → j < 256 → b ≡ (eqb (get_or codes p 0) 3 || eqb (get_or codes p 0) 4) →
     Flagged (set flags j b) (history_by codes jobs cells (p + 1)) × At codes jobs cells n all (p + 1)
 line_passed codes jobs cells n all p flags j b o h f a q small w =
-    let free : none ≡ event_fault (p + 1) (history_by codes jobs cells p) (event_at codes jobs cells p) = sym (as_none (event_fault (p + 1) (history_by codes jobs cells p) (event_at codes jobs cells p)) o) in
-    (flags_more codes jobs cells p j flags b f q small (open_line codes jobs cells p free) w, at_more codes jobs cells n all p h free a)
+    (flags_more codes jobs cells p j flags b f q small (open_line codes jobs cells p o) w, at_more codes jobs cells n all p h o a)

@@ -4,9 +4,7 @@ use Prim.Native.Nat.{ℕ, suc, ◌+◌, ◌≤◌, ◌<◌}
 use mathlib.Core.Path.{◌≡◌, refl, sym, ap, ◌∙◌}
 use mathlib.Core.Bool.{Bool, true, false, not, ◌&&◌, ◌||◌, or-false}
 use mathlib.Core.List.{List, [], ◌∷◌}
-use mathlib.Core.Option.{none, some}
 use Rattle.std.specs.Prelude.{None, Some}
-use Rattle.judge_core.specs.Lists.{as_option}
 use native.Mathlib.Numerals.{add-one}
 use native.Mathlib.Omega.{arith}
 use lib.Dec.{eqb, ltb, leb}
@@ -69,13 +67,13 @@ module _ (codes jobs cells : List ℕ) (p : ℕ) where
       (ends_line (get_or codes p 0) (get_or jobs p 0) (get_or cells p 0) j [] ∙ rw (marked_none ends_job j) (or-false (eqb (get_or jobs p 0) j && (eqb (get_or codes p 0) 3 || eqb (get_or codes p 0) 4))))
 
   -- a line too many is refused whatever it is
-  pub fault_many : (before : History) → 4096 ≤ p → Some TooManyLines ≡ as_option (event_fault (p + 1) before (event_at codes jobs cells p))
-  unfolding event_fault as_option
+  pub fault_many : (before : History) → 4096 ≤ p → Some TooManyLines ≡ event_fault (p + 1) before (event_at codes jobs cells p)
+  unfolding event_fault
   fault_many before h = rw (lt-ltb 4096 (p + 1) (omega arith))
 
   module _ (before : History) (h : p < 4096) (j : ℕ) (q : j ≡ get_or jobs p 0) (small : j < 256) where
     -- the tests that are left of any other
-    fault_is : event_fault (p + 1) before (event_at codes jobs cells p) ≡ pick (eqb j 0) (some JobOutside) (pick (ltb (get_or codes p 0) 3 && leb 64 (get_or cells p 0)) (some CellAbove) (pick (marked ends_job j before) (some Ended) none))
+    fault_is : event_fault (p + 1) before (event_at codes jobs cells p) ≡ pick (eqb j 0) (Some JobOutside) (pick (ltb (get_or codes p 0) 3 && leb 64 (get_or cells p 0)) (Some CellAbove) (pick (marked ends_job j before) (Some Ended) None))
     unfolding event_fault event_at
     fault_is =
         rw (le-ltb 4096 (p + 1) (omega arith), job_of_lem (get_or codes p 0) (get_or jobs p 0) (get_or cells p 0), above_of (get_or codes p 0) (get_or jobs p 0) (get_or cells p 0), ← q, le-leb j 255 (omega arith))
@@ -84,26 +82,22 @@ module _ (codes jobs cells : List ℕ) (p : ℕ) where
         (λ f. rw (f, le-leb 1 j (omega (arith, eqb-false j 0 f)))))
 
     -- 12
-    pub fault_outside : j ≡ 0 → Some JobOutside ≡ as_option (event_fault (p + 1) before (event_at codes jobs cells p))
-    unfolding as_option
+    pub fault_outside : j ≡ 0 → Some JobOutside ≡ event_fault (p + 1) before (event_at codes jobs cells p)
     fault_outside z = rw (fault_is, eq-eqb j 0 z)
 
     module _ (z : j ≡ 0 → ⊥) where
       module _ (b : Bool) (e : b ≡ (ltb (get_or codes p 0) 3 && leb 64 (get_or cells p 0))) where
         -- 2
-        pub fault_above : b ≡ true → Some CellAbove ≡ as_option (event_fault (p + 1) before (event_at codes jobs cells p))
-        unfolding as_option
+        pub fault_above : b ≡ true → Some CellAbove ≡ event_fault (p + 1) before (event_at codes jobs cells p)
         fault_above t = rw (fault_is, ne_eqb j 0 z, sym e ∙ t)
 
         module _ (low : b ≡ false) (flags : List Bool) (f : Flagged flags before) where
           -- 13
-          pub fault_ended : get_or flags j false ≡ true → Some Ended ≡ as_option (event_fault (p + 1) before (event_at codes jobs cells p))
-          unfolding as_option
+          pub fault_ended : get_or flags j false ≡ true → Some Ended ≡ event_fault (p + 1) before (event_at codes jobs cells p)
           fault_ended t = rw (fault_is, ne_eqb j 0 z, sym e ∙ low, sym (f.says j small) ∙ t)
 
           -- or none
-          pub fault_none : get_or flags j false ≡ false → None ≡ as_option (event_fault (p + 1) before (event_at codes jobs cells p))
-          unfolding as_option
+          pub fault_none : get_or flags j false ≡ false → None ≡ event_fault (p + 1) before (event_at codes jobs cells p)
           fault_none t = rw (fault_is, ne_eqb j 0 z, sym e ∙ low, sym (f.says j small) ∙ t)
 
 -- before the first line nobody has ended

@@ -1,4 +1,3 @@
-pub mod Optional
 pub mod Tabled
 pub mod Listing
 pub mod Events

@@ -15,7 +15,6 @@ use Rattle.judge_rules.specs.Knot.{predecessor}
 use Rattle.judge_rules.proofs.Firsts.{by_one, first_is, first_none, first_least}
 use Rattle.judge_rules.proofs.Preceded.{preceded_by, precedes}
 use Rattle.std.specs.Prelude.{None, Some}
-use Rattle.judge_core.specs.Lists.{as_option}
 use Rattle.judge_core.specs.Left.{left_of, left_from, or_nobody}
 use Rattle.judge_core.specs.Preceding.{predecessor_from, Preceding, Known}
 use Rattle.judge_core.proofs.Listing.{listed_ascending}
@@ -187,13 +186,11 @@ module _ (e : Edges) (left : List Bool) (predecessors : List ℕ) where
           }
 
       -- one that has none is ready
-      pub passed_ready : r ≡ 256 → (Some j ≡ as_option (ready e (left_of left))) × Preceding e left (set predecessors j r)
-      unfolding as_option
+      pub passed_ready : r ≡ 256 → (Some j ≡ ready e (left_of left)) × Preceding e left (set predecessors j r)
       passed_ready n =
-          (sym (ap as_option (seek_some left (λ k. not (preceded e (left_of left) k)) j (ready e (left_of left)) b l (none_known e left j r found n) s.next)), preceding_more e left predecessors s.kept j r b l looked)
+          (sym (seek_some left (λ k. not (preceded e (left_of left) k)) j (ready e (left_of left)) b l (none_known e left j r found n) s.next), preceding_more e left predecessors s.kept j r b l looked)
 
   -- when all are passed nobody is ready
-  pub passed_all : (j : ℕ) → 256 ≤ j → Passed e left predecessors j → (None ≡ as_option (ready e (left_of left))) × (Preceding e left predecessors × Known e left predecessors 256)
-  unfolding as_option
+  pub passed_all : (j : ℕ) → 256 ≤ j → Passed e left predecessors j → (None ≡ ready e (left_of left)) × (Preceding e left predecessors × Known e left predecessors 256)
   passed_all j h s =
-      (sym (ap as_option (seek_nobody left (λ k. not (preceded e (left_of left) k)) j (ready e (left_of left)) h s.next)), (s.kept, λ k c o. s.known k (omega arith) o))
+      (sym (seek_nobody left (λ k. not (preceded e (left_of left) k)) j (ready e (left_of left)) h s.next), (s.kept, λ k c o. s.known k (omega arith) o))

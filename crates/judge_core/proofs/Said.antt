@@ -4,7 +4,6 @@ use Prim.Native.Nat.{ℕ, ◌-◌, ◌≤◌, ◌<◌}
 use mathlib.Core.Path.{◌≡◌, refl, sym, ap, ◌∙◌, subst}
 use mathlib.Core.Bool.{Bool, true}
 use mathlib.Core.List.{List, [], ◌∷◌, ◌++◌}
-use mathlib.Core.Option.{Option, none, some}
 use native.Mathlib.Omega.{arith}
 use lib.ListN.{length, take, drop, length-take, length-drop}
 use Rattle.laws.specs.Lists.{member, filled}
@@ -25,14 +24,13 @@ use Rattle.judge_rules.proofs.Taking.{order_taken}
 use Rattle.judge_rules.proofs.Walking.{no_more}
 use Rattle.judge_rules.proofs.OneKnot.{looks_enough}
 use Rattle.judge_rules.proofs.Histories.{jobs_ascending, knot_shows}
-use Rattle.std.specs.Prelude.{None, Some}
+use Rattle.std.specs.Prelude.{None, Some, Option}
 use Rattle.std.specs.List.{position}
 use Rattle.judge_core.specs.Left.{left_of}
 use Rattle.judge_core.specs.Preceding.{walk_by}
 use Rattle.judge_core.specs.Taking.{Took}
 use Rattle.judge_core.specs.Rounds.{RoundAt}
 use Rattle.judge_core.proofs.Turning.{turn_length}
-use Rattle.judge_core.proofs.Optional.{as_some, as_none}
 use Rattle.judge_core.proofs.Seeking.{left_position, found_small, left_few, left_is}
 use Rattle.judge_core.proofs.Trail.{walk_known}
 
@@ -57,23 +55,23 @@ module _ (round trail : List ℕ) (a b : ℕ) (r : RoundAt round trail a b) wher
   knot_put buffer last e = e ∙ rw r.listed
 
 -- where nobody is the first there is nobody
-first_nobody : (js : List ℕ) → first (λ j. true) js ≡ none → js ≡ []
+first_nobody : (js : List ℕ) → first (λ j. true) js ≡ None → js ≡ []
 unfolding first
 first_nobody [] h = refl
 first_nobody (j ∷ js) h =
-    let here' : some j ≡ none = h in
+    let here' : Some j ≡ None = h in
     let z : ◌≡◌ {A = ℕ} 0 1 = cc in
     absurd (omega arith)
 
 -- and the first job leads the others
-first_leads : (js : List ℕ) (s : ℕ) → first (λ j. true) js ≡ some s → (rest : List ℕ) × (js ≡ s ∷ rest)
+first_leads : (js : List ℕ) (s : ℕ) → first (λ j. true) js ≡ Some s → (rest : List ℕ) × (js ≡ s ∷ rest)
 unfolding first
 first_leads [] s h =
-    let here' : ◌≡◌ {A = Option ℕ} none (some s) = h in
+    let here' : ◌≡◌ {A = Option ℕ} None (Some s) = h in
     let z : ◌≡◌ {A = ℕ} 0 1 = cc in
     absurd (omega arith)
 first_leads (j ∷ js) s h =
-    let here' : some j ≡ some s = h in
+    let here' : Some j ≡ Some s = h in
     let e : j ≡ s = cc in
     (js, ap (λ i. i ∷ js) e)
 
@@ -105,7 +103,7 @@ module _ (h : History) (left : List Bool) (placed predecessors : List ℕ) (k : 
       took_order : finding_of h ≡ orderly (take k placed)
       unfolding finding_of judged finding_by
       took_order =
-          let none' : stuck (edge (committed_part h)) (jobs_of h) ≡ [] = sym t.remains ∙ first_nobody (left_of left) (as_none (first (λ j. true) (left_of left)) (found ∙ left_position left w)) in
+          let none' : stuck (edge (committed_part h)) (jobs_of h) ≡ [] = sym t.remains ∙ first_nobody (left_of left) (sym (found ∙ left_position left w)) in
           rw (none', t.order)
 
       -- the order's length is said
@@ -120,8 +118,8 @@ module _ (h : History) (left : List Bool) (placed predecessors : List ℕ) (k : 
 
     module _ (s : ℕ) (found : Some s ≡ position (λ b. b) left) where
       -- the first of the jobs that remain
-      leads : first (λ j. true) (left_of left) ≡ some s
-      leads = as_some (first (λ j. true) (left_of left)) s (found ∙ left_position left w)
+      leads : first (λ j. true) (left_of left) ≡ Some s
+      leads = sym (found ∙ left_position left w)
 
       -- where one remains the verdict is the knot
       pub took_knot : (s < 256) × (finding_of h ≡ knotted (turn (walk_by predecessors 257 [] s)))

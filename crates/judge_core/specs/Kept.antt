@@ -1,6 +1,5 @@
 -- The judge on any lines kept as numbers: what the table says of the buffer, then of the lines in order, else the verdict (01, Refusals by number).
-use Rattle.std.specs.Prelude.{ℕ, suc, ◌<◌, ◌≡◌, Bool, false, not, ◌&&◌, List, [], ◌∷◌, ◌++◌, ltb, leb, length, get_or, Result, Ok, Err}
-use Rattle.std.proofs.Math.Option.{Option, none, some}
+use Rattle.std.specs.Prelude.{ℕ, suc, ◌<◌, ◌≡◌, Bool, false, not, ◌&&◌, List, [], ◌∷◌, ◌++◌, ltb, leb, length, get_or, Result, Ok, Err, Option, None, Some}
 use Rattle.laws.specs.Choice.{pick}
 use Rattle.terms.specs.declared.refusals.Refusal.{Refusal}
 use Rattle.terms.specs.declared.refusals.Refusal.TheVariants.{CellAbove, TooManyLines, JobOutside, Ended, ShortOrder}
@@ -33,9 +32,9 @@ ends_job m = not (is_back m)
 -- the fault of line n, given the lines before it: 11, then 12, 2, 13; 9 cannot occur, since any three numbers are a line (01, Refusals by number)
 unfoldable pub event_fault : ℕ → History → Event → Option Refusal
 event_fault n before e =
-    pick (ltb judged_lines n) (some TooManyLines)
-    (pick (not (leb 1 (job_of e) && leb (job_of e) judged_jobs)) (some JobOutside)
-    (pick (above e) (some CellAbove) (pick (marked ends_job (job_of e) before) (some Ended) none)))
+    pick (ltb judged_lines n) (Some TooManyLines)
+    (pick (not (leb 1 (job_of e) && leb (job_of e) judged_jobs)) (Some JobOutside)
+    (pick (above e) (Some CellAbove) (pick (marked ends_job (job_of e) before) (Some Ended) None)))
 
 -- what is found in lines: nothing, or the first faulty one
 abbrev pub Found : Type 0
@@ -43,8 +42,8 @@ Found = Result (Unit {0}) FaultyLine
 
 -- this line's fault with its number, if it has one, else what is found in the lines after it
 unfoldable pub or_later : Option Refusal → ℕ → Found → Found
-or_later none n later = later
-or_later (some why) n later = Err (record { line = n; why = why })
+or_later None n later = later
+or_later (Some why) n later = Err (record { line = n; why = why })
 
 -- the lines in order, from line n on; the first faulty line decides (01, Refusals by number)
 unfoldable pub first_fault : ℕ → History → History → Found

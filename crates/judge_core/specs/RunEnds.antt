@@ -1,6 +1,5 @@
 -- Where runs end, over the arrays that keep a history; from that, which lines are dirty reads, and which writes and increments make them dirty (02, No. 2).
 use Rattle.std.specs.Prelude.{ℕ, zero, suc, ◌-◌, ◌≤◌, ◌<◌, ◌≡◌, Bool, true, false, ◌&&◌, ◌||◌, List, eqb, ltb, leb, length, get_or, Option, None, Some}
-use Rattle.std.proofs.Math.Option as maybe
 use Rattle.laws.specs.Choice.{pick}
 use Rattle.terms.specs.Limits.{judged_lines}
 use Rattle.conflict.specs.Dirty.{ReadOf}
@@ -62,6 +61,6 @@ pub record LastWrite (codes cells ends : List ℕ) (p q : ℕ) : Type 0 where
   pub later : (x : ℕ) → x < p → spoils_at codes cells ends p x ≡ true → (x ≤ q) × (q < p)
 
 -- reader and writer of the first dirty read, if there is one
-unfoldable pub dirt_of : maybe.Option ReadOf → Option Dirt
-dirt_of maybe.none = None
-dirt_of (maybe.some d) = Some (record { reader = d.reader; writer = d.writer })
+unfoldable pub dirt_of : Option ReadOf → Option Dirt
+dirt_of None = None
+dirt_of (Some d) = Some (record { reader = d.reader; writer = d.writer })

@@ -6,7 +6,6 @@ ghost use Rattle.judge_rules.specs.Judgement.{say_history};
 ghost use Rattle.judge_rules.specs.Arrays.{history_by};
 ghost use Rattle.judge_core.specs.Histories.{history_of};
 ghost use Rattle.judge_core.specs.Kept.{event_at, event_fault, first_fault, kept_judgement, Flagged};
-ghost use Rattle.judge_core.specs.Lists.{as_option};
 
 use crate::decide::decide;
 use crate::dirty::{Dirt, first_dirty};
@@ -41,7 +40,7 @@ fn cell_above(code: u8, cell: u8) -> bool
 #[tactic(auto, using(crate::proofs::KeptFaults::fault_above, crate::proofs::KeptFaults::fault_ended, crate::proofs::KeptFaults::fault_none, crate::proofs::KeptFaults::fault_outside))]
 fn fault_at(kept: Kept, ended: &[bool; SLOTS], p: usize) -> Option<Refusal>
     requires { (p < judged_lines) × Flagged ended.now (history_by kept.codes.now kept.jobs.now kept.cells.now p) }
-    ensures { result ≡ as_option (event_fault (p + 1) (history_by kept.entry.codes.now kept.entry.jobs.now kept.entry.cells.now p) (event_at kept.entry.codes.now kept.entry.jobs.now kept.entry.cells.now p)) }
+    ensures { result ≡ event_fault (p + 1) (history_by kept.entry.codes.now kept.entry.jobs.now kept.entry.cells.now p) (event_at kept.entry.codes.now kept.entry.jobs.now kept.entry.cells.now p) }
 {
     let job = usize::from(kept.jobs[p]);
     if job == 0 {

@@ -4,7 +4,6 @@ ghost use Rattle.std.specs.List.{position};
 ghost use Rattle.judge_rules.specs.Order.{ready, order_of, stuck};
 ghost use Rattle.judge_core.specs.Edges.{edges_of};
 ghost use Rattle.judge_core.specs.Left.{left_of};
-ghost use Rattle.judge_core.specs.Lists.{as_option};
 ghost use Rattle.judge_core.specs.Preceding.{predecessor_from, Preceding, Known};
 ghost use Rattle.judge_core.specs.Sizes.{slots};
 
@@ -46,7 +45,7 @@ fn predecessor_from(graph: Graph, left: &[bool; SLOTS], from: usize, j: usize) -
 #[tactic(auto, using(crate::proofs::Predecessors::passed_all, crate::proofs::Predecessors::passed_more, crate::proofs::Predecessors::passed_none, crate::proofs::Predecessors::passed_ready, crate::proofs::Predecessors::passed_skip, crate::proofs::Seeking::left_not_0))]
 fn ready_job(graph: Graph, left: &[bool; SLOTS], predecessors: &mut [usize; SLOTS]) -> Option<usize>
     requires { (get_or left.now 0 false ≡ false) × Preceding (edges_of graph) left.now predecessors.old }
-    ensures value { result ≡ as_option (ready (edges_of graph.entry) (left_of left.now)) }
+    ensures value { result ≡ ready (edges_of graph.entry) (left_of left.now) }
     ensures preceding { Preceding (edges_of graph.entry) left.now predecessors.new }
     ensures known { IfNone result (Known (edges_of graph.entry) left.now predecessors.new slots) }
 {

@@ -1,20 +1,19 @@
 -- One step of the timestamp desk over its arrays: the decided move, carried out. The contracts cite it (02, No. 6).
-use Rattle.std.specs.Prelude.{ℕ, ◌+◌, Bool, List, [], eqb, ltb, get_or, set, replicate}
+use Rattle.std.specs.Prelude.{ℕ, ◌+◌, Bool, List, [], eqb, ltb, get_or, set, replicate, Option, None, Some, Result, Ok, Err}
 use Rattle.laws.specs.Choice.{pick}
 use Rattle.laws.specs.Larger.{larger}
 use Rattle.laws.specs.Lists.{pos}
+use Rattle.terms.specs.declared.letters.Letter.{Letter}
 use Rattle.terms.specs.declared.letters.Ask.{Ask}
 use Rattle.terms.specs.declared.letters.Ask.TheVariants.{Read, Write, Increment, Update}
 use Rattle.terms.specs.declared.letters.Letter.TheVariants.{Begin as begins, Commit, GiveUp, Retry, Back as no-request, Asks}
-use Rattle.terms.specs.declared.letters.Lettered.{Lettered}
-use Rattle.terms.specs.declared.letters.Lettered.TheVariants.{Known, Unknown}
+use Rattle.terms.specs.declared.refusals.Refusal.{Refusal}
 use Rattle.terms.specs.declared.refusals.Refusal.TheVariants.{UnknownKind, CellAbove, NotOpen, StartedAtZero, NoRetry}
 use Rattle.terms.specs.Letters.{letter_of}
 use Rattle.terms.specs.Limits.{places, cells}
 use Rattle.desks.specs.declared.Answer.{Answer}
 use Rattle.desks.specs.declared.Answer.TheVariants.{Go, Back, No}
 use Rattle.desks.specs.declared.finding.Opening.{Opening}
-use Rattle.desks.specs.declared.finding.Opening.TheVariants.{At, Refused as not_opened}
 use Rattle.desks.specs.Opening.{opening_of}
 use Rattle.stamp_rules.specs.Rules.{late}
 use Rattle.stamp_arrays.specs.declared.state.Stamps.{Stamps}
@@ -43,9 +42,9 @@ unfoldable pub late_with : ℕ → ℕ → ℕ → Ask → Bool
 late_with reader writer job a = late (record { next = 0; jobs = []; reader = λ c. reader; writer = λ c. writer }) job 0 a
 
 -- begin, given where the new job is opened
-unfoldable pub opened : Opening → Move
-opened (At p n) = Begin p n
-opened (not_opened why) = Refuse why
+unfoldable pub opened : Result Opening Refusal → Move
+opened (Ok o) = Begin o.place o.number
+opened (Err why) = Refuse why
 
 -- begin: refusal 7, then 6, else the next number at the first free place (01, Refusals by number)
 unfoldable pub begin_move : ℕ → List ℕ → Move
@@ -76,14 +75,14 @@ ask_move reader writer (stands p) job c a = act_move reader writer p job c a
 ask_move reader writer Nowhere job c a = Refuse NotOpen
 
 -- the move of a request, by its letter; refusal 1 if no request has the letter
-unfoldable pub move_for : ℕ → List ℕ → List ℕ → List ℕ → ℕ → ℕ → Lettered → Move
-move_for next number reader writer job c Unknown = Refuse UnknownKind
-move_for next number reader writer job c (Known no-request) = Refuse UnknownKind
-move_for next number reader writer job c (Known begins) = begin_move next number
-move_for next number reader writer job c (Known Commit) = close_move (found_at number job)
-move_for next number reader writer job c (Known GiveUp) = close_move (found_at number job)
-move_for next number reader writer job c (Known Retry) = retry_move (found_at number job)
-move_for next number reader writer job c (Known (Asks a)) = ask_move reader writer (found_at number job) job c a
+unfoldable pub move_for : ℕ → List ℕ → List ℕ → List ℕ → ℕ → ℕ → Option Letter → Move
+move_for next number reader writer job c None = Refuse UnknownKind
+move_for next number reader writer job c (Some no-request) = Refuse UnknownKind
+move_for next number reader writer job c (Some begins) = begin_move next number
+move_for next number reader writer job c (Some Commit) = close_move (found_at number job)
+move_for next number reader writer job c (Some GiveUp) = close_move (found_at number job)
+move_for next number reader writer job c (Some Retry) = retry_move (found_at number job)
+move_for next number reader writer job c (Some (Asks a)) = ask_move reader writer (found_at number job) job c a
 
 -- the reader numbers after a job has acted on a cell: r, i and u read it (02, No. 6)
 unfoldable pub readers_after : List ℕ → ℕ → ℕ → Ask → List ℕ

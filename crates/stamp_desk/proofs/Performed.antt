@@ -1,5 +1,6 @@
 -- A plan carried out on the fields in place is the step; a plan names only places and cells that exist.
 -- Assumes nothing.
+use Rattle.std.specs.Prelude.{Option, None, Some}
 use Prim.Native.Nat.{ℕ, ◌+◌, ◌<◌}
 use mathlib.Core.Path.{◌≡◌, refl, sym, ap, subst, ◌∙◌}
 use mathlib.Core.List.{List}
@@ -10,8 +11,6 @@ use Rattle.laws.specs.Choice.{by_test}
 use Rattle.laws.specs.Lists.{pos}
 use Rattle.terms.specs.declared.letters.Ask.{Ask}
 use Rattle.terms.specs.declared.letters.Letter.TheVariants.{Begin as begins, Commit, GiveUp, Retry, Back as no-request, Asks}
-use Rattle.terms.specs.declared.letters.Lettered.{Lettered}
-use Rattle.terms.specs.declared.letters.Lettered.TheVariants.{Known, Unknown}
 use Rattle.terms.specs.declared.refusals.Refusal.{Refusal}
 use Rattle.terms.specs.declared.refusals.Refusal.TheVariants.{UnknownKind}
 use Rattle.terms.specs.declared.letters.Letter.{Letter}
@@ -78,17 +77,17 @@ fits_ask reader writer (At p) job c a h =
     (λ f. rw f tt)
 fits_ask reader writer Nowhere job c a h = tt
 
-module _ (d : Stamps) (kind job c : ℕ) {letter : Lettered} (of_kind : letter_of kind ≡ letter) {m : Move} (plans : m ≡ move_for d.next d.number d.reader d.writer job c letter) where
+module _ (d : Stamps) (kind job c : ℕ) {letter : Option Letter} (of_kind : letter_of kind ≡ letter) {m : Move} (plans : m ≡ move_for d.next d.number d.reader d.writer job c letter) where
   -- every plan fits
-  plan_fits : (l : Lettered) → Fits c (move_for d.next d.number d.reader d.writer job c l)
+  plan_fits : (l : Option Letter) → Fits c (move_for d.next d.number d.reader d.writer job c l)
   unfolding move_for
-  plan_fits Unknown = tt
-  plan_fits (Known no-request) = tt
-  plan_fits (Known begins) = fits_begin d.next d.number c
-  plan_fits (Known Commit) = fits_close c (found_at d.number job) (found_there d.number job)
-  plan_fits (Known GiveUp) = fits_close c (found_at d.number job) (found_there d.number job)
-  plan_fits (Known Retry) = fits_retry c (found_at d.number job)
-  plan_fits (Known (Asks a)) = fits_ask d.reader d.writer (found_at d.number job) job c a (found_there d.number job)
+  plan_fits None = tt
+  plan_fits (Some no-request) = tt
+  plan_fits (Some begins) = fits_begin d.next d.number c
+  plan_fits (Some Commit) = fits_close c (found_at d.number job) (found_there d.number job)
+  plan_fits (Some GiveUp) = fits_close c (found_at d.number job) (found_there d.number job)
+  plan_fits (Some Retry) = fits_retry c (found_at d.number job)
+  plan_fits (Some (Asks a)) = fits_ask d.reader d.writer (found_at d.number job) job c a (found_there d.number job)
 
   -- and so does this one
   fits : Fits c m
@@ -144,12 +143,12 @@ module _ (d : Stamps) (kind job c : ℕ) {letter : Lettered} (of_kind : letter_o
   acted e r w = steps (rw (e, r, w)) (rw e)
 
 -- a byte that is no letter's is refused
-pub refused_byte : (d : Stamps) (kind job c : ℕ) → letter_of kind ≡ Unknown → StepsTo d kind job c d (No UnknownKind)
+pub refused_byte : (d : Stamps) (kind job c : ℕ) → letter_of kind ≡ None → StepsTo d kind job c d (No UnknownKind)
 unfolding move_for
 refused_byte d kind job c h = refused d kind job c h {m = Refuse UnknownKind} refl {why = UnknownKind} refl
 
 -- a step by a letter is the step by the byte that is the letter's
-pub by_letter : {d e : Stamps} {kind job c : ℕ} {letter : Letter} {x : Answer} → letter_of kind ≡ Known letter → StepsTo d (byte_of letter) job c e x → StepsTo d kind job c e x
+pub by_letter : {d e : Stamps} {kind job c : ℕ} {letter : Letter} {x : Answer} → letter_of kind ≡ Some letter → StepsTo d (byte_of letter) job c e x → StepsTo d kind job c e x
 by_letter {d} {e} {kind} {job} {c} {letter} {x} h s = subst (λ k. StepsTo d k job c e x) (byte_of_letter kind letter h) s
 
 -- what the fields hold and the answer make up the step by value

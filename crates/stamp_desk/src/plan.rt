@@ -1,6 +1,5 @@
 // What a step is to do, decided over lent arrays before anything changes (02, No. 6; 01, Refusals by number).
-ghost use Rattle.std.specs.Prelude.{◌≡◌, ◌||◌, ltb};
-ghost use Rattle.terms.specs.declared.letters.Lettered.TheVariants.{Known};
+ghost use Rattle.std.specs.Prelude.{◌≡◌, ◌||◌, ltb, Some};
 ghost use Rattle.stamp_arrays.specs.Steps.{late_with, begin_move, found_at, close_move, retry_move, act_move, ask_move, move_for};
 
 use desks::finding::{Opening, opening_for, place_of};
@@ -39,8 +38,8 @@ fn begin_move(next: u64, number: &[u32; PLACES]) -> Move
     ensures { result ≡ begin_move next number.now }
 {
     match opening_for(next, number) {
-        Opening::At(p, n) => Move::Begin(p, n),
-        Opening::Refused(why) => Move::Refuse(why),
+        Ok(Opening { place, number }) => Move::Begin(place, number),
+        Err(why) => Move::Refuse(why),
     }
 }
 
@@ -132,7 +131,7 @@ pub fn plan_for<'a>(
     job: u32,
     c: u32,
 ) -> Move
-    ensures { result ≡ move_for next number.now reader.now writer.now job c (Known letter) }
+    ensures { result ≡ move_for next number.now reader.now writer.now job c (Some letter) }
 {
     match letter {
         Letter::Back => Move::Refuse(Refusal::UnknownKind),

@@ -9,9 +9,8 @@ use conflict::action::Action;
 use desk_arrays::state::{Desk, Said};
 use desks::Answer;
 use stamp_arrays::state::Stamps;
-use terms::letters::byte_of;
 use terms::limits::{PLACES, REQUEST_LINES};
-use terms::refusals::{Refusal, field_of, number_of};
+use terms::refusals::{Refusal, field_of};
 use terms::words::Word;
 use text::held::{read_held, torn_held};
 use text::writer::write_answer;
@@ -120,7 +119,7 @@ fn put_no(rt: &HostRuntime, line: u64, why: Refusal) -> bool {
         rt,
         line,
         Word::No,
-        number_of(why) as u64,
+        u8::from(why) as u64,
         field_of(why) as u64,
     )
 }
@@ -200,7 +199,7 @@ fn next_request(rt: &HostRuntime, before: Splitter, lines: u64) -> Asked
             Reading::Good { letter, job, cell } => {
                 return Asked {
                     left,
-                    kind: byte_of(letter),
+                    kind: u8::from(letter),
                     job,
                     cell,
                     splitter,
