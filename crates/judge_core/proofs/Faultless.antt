@@ -1,10 +1,10 @@
 -- Faultless lines: what the table leaves of a line, test by test, and of all lines if none is faulty.
 -- Assumes nothing.
-use Rattle.std.specs.Prelude.{Option, None, Some}
 use Prim.Native.Nat.{ℕ, zero, suc, ◌+◌, ◌-◌, ◌≤◌, ◌<◌}
 use mathlib.Core.Path.{◌≡◌, refl, sym, ap, ◌∙◌, subst}
 use mathlib.Core.Bool.{Bool, true, false, not, ◌&&◌, ◌||◌}
 use mathlib.Core.List.{List, [], ◌∷◌, ◌++◌}
+use Rattle.std.specs.Prelude.{None, Some, Ok, Err, Option}
 use native.Mathlib.Numerals.{add-one}
 use native.Mathlib.Omega.{arith}
 use lib.Dec.{eqb, ltb, leb}
@@ -18,13 +18,9 @@ use Rattle.terms.specs.Limits.{judged_jobs, judged_lines}
 use Rattle.conflict.specs.declared.action.Event.{Event}
 use Rattle.conflict.specs.History.{History, marked}
 use Rattle.judge_rules.specs.Arrays.{event_by, history_by}
-use Rattle.judge_core.specs.declared.kept.Found.{Found}
-use Rattle.judge_core.specs.declared.kept.Found.TheVariants.{Faultless, Faulty}
-use Rattle.judge_core.specs.declared.kept.Fault.{Fault}
-use Rattle.judge_core.specs.declared.kept.Fault.TheVariants.{Nothing, Due}
-use Rattle.judge_core.specs.Kept.{job_of, above, ends_job, event_fault, or_later, first_fault, event_at, due_of, Flagged}
+use Rattle.judge_core.specs.Kept.{job_of, above, ends_job, event_fault, Found, or_later, first_fault, event_at, Flagged}
 use Rattle.judge_core.proofs.Events.{events_from, history_events}
-use Rattle.judge_core.proofs.KeptFaults.{job_of_lem, above_of, due_some, due_none, flags_more}
+use Rattle.judge_core.proofs.KeptFaults.{job_of_lem, above_of, flags_more}
 
 -- none of the tests in a row holds where nothing is picked
 picked_none : {A : Type 0} (a b c d : Bool) (w x y z : A) → pick a (Some w) (pick b (Some x) (pick c (Some y) (pick d (Some z) None))) ≡ None → (a ≡ false) × (b ≡ false) × (c ≡ false) × (d ≡ false)
@@ -62,7 +58,7 @@ unfolding first_fault events_from
 one_line_lem codes jobs cells n p m before = refl
 
 -- a fault decides, and without one the lines after decide
-found_here : (o : Option Refusal) (n : ℕ) (later : Found) (why : Refusal) → o ≡ Some why → Faulty n why ≡ or_later o n later
+found_here : (o : Option Refusal) (n : ℕ) (later : Found) (why : Refusal) → o ≡ Some why → Err (record { line = n; why = why }) ≡ or_later o n later
 unfolding or_later
 found_here o n later why e = rw e
 
@@ -71,7 +67,7 @@ unfolding or_later
 found_later o n later e = rw e
 
 -- where nothing is found this line has no fault
-none_here : (o : Option Refusal) (n : ℕ) (later : Found) → or_later o n later ≡ Faultless → o ≡ None
+none_here : (o : Option Refusal) (n : ℕ) (later : Found) → or_later o n later ≡ Ok tt → o ≡ None
 unfolding or_later
 none_here None n later e = refl
 none_here (Some why) n later e = absurd (let q : ◌≡◌ {A = ℕ} 0 1 = cc in omega arith)
@@ -97,20 +93,20 @@ module _ (codes jobs cells : List ℕ) where
         ∙ rw (snoc p, add-one (p + 1), add-one p)
 
     -- a line without a fault is passed
-    pub at_more : (p : ℕ) → p < n → None ≡ event_fault (p + 1) (history_by codes jobs cells p) (event_at codes jobs cells p) → At p → At (p + 1)
+    at_more : (p : ℕ) → p < n → None ≡ event_fault (p + 1) (history_by codes jobs cells p) (event_at codes jobs cells p) → At p → At (p + 1)
     unfolding At
     at_more p h f a =
         next_line p h a
         ∙ found_later (event_fault (p + 1) (history_by codes jobs cells p) (event_at codes jobs cells p)) (p + 1) (first_fault (p + 1 + 1) (history_by codes jobs cells (p + 1)) (events_from codes jobs cells (p + 1) (n - (p + 1)))) (sym f)
 
     -- a faulty one is found
-    pub at_found : (p : ℕ) (why : Refusal) → p < n → Some why ≡ event_fault (p + 1) (history_by codes jobs cells p) (event_at codes jobs cells p) → At p → Faulty (p + 1) why ≡ all
+    pub at_found : (p : ℕ) (why : Refusal) → p < n → Some why ≡ event_fault (p + 1) (history_by codes jobs cells p) (event_at codes jobs cells p) → At p → Err (record { line = p + 1; why = why }) ≡ all
     at_found p why h f a =
         found_here (event_fault (p + 1) (history_by codes jobs cells p) (event_at codes jobs cells p)) (p + 1) (first_fault (p + 1 + 1) (history_by codes jobs cells (p + 1)) (events_from codes jobs cells (p + 1) (n - (p + 1)))) why (sym f)
         ∙ sym (next_line p h a)
 
     -- when all are passed none is
-    pub at_end : (p : ℕ) → n ≤ p → At p → Faultless ≡ all
+    pub at_end : (p : ℕ) → n ≤ p → At p → Ok tt ≡ all
     unfolding At first_fault events_from
     at_end p h a =
         let z : n - p ≡ 0 = omega arith in
@@ -124,7 +120,7 @@ module _ (codes jobs cells : List ℕ) where
       rw same' (ap (first_fault 1 []) (history_events codes jobs cells n))
 
   -- where none of the lines from p on is faulty each is sound
-  sound_from : (m p n : ℕ) → p + m ≡ n → first_fault (suc p) (history_by codes jobs cells p) (events_from codes jobs cells p m) ≡ Faultless → (q : ℕ) → p ≤ q → q < n → Sound (suc q) (history_by codes jobs cells q) (event_at codes jobs cells q)
+  sound_from : (m p n : ℕ) → p + m ≡ n → first_fault (suc p) (history_by codes jobs cells p) (events_from codes jobs cells p m) ≡ Ok tt → (q : ℕ) → p ≤ q → q < n → Sound (suc q) (history_by codes jobs cells q) (event_at codes jobs cells q)
   sound_from zero p n e g q a b = absurd (omega arith)
   sound_from (suc m) p n e g q a b =
       let line = sym (one_line_lem codes jobs cells (suc p) p m (history_by codes jobs cells p)) ∙ g in
@@ -132,13 +128,13 @@ module _ (codes jobs cells : List ℕ) where
       by_test (eqb p q)
       (λ t. subst (λ i. Sound (suc i) (history_by codes jobs cells i) (event_at codes jobs cells i)) (eqb-true p q t) (faultless_sound (suc p) (history_by codes jobs cells p) (event_at codes jobs cells p) good))
       (λ f.
-      let later' : first_fault (suc (suc p)) (history_by codes jobs cells (suc p)) (events_from codes jobs cells (suc p) m) ≡ Faultless =
+      let later' : first_fault (suc (suc p)) (history_by codes jobs cells (suc p)) (events_from codes jobs cells (suc p) m) ≡ Ok tt =
       ap (λ h. first_fault (suc (suc p)) h (events_from codes jobs cells (suc p) m)) (sym (snoc p))
       ∙ sym (found_later (event_fault (suc p) (history_by codes jobs cells p) (event_at codes jobs cells p)) (suc p) (first_fault (suc (suc p)) (history_by codes jobs cells p ++ event_at codes jobs cells p ∷ []) (events_from codes jobs cells (suc p) m)) good)
       ∙ line in
       sound_from m (suc p) n (omega arith) later' q (omega (arith, eqb-false p q f)) b)
 
-  module _ (n : ℕ) (g : Faultless ≡ first_fault 1 [] (history_by codes jobs cells n)) where
+  module _ (n : ℕ) (g : Ok tt ≡ first_fault 1 [] (history_by codes jobs cells n)) where
     -- each of the lines is sound
     pub line_sound : (q : ℕ) → q < n → Sound (suc q) (history_by codes jobs cells q) (event_at codes jobs cells q)
     unfolding history_by
@@ -168,13 +164,8 @@ open_line codes jobs cells p g =
     (faultless_sound (p + 1) (history_by codes jobs cells p) (event_by (get_or codes p 0) (get_or jobs p 0) (get_or cells p 0)) (sym g)).open'
 
 -- a faultless line, passed with the flags of the ended jobs
-pub line_passed : (codes jobs cells : List ℕ) (n : ℕ) (all : Found) (p : ℕ) (r : Fault) (flags : List Bool) (j : ℕ) (b : Bool) → r ≡ Nothing → due_of r ≡ event_fault (p + 1) (history_by codes jobs cells p) (event_at codes jobs cells p) → p < n → p < 4096 →
+pub line_passed : (codes jobs cells : List ℕ) (n : ℕ) (all : Found) (p : ℕ) (flags : List Bool) (j : ℕ) (b : Bool) → None ≡ event_fault (p + 1) (history_by codes jobs cells p) (event_at codes jobs cells p) → p < n →
     Flagged flags (history_by codes jobs cells p) → At codes jobs cells n all p → j ≡ get_or jobs p 0 → j < 256 → b ≡ (eqb (get_or codes p 0) 3 || eqb (get_or codes p 0) 4) →
-    (p + 1 ≤ n) × (p + 1 ≤ 4096) × Flagged (set flags j b) (history_by codes jobs cells (p + 1)) × At codes jobs cells n all (p + 1)
-line_passed codes jobs cells n all p r flags j b e o h k f a q small w =
-    let none' = due_none r (event_fault (p + 1) (history_by codes jobs cells p) (event_at codes jobs cells p)) e o in
-    (omega arith, omega arith, flags_more codes jobs cells p j flags b f q small (open_line codes jobs cells p none') w, at_more codes jobs cells n all p h none' a)
-
--- a line whose fault is due is found
-pub line_due : (codes jobs cells : List ℕ) (n : ℕ) (all : Found) (p : ℕ) (r : Fault) (why : Refusal) → At codes jobs cells n all p → p < n → r ≡ Due why → due_of r ≡ event_fault (p + 1) (history_by codes jobs cells p) (event_at codes jobs cells p) → Faulty (p + 1) why ≡ all
-line_due codes jobs cells n all p r why a h e o = at_found codes jobs cells n all p why h (due_some r (event_fault (p + 1) (history_by codes jobs cells p) (event_at codes jobs cells p)) why e o) a
+    Flagged (set flags j b) (history_by codes jobs cells (p + 1)) × At codes jobs cells n all (p + 1)
+line_passed codes jobs cells n all p flags j b o h f a q small w =
+    (flags_more codes jobs cells p j flags b f q small (open_line codes jobs cells p o) w, at_more codes jobs cells n all p h o a)

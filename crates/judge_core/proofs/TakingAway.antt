@@ -1,6 +1,5 @@
 -- Taking jobs away one at a time, clearing their flags and writing their numbers in order, gives the judge's order and the jobs that remain.
 -- Assumes nothing.
-use Rattle.std.specs.Prelude.{None, Some}
 use Prim.Native.Nat.{ℕ, suc, ◌+◌, ◌≤◌, ◌<◌}
 use mathlib.Core.Path.{◌≡◌, refl, sym, ap, ◌∙◌}
 use mathlib.Core.Bool.{Bool, false, not}
@@ -16,9 +15,10 @@ use Rattle.judge_rules.specs.Order.{Edges, ready, preceded, without, ends, leads
 use Rattle.judge_rules.proofs.Without.{stays, left_other, left_before, shorter, ascending_left}
 use Rattle.judge_rules.proofs.Preceded.{ready_is}
 use Rattle.judge_rules.proofs.Taking.{times_enough}
-use Rattle.judge_core.specs.Left.{left_of, or_nobody}
+use Rattle.std.specs.Prelude.{None, Some}
+use Rattle.judge_core.specs.Left.{left_of}
 use Rattle.judge_core.proofs.Listing.{listed_is, listed_has, listed_few, listed_only, listed_ascending}
-use Rattle.judge_core.proofs.Seeking.{found_left, none_left}
+use Rattle.judge_core.proofs.Seeking.{found_small}
 
 -- a flag struck takes its job away
 left_without : (left : List Bool) (j : ℕ) → length left ≡ 256 → j < 256 → left_of (set left j false) ≡ without j (left_of left)
@@ -93,12 +93,12 @@ module _ (e : Edges) where
   unfolding stuck ends
   stuck_last jobs h = ap (λ t. t.remaining) (taken_last jobs h)
 
-  module _ (jobs : List ℕ) (left : List Bool) (placed : List ℕ) (k j : ℕ) (found : j ≡ or_nobody (ready e (left_of left))) (g : Going e jobs left placed k) where
-    module _ (n : j ≡ 256 → ⊥) where
+  module _ (jobs : List ℕ) (left : List Bool) (placed : List ℕ) (k : ℕ) (g : Going e jobs left placed k) where
+    module _ (j : ℕ) (found : Some j ≡ ready e (left_of left)) where
       -- the job found is ready, and is one of 256
       found_ready : (ready e (left_of left) ≡ Some j) × (j < 256)
       unfolding ready
-      found_ready = found_left left (λ i. not (preceded e (left_of left) i)) j found n
+      found_ready = (sym found, found_small left (λ i. not (preceded e (left_of left) i)) j (sym found))
 
       -- without it fewer are left
       pub going_fewer : length (left_of (set left j false)) < length (left_of left)
@@ -123,11 +123,10 @@ module _ (e : Edges) where
                 ∙ ap (λ l. take (k + 1) (set placed k j) ++ order_of e l) (sym (left_without left j g.flags found_ready.1));
           }
 
-    module _ (n : j ≡ 256) where
+    module _ (found : None ≡ ready e (left_of left)) where
       -- where nobody is found none is ready
       found_none : ready e (left_of left) ≡ None
-      unfolding ready
-      found_none = none_left left (λ i. not (preceded e (left_of left) i)) j found n
+      found_none = sym found
 
       -- what is left is what remains
       pub going_rest : left_of left ≡ stuck e jobs

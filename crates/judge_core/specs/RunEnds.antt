@@ -4,7 +4,6 @@ use Rattle.laws.specs.Choice.{pick}
 use Rattle.terms.specs.Limits.{judged_lines}
 use Rattle.conflict.specs.Dirty.{ReadOf}
 use Rattle.judge_core.specs.declared.dirty.Dirt.{Dirt}
-use Rattle.judge_core.specs.declared.dirty.Dirt.TheVariants.{Clean, Read}
 
 -- where the run of line p's job ends as seen from p: 0 if the line is a c, p if it is another mark, else the end as seen from the next line
 unfoldable pub end_by : ℕ → ℕ → ℕ → ℕ
@@ -61,7 +60,7 @@ pub record LastWrite (codes cells ends : List ℕ) (p q : ℕ) : Type 0 where
   pub spoils : q < p → spoils_at codes cells ends p q ≡ true
   pub later : (x : ℕ) → x < p → spoils_at codes cells ends p x ≡ true → (x ≤ q) × (q < p)
 
--- clean, or reader and writer of the first dirty read
-unfoldable pub dirt_of : Option ReadOf → Dirt
-dirt_of None = Clean
-dirt_of (Some d) = Read d.reader d.writer
+-- reader and writer of the first dirty read, if there is one
+unfoldable pub dirt_of : Option ReadOf → Option Dirt
+dirt_of None = None
+dirt_of (Some d) = Some (record { reader = d.reader; writer = d.writer })
