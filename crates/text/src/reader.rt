@@ -7,7 +7,7 @@ ghost use Rattle.text_rules.specs.Fields.{digits_of, digit_ahead, end_ahead, fir
 use terms::limits::LAST_NUMBER;
 use terms::words::{NEWLINE, TAB};
 use terms::{Field, Letter, Lettered, has_cell, has_job, letter_of, of_histories, of_requests};
-use text_rules::{Numeral, Reading};
+use text_rules::{Line, Numeral, Reading};
 
 // A cell has one or two digits.
 const LAST_CELL: u32 = 99;
@@ -71,7 +71,7 @@ fn shortest_at(line: &[u8], from: usize) -> bool
 
 // The number that the digits from this place on spell, if they fill their field; stops as soon as the number is above `most`.
 #[tactic(auto, using(text_rules::proofs::Digits::digit_bounds, text_rules::proofs::Digits::digits_over, text_rules::proofs::Digits::more_here, text_rules::proofs::Digits::stop_here, text_rules::proofs::Digits::stop_past, text_rules::proofs::Digits::torn_here))]
-fn digits_at(line: &[u8], from: usize, most: u32) -> Numeral
+fn digits_at(line: &[u8], from: usize, most: u32) -> Option<Numeral>
     ensures { result ≡ digits_at most 0 from (drop from line.now) }
 {
     let mut value: u32 = 0;
@@ -80,23 +80,23 @@ fn digits_at(line: &[u8], from: usize, most: u32) -> Numeral
         let byte = line[next];
         if !is_digit(byte) {
             if ends_field(byte) {
-                return Numeral::Is { value, next };
+                return Some(Numeral { value, next });
             }
-            return Numeral::Missing;
+            return None;
         }
         let more = (value as u64) * 10 + ((byte - b'0') as u64);
         if more > most as u64 {
-            return Numeral::Missing;
+            return None;
         }
         value = more as u32;
         next += 1;
     }
-    Numeral::Is { value, next }
+    Some(Numeral { value, next })
 }
 
 // The number field at this place: a tab, then digits of a number up to `most`, and nothing else.
 #[tactic(auto, using(text_rules::proofs::Places::number_placed))]
-fn number_at(line: &[u8], from: usize, most: u32) -> Numeral
+fn number_at(line: &[u8], from: usize, most: u32) -> Option<Numeral>
     ensures { result ≡ number_at most from (drop from line.now) }
 {
     if from < line.len() {
@@ -107,24 +107,24 @@ fn number_at(line: &[u8], from: usize, most: u32) -> Numeral
             }
         }
     }
-    Numeral::Missing
+    None
 }
 
-// The reading `good`, if exactly one newline is left of the line.
+// The good line given, if exactly one newline is left of the line that is read.
 #[tactic(auto, using(text_rules::proofs::Places::ending_placed))]
-fn ending_at(line: &[u8], from: usize, good: Reading) -> Reading
-    ensures { result ≡ ending (drop from line.now) good }
+fn ending_at(line: &[u8], from: usize, good: Line) -> Reading
+    ensures { result ≡ ending (drop from line.now) (Ok good) }
 {
     if from < line.len() {
         let next = from + 1;
         if next < line.len() {
-            return Reading::Bad(Field::Fourth);
+            return Err(Field::Fourth);
         }
         if line[from] == NEWLINE {
-            return good;
+            return Ok(good);
         }
     }
-    Reading::Bad(Field::Fourth)
+    Err(Field::Fourth)
 }
 
 // The rest of a line after letter and job: the cell, if the letter has one, and the end.
@@ -134,27 +134,23 @@ fn cell_part(line: &[u8], from: usize, letter: Letter, job: u32) -> Reading
 {
     if has_cell(letter) {
         match number_at(line, from, LAST_CELL) {
-            Numeral::Is { value, next } => ending_at(
-                line,
-                next,
-                Reading::Good {
+            Some(cell) => {
+                let good = Line {
                     letter,
                     job,
-                    cell: value,
-                },
-            ),
-            Numeral::Missing => Reading::Bad(Field::Third),
+                    cell: cell.value,
+                };
+                ending_at(line, cell.next, good)
+            }
+            None => Err(Field::Third),
         }
     } else {
-        ending_at(
-            line,
-            from,
-            Reading::Good {
-                letter,
-                job,
-                cell: 0,
-            },
-        )
+        let good = Line {
+            letter,
+            job,
+            cell: 0,
+        };
+        ending_at(line, from, good)
     }
 }
 
@@ -165,8 +161,8 @@ fn job_part(line: &[u8], letter: Letter) -> Reading
 {
     if has_job(letter) {
         match number_at(line, 1, LAST_NUMBER) {
-            Numeral::Is { value, next } => cell_part(line, next, letter, value),
-            Numeral::Missing => Reading::Bad(Field::Second),
+            Some(job) => cell_part(line, job.next, letter, job.value),
+            None => Err(Field::Second),
         }
     } else {
         cell_part(line, 1, letter, 0)
@@ -196,10 +192,10 @@ pub fn read_request(line: &[u8]) -> Reading
             if of_requests(letter) {
                 job_part(line, letter)
             } else {
-                Reading::Bad(Field::First)
+                Err(Field::First)
             }
         }
-        Lettered::Unknown => Reading::Bad(Field::First),
+        Lettered::Unknown => Err(Field::First),
     }
 }
 
@@ -213,56 +209,27 @@ pub fn read_history(line: &[u8]) -> Reading
             if of_histories(letter) {
                 job_part(line, letter)
             } else {
-                Reading::Bad(Field::First)
+                Err(Field::First)
             }
         }
-        Lettered::Unknown => Reading::Bad(Field::First),
+        Lettered::Unknown => Err(Field::First),
     }
 }
 
-// The field at fault after letter and job, for a line without its newline: the cell, if the letter has one and it is bad, else the end.
-#[tactic(auto, using(crate::proofs::TornLines::cell_lacks, crate::proofs::TornLines::cell_torn, crate::proofs::TornLines::cell_unasked))]
-fn torn_cell(line: &[u8], from: usize, letter: Letter) -> Field
-    ensures { result ≡ lacking (cell_part letter 0 (drop from line.now)) }
+// The field at fault of a line that has no newline, by how its bytes read: of a good line it is the end.
+#[tactic(auto, unfolding(text_rules::specs::Fields::lacking))]
+pub(crate) fn lacking(reading: Reading) -> Field
+    ensures { result ≡ lacking reading }
 {
-    if has_cell(letter) {
-        match number_at(line, from, LAST_CELL) {
-            Numeral::Is { value: _, next: _ } => Field::Fourth,
-            Numeral::Missing => Field::Third,
-        }
-    } else {
-        Field::Fourth
-    }
-}
-
-// The same after the letter: the job, if the letter has one and it is bad, else what follows.
-#[tactic(auto, using(crate::proofs::TornLines::job_lacks, crate::proofs::TornLines::job_torn, crate::proofs::TornLines::job_unasked))]
-fn torn_job(line: &[u8], letter: Letter) -> Field
-    ensures { result ≡ lacking (job_part letter (drop 1 line.now)) }
-{
-    if has_job(letter) {
-        match number_at(line, 1, LAST_NUMBER) {
-            Numeral::Is { value: _, next } => torn_cell(line, next, letter),
-            Numeral::Missing => Field::Second,
-        }
-    } else {
-        torn_cell(line, 1, letter)
+    match reading {
+        Ok(_) => Field::Fourth,
+        Err(field) => field,
     }
 }
 
 // The field at fault of a request line that has no newline.
-#[tactic(auto, using(crate::proofs::TornLines::line_torn, crate::proofs::TornLines::other_torn, crate::proofs::TornLines::unknown_torn))]
 pub fn torn_request(line: &[u8]) -> Field
     ensures { result ≡ lacking (read_line of_requests line.now) }
 {
-    match first_letter(line) {
-        Lettered::Known(letter) => {
-            if of_requests(letter) {
-                torn_job(line, letter)
-            } else {
-                Field::First
-            }
-        }
-        Lettered::Unknown => Field::First,
-    }
+    lacking(read_request(line))
 }

@@ -16,7 +16,6 @@ use terms::words::Word;
 use text::held::{read_held, torn_held};
 use text::writer::write_answer;
 use text_rules::splitter::Splitter;
-use text_rules::{Reading, Written};
 
 // The next request: how many lines may still be answered, this one included (0 if there is no request); what it asks; and its line.
 #[derive(Clone, Copy)]
@@ -109,8 +108,8 @@ fn put_out(rt: &HostRuntime, out: &[u8], at: usize) -> bool
 fn put_record(rt: &HostRuntime, line: u64, word: Word, number: u64, fault: u64) -> bool {
     let mut out = [0u8; ROOM];
     match write_answer(&mut out, 0, line, word, number, fault) {
-        Written::Next(at) => put_out(rt, &out, at),
-        Written::Refused(_) => false,
+        Ok(at) => put_out(rt, &out, at),
+        Err(_) => false,
     }
 }
 
@@ -197,16 +196,16 @@ fn next_request(rt: &HostRuntime, before: Splitter, lines: u64) -> Asked
             return at_end(rt, splitter);
         }
         match read_held(splitter) {
-            Reading::Good { letter, job, cell } => {
+            Ok(good) => {
                 return Asked {
                     left,
-                    kind: byte_of(letter),
-                    job,
-                    cell,
+                    kind: byte_of(good.letter),
+                    job: good.job,
+                    cell: good.cell,
                     splitter,
                 };
             }
-            Reading::Bad(field) => {
+            Err(field) => {
                 if !put_no(rt, splitter.line, Refusal::BadLine(field)) {
                     return none(splitter);
                 }
