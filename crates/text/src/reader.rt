@@ -6,7 +6,7 @@ ghost use Rattle.text_rules.specs.Fields.{digits_of, digit_ahead, end_ahead, fir
 
 use terms::limits::LAST_NUMBER;
 use terms::words::{NEWLINE, TAB};
-use terms::{Field, Letter, Lettered, has_cell, has_job, letter_of, of_histories, of_requests};
+use terms::{Field, Letter, has_cell, has_job, letter_of, of_histories, of_requests};
 use text_rules::{Line, Numeral, Reading};
 
 // A cell has one or two digits.
@@ -171,7 +171,7 @@ fn job_part(line: &[u8], letter: Letter) -> Reading
 
 // The line's first letter, if its field ends right after it.
 #[tactic(auto, using(text_rules::proofs::Places::letter_placed))]
-fn first_letter(line: &[u8]) -> Lettered
+fn first_letter(line: &[u8]) -> Option<Letter>
     ensures { result ≡ first_letter line.now }
 {
     if 0 < line.len() {
@@ -179,7 +179,7 @@ fn first_letter(line: &[u8]) -> Lettered
             return letter_of(line[0]);
         }
     }
-    Lettered::Unknown
+    None
 }
 
 // What a request line says.
@@ -188,14 +188,14 @@ pub fn read_request(line: &[u8]) -> Reading
     ensures { result ≡ read_line of_requests line.now }
 {
     match first_letter(line) {
-        Lettered::Known(letter) => {
+        Some(letter) => {
             if of_requests(letter) {
                 job_part(line, letter)
             } else {
                 Err(Field::First)
             }
         }
-        Lettered::Unknown => Err(Field::First),
+        None => Err(Field::First),
     }
 }
 
@@ -205,14 +205,14 @@ pub fn read_history(line: &[u8]) -> Reading
     ensures { result ≡ read_line of_histories line.now }
 {
     match first_letter(line) {
-        Lettered::Known(letter) => {
+        Some(letter) => {
             if of_histories(letter) {
                 job_part(line, letter)
             } else {
                 Err(Field::First)
             }
         }
-        Lettered::Unknown => Err(Field::First),
+        None => Err(Field::First),
     }
 }
 
