@@ -1,5 +1,5 @@
 // The line reader: what one line of requests or of a history says, field by field (01, Lines; 02, No. 5).
-ghost use Rattle.std.specs.Prelude.{◌≡◌, drop};
+ghost use Rattle.std.specs.Prelude.{◌≡◌, ◌≤◌, Ok, drop, length};
 ghost use Rattle.terms.specs.Letters.{of_requests, of_histories};
 ghost use Rattle.text_rules.specs.Lines.{parts, is_digit, shortest, ending, cell_part, job_part, read_line};
 ghost use Rattle.text_rules.specs.Fields.{digits_of, digit_ahead, end_ahead, first_letter, digits_at, number_at, lacking};
@@ -12,12 +12,12 @@ use text_rules::{Line, Numeral, Reading};
 // A cell has one or two digits.
 const LAST_CELL: u32 = 99;
 
-// Whether a byte is a digit.
+// Whether a byte is a digit, as the definition of a line has it.
 #[tactic(auto, unfolding(text_rules::specs::Lines::is_digit))]
 fn is_digit(byte: u8) -> bool
     ensures { result ≡ is_digit byte }
 {
-    b'0' <= byte && byte <= b'9'
+    byte.is_ascii_digit()
 }
 
 // Whether the byte ends a field: a tab or a newline.
@@ -25,7 +25,7 @@ fn is_digit(byte: u8) -> bool
 fn ends_field(byte: u8) -> bool
     ensures { result ≡ parts byte }
 {
-    byte == TAB || byte == NEWLINE
+    matches!(byte, TAB | NEWLINE)
 }
 
 // Whether a field ends just before this place: a tab, a newline or the end of the line is there.
@@ -33,11 +33,7 @@ fn ends_field(byte: u8) -> bool
 fn end_ahead(line: &[u8], at: usize) -> bool
     ensures { result ≡ end_ahead (drop at line.now) }
 {
-    if at < line.len() {
-        ends_field(line[at])
-    } else {
-        true
-    }
+    line.get(at).is_none_or(|byte| ends_field(*byte))
 }
 
 // Whether there is a digit at this place.
@@ -45,11 +41,7 @@ fn end_ahead(line: &[u8], at: usize) -> bool
 fn digit_ahead(line: &[u8], at: usize) -> bool
     ensures { result ≡ digit_ahead (drop at line.now) }
 {
-    if at < line.len() {
-        is_digit(line[at])
-    } else {
-        false
-    }
+    line.get(at).is_some_and(|byte| is_digit(*byte))
 }
 
 // Whether there is a digit at this place, and no leading zero except the single 0.
@@ -57,41 +49,34 @@ fn digit_ahead(line: &[u8], at: usize) -> bool
 fn shortest_at(line: &[u8], from: usize) -> bool
     ensures { result ≡ shortest (digits_of (drop from line.now)) }
 {
-    if from < line.len() {
-        let first = line[from];
-        if is_digit(first) {
-            if first == b'0' {
-                return !digit_ahead(line, from + 1);
-            }
-            return true;
-        }
+    match line.get(from) {
+        Some(first) => is_digit(*first) && (*first != b'0' || !digit_ahead(line, from + 1)),
+        None => false,
     }
-    false
 }
 
 // The number that the digits from this place on spell, if they fill their field; stops as soon as the number is above `most`.
 #[tactic(auto, using(text_rules::proofs::Digits::digit_bounds, text_rules::proofs::Digits::digits_over, text_rules::proofs::Digits::more_here, text_rules::proofs::Digits::stop_here, text_rules::proofs::Digits::stop_past, text_rules::proofs::Digits::torn_here))]
 fn digits_at(line: &[u8], from: usize, most: u32) -> Option<Numeral>
+    requires { from ≤ length line.now }
     ensures { result ≡ digits_at most 0 from (drop from line.now) }
 {
     let mut value: u32 = 0;
-    let mut next = from;
-    while next < line.len() {
+    for next in from..line.len() {
         let byte = line[next];
         if !is_digit(byte) {
-            if ends_field(byte) {
-                return Some(Numeral { value, next });
-            }
-            return None;
+            return ends_field(byte).then_some(Numeral { value, next });
         }
-        let more = (value as u64) * 10 + ((byte - b'0') as u64);
-        if more > most as u64 {
+        let more = u64::from(value) * 10 + u64::from(byte - b'0');
+        if more > u64::from(most) {
             return None;
         }
         value = more as u32;
-        next += 1;
     }
-    Some(Numeral { value, next })
+    Some(Numeral {
+        value,
+        next: line.len(),
+    })
 }
 
 // The number field at this place: a tab, then digits of a number up to `most`, and nothing else.
@@ -99,32 +84,21 @@ fn digits_at(line: &[u8], from: usize, most: u32) -> Option<Numeral>
 fn number_at(line: &[u8], from: usize, most: u32) -> Option<Numeral>
     ensures { result ≡ number_at most from (drop from line.now) }
 {
-    if from < line.len() {
-        if line[from] == TAB {
-            let start = from + 1;
-            if shortest_at(line, start) {
-                return digits_at(line, start, most);
-            }
-        }
+    match line.get(from) {
+        Some(&TAB) if shortest_at(line, from + 1) => digits_at(line, from + 1, most),
+        _ => None,
     }
-    None
 }
 
 // The good line given, if exactly one newline is left of the line that is read.
-#[tactic(auto, using(text_rules::proofs::Places::ending_placed))]
+#[tactic(auto, unfolding(text_rules::specs::Lines::ending))]
 fn ending_at(line: &[u8], from: usize, good: Line) -> Reading
     ensures { result ≡ ending (drop from line.now) (Ok good) }
 {
-    if from < line.len() {
-        let next = from + 1;
-        if next < line.len() {
-            return Err(Field::Fourth);
-        }
-        if line[from] == NEWLINE {
-            return Ok(good);
-        }
+    match line.get(from..) {
+        Some([NEWLINE]) => Ok(good),
+        _ => Err(Field::Fourth),
     }
-    Err(Field::Fourth)
 }
 
 // The rest of a line after letter and job: the cell, if the letter has one, and the end.
@@ -132,26 +106,21 @@ fn ending_at(line: &[u8], from: usize, good: Line) -> Reading
 fn cell_part(line: &[u8], from: usize, letter: Letter, job: u32) -> Reading
     ensures { result ≡ cell_part letter job (drop from line.now) }
 {
-    if has_cell(letter) {
-        match number_at(line, from, LAST_CELL) {
-            Some(cell) => {
-                let good = Line {
-                    letter,
-                    job,
-                    cell: cell.value,
-                };
-                ending_at(line, cell.next, good)
-            }
-            None => Err(Field::Third),
-        }
-    } else {
+    if !has_cell(letter) {
         let good = Line {
             letter,
             job,
             cell: 0,
         };
-        ending_at(line, from, good)
+        return ending_at(line, from, good);
     }
+    let cell = number_at(line, from, LAST_CELL).ok_or(Field::Third)?;
+    let good = Line {
+        letter,
+        job,
+        cell: cell.value,
+    };
+    ending_at(line, cell.next, good)
 }
 
 // The rest of a line after its letter: the job, if the letter has one, and what follows.
@@ -159,14 +128,11 @@ fn cell_part(line: &[u8], from: usize, letter: Letter, job: u32) -> Reading
 fn job_part(line: &[u8], letter: Letter) -> Reading
     ensures { result ≡ job_part letter (drop 1 line.now) }
 {
-    if has_job(letter) {
-        match number_at(line, 1, LAST_NUMBER) {
-            Some(job) => cell_part(line, job.next, letter, job.value),
-            None => Err(Field::Second),
-        }
-    } else {
-        cell_part(line, 1, letter, 0)
+    if !has_job(letter) {
+        return cell_part(line, 1, letter, 0);
     }
+    let job = number_at(line, 1, LAST_NUMBER).ok_or(Field::Second)?;
+    cell_part(line, job.next, letter, job.value)
 }
 
 // The line's first letter, if its field ends right after it.
@@ -174,12 +140,10 @@ fn job_part(line: &[u8], letter: Letter) -> Reading
 fn first_letter(line: &[u8]) -> Option<Letter>
     ensures { result ≡ first_letter line.now }
 {
-    if 0 < line.len() {
-        if end_ahead(line, 1) {
-            return letter_of(line[0]);
-        }
+    match line.first() {
+        Some(first) if end_ahead(line, 1) => letter_of(*first),
+        _ => None,
     }
-    None
 }
 
 // What a request line says.
@@ -188,14 +152,8 @@ pub fn read_request(line: &[u8]) -> Reading
     ensures { result ≡ read_line of_requests line.now }
 {
     match first_letter(line) {
-        Some(letter) => {
-            if of_requests(letter) {
-                job_part(line, letter)
-            } else {
-                Err(Field::First)
-            }
-        }
-        None => Err(Field::First),
+        Some(letter) if of_requests(letter) => job_part(line, letter),
+        _ => Err(Field::First),
     }
 }
 
@@ -205,14 +163,8 @@ pub fn read_history(line: &[u8]) -> Reading
     ensures { result ≡ read_line of_histories line.now }
 {
     match first_letter(line) {
-        Some(letter) => {
-            if of_histories(letter) {
-                job_part(line, letter)
-            } else {
-                Err(Field::First)
-            }
-        }
-        None => Err(Field::First),
+        Some(letter) if of_histories(letter) => job_part(line, letter),
+        _ => Err(Field::First),
     }
 }
 
