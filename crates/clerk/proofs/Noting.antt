@@ -1,12 +1,12 @@
 -- What the history notes of a request, by its letter and its answer, is what the paper's desk records of it (01, Lines).
 -- Assumes nothing.
+use Rattle.std.specs.Prelude.{Some}
 use Prim.Native.Nat.{ℕ}
 use mathlib.Core.Path.{◌≡◌, sym, ap, ◌∙◌}
 use mathlib.Core.List.{append-nil}
 use Rattle.terms.specs.declared.letters.Ask.{Ask}
 use Rattle.terms.specs.declared.letters.Letter.{Letter}
 use Rattle.terms.specs.declared.letters.Letter.TheVariants.{Begin, Commit, GiveUp, Retry, Back, Asks}
-use Rattle.terms.specs.declared.letters.Lettered.TheVariants.{Known}
 use Rattle.terms.specs.declared.refusals.Refusal.{Refusal}
 use Rattle.terms.proofs.Alphabet.{letter_of_byte}
 use Rattle.conflict.specs.declared.action.Kind.{Kind}
@@ -21,7 +21,7 @@ use Rattle.clerk.specs.Parts.{asking, noted_bytes}
 
 -- what is noted of a request that goes
 abbrev Went : Noted → Letter → ℕ → ℕ → Type 0
-Went n l job cell = noted_bytes n ≡ text_of (went_by (asking l cell) job (Known l))
+Went n l job cell = noted_bytes n ≡ text_of (went_by (asking l cell) job (Some l))
 
 module _ (l : Letter) (job cell : ℕ) where
   -- nothing of a begin, a retry, and of k, which is no request

@@ -1,12 +1,11 @@
 -- The records as the code writes them are the records of the line in the view (01, Lines).
 -- Assumes nothing.
+use Rattle.std.specs.Prelude.{Option, None, Some}
 use Prim.Native.Nat.{ℕ}
 use mathlib.Core.Path.{◌≡◌, refl, sym, ap, ap₂, ◌∙◌}
 use mathlib.Core.List.{List, [], ◌∷◌, ◌++◌}
 use Rattle.terms.specs.declared.letters.Letter.{Letter}
 use Rattle.terms.specs.declared.letters.Letter.TheVariants.{Begin, Commit, GiveUp, Retry, Back, Asks}
-use Rattle.terms.specs.declared.letters.Lettered.{Lettered}
-use Rattle.terms.specs.declared.letters.Lettered.TheVariants.{Known, Unknown}
 use Rattle.terms.specs.Letters.{byte_of, letter_of}
 use Rattle.conflict.specs.declared.action.Action.{Action}
 use Rattle.conflict.specs.declared.action.Event.TheVariants.{Does}
@@ -25,15 +24,15 @@ use Rattle.program_rules.specs.Work.{viewed}
 use Rattle.clerk.specs.Parts.{asking, first_record, wake_record, wake_records, line_records}
 
 -- what the history records of a request that goes does not name the job that asked
-went_of : (r s : Request) (j : ℕ) (l : Lettered) → r.cell ≡ s.cell → went_by r j l ≡ went_by s j l
+went_of : (r s : Request) (j : ℕ) (l : Option Letter) → r.cell ≡ s.cell → went_by r j l ≡ went_by s j l
 unfolding went_by
-went_of r s j Unknown e = refl
-went_of r s j (Known Back) e = refl
-went_of r s j (Known Begin) e = refl
-went_of r s j (Known Commit) e = refl
-went_of r s j (Known GiveUp) e = refl
-went_of r s j (Known Retry) e = refl
-went_of r s j (Known (Asks a)) e = ap (λ c. Does (record { kind = recorded a; job = j; cell = c }) ∷ []) e
+went_of r s j None e = refl
+went_of r s j (Some Back) e = refl
+went_of r s j (Some Begin) e = refl
+went_of r s j (Some Commit) e = refl
+went_of r s j (Some GiveUp) e = refl
+went_of r s j (Some Retry) e = refl
+went_of r s j (Some (Asks a)) e = ap (λ c. Does (record { kind = recorded a; job = j; cell = c }) ∷ []) e
 
 -- nor does what it records of any answer
 own_of : (l : Letter) (job cell : ℕ) (a : Answer) → own_records (asking l cell) a ≡ own_records (record { kind = byte_of l; job = job; cell = cell }) a

@@ -1,5 +1,5 @@
 // The records of one line in each view: the answer, or what the history notes of it, then the wakes; none for the chains (01, Lines; 02, No. 3).
-ghost use Rattle.std.specs.Prelude.{◌≡◌, true, ◌+◌, ◌≤◌, map, length, take};
+ghost use Rattle.std.specs.Prelude.{◌≡◌, true, ◌+◌, ◌≤◌, map, length, take, Some};
 ghost use Rattle.terms.specs.Limits.{request_lines, last_number};
 ghost use Rattle.text_rules.specs.Records.{of_answers, answer_record, longest_record, line_record};
 ghost use Rattle.text_rules.specs.Wrote.{Wrote};
@@ -7,18 +7,18 @@ ghost use Rattle.desks.specs.AnswerWords.{word_of, number_beside, field_beside};
 ghost use Rattle.text_rules.specs.EventRecords.{ask_by, text_of};
 ghost use Rattle.desk_arrays.specs.Steps.{wake_at};
 ghost use Rattle.desks.specs.Records.{went_by, own_records};
-ghost use Rattle.terms.specs.declared.letters.Lettered.TheVariants.{Known};
 ghost use Rattle.program_rules.specs.Work.{viewed, told_bad, wakes_room, line_room};
 ghost use Rattle.clerk.specs.Parts.{Added, Besides, asking, noted_bytes, first_record, wake_record, wake_records, line_records};
 
 use conflict::action::{Action, Kind};
 use conflict::modes::recorded_kind;
 use desk::wakes::wake_at;
+use desk_arrays::board::Waits;
 use desks::Answer;
 use program_rules::View;
 use terms::letters::{Ask, Letter};
 use terms::limits::PLACES;
-use terms::refusals::{Field, Refusal, field_number, field_of, number_of};
+use terms::refusals::{Field, Refusal, field_of};
 use terms::words::Word;
 use text::writer::{write_answer, write_line};
 use text_rules::Written;
@@ -52,7 +52,7 @@ fn number_beside(a: Answer) -> u64
         Answer::Go(j) => j as u64,
         Answer::Wait(j) => j as u64,
         Answer::Back(j) => j as u64,
-        Answer::No(why) => number_of(why) as u64,
+        Answer::No(why) => u8::from(why) as u64,
     }
 }
 
@@ -84,7 +84,7 @@ fn ask_by(k: Kind) -> Ask
 // What the history notes of a request that goes; u is noted as r.
 #[tactic(auto, using(crate::proofs::Noting::went_asks, crate::proofs::Noting::went_back, crate::proofs::Noting::went_begin, crate::proofs::Noting::went_commit, crate::proofs::Noting::went_give_up, crate::proofs::Noting::went_retry))]
 fn noted_go(letter: Letter, job: u32, cell: u32) -> Noted
-    ensures { noted_bytes result ≡ text_of (went_by (asking letter cell) job (Known letter)) }
+    ensures { noted_bytes result ≡ text_of (went_by (asking letter cell) job (Some letter)) }
 {
     match letter {
         Letter::Begin => Noted::Nothing,
@@ -218,7 +218,12 @@ fn put_wakes<'a>(
         if count <= i {
             break;
         }
-        let a = wake_at(number, cells, ask, woken[i] as usize);
+        let w = Waits {
+            number,
+            cell: cells,
+            ask,
+        };
+        let a = wake_at(w, woken[i] as usize);
         next = put_wake(view, out, next, line, a);
         i += 1;
     }
@@ -262,8 +267,8 @@ pub fn put_bad(view: View, out: &mut [u8], at: usize, line: u64, field: Field) -
             at,
             line,
             Word::No,
-            number_of(Refusal::BadLine(field)) as u64,
-            field_number(field) as u64,
+            u8::from(Refusal::BadLine(field)) as u64,
+            u8::from(field) as u64,
         ),
         View::History => at,
         View::Chains => at,

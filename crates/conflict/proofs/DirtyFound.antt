@@ -1,11 +1,11 @@
 -- The test finds the first dirty read, with the latest action that makes it dirty, exactly if the history is dirty in the request's words. There is only one such answer (02, No. 2).
 -- Assumes nothing.
+use Rattle.std.specs.Prelude.{Option, None, Some}
 use Prim.Native.Nat.{ℕ, suc, ◌≤◌, ◌<◌}
 use mathlib.Core.Path.{◌≡◌, refl, sym, ap, ◌∙◌, subst}
 use mathlib.Core.Logic.{◌↔◌, ◌⊎◌, inl, inr, ⊎_elim}
 use mathlib.Core.Bool.{true, false, not, ◌&&◌}
 use mathlib.Core.List.{[], ◌∷◌, append_assoc}
-use mathlib.Core.Option.{Option, none, some}
 use native.Mathlib.Omega.{arith}
 use lib.Dec.{eqb, leb}
 use lib.ListN.{length}
@@ -28,14 +28,14 @@ pub record FirstFrom (h : History) (n reader writer : ℕ) : Type 0 where
 
 -- the first one, or that there is none
 abbrev From : History → ℕ → Option ReadOf → Type 0
-From h n none = (y x i j : ℕ) → DirtyRead h y x i j → y < n
-From h n (some d) = FirstFrom h n d.reader d.writer
+From h n None = (y x i j : ℕ) → DirtyRead h y x i j → y < n
+From h n (Some d) = FirstFrom h n d.reader d.writer
 
 module _ (h : History) (n : ℕ) where
   -- what is known of the read at place n
   abbrev Here : ℕ → Option ℕ → Type 0
-  Here reader none = (x i j : ℕ) → DirtyRead h n x i j → ⊥
-  Here reader (some writer) = Latest h n n reader writer
+  Here reader None = (x i j : ℕ) → DirtyRead h n x i j → ⊥
+  Here reader (Some writer) = Latest h n n reader writer
 
   -- a place other than n
   before_it : ((x i j : ℕ) → DirtyRead h n x i j → ⊥) → (y x i j : ℕ) → DirtyRead h y x i j → y < suc n → y < n
@@ -43,8 +43,8 @@ module _ (h : History) (n : ℕ) where
 
   -- if nothing is dirty at place n, what comes later decides
   from_later : ((x i j : ℕ) → DirtyRead h n x i j → ⊥) → (later : Option ReadOf) → From h (suc n) later → From h n later
-  from_later apart none f = λ y x i j d. before_it apart y x i j d (f y x i j d)
-  from_later apart (some r) f = record {
+  from_later apart None f = λ y x i j d. before_it apart y x i j d (f y x i j d)
+  from_later apart (Some r) f = record {
     at = f.at;
     latest = f.latest;
     first = λ y x i j d. ⊎_elim inl (λ l. inr (before_it apart y x i j d l)) (f.first y x i j d);
@@ -53,8 +53,8 @@ module _ (h : History) (n : ℕ) where
   -- a line, and those after it
   from_line : (reader : ℕ) (o : Option ℕ) (later : Option ReadOf) → Here reader o → From h (suc n) later → From h n (read_or_later reader o later)
   unfolding read_or_later
-  from_line reader none later b f = from_later b later f
-  from_line reader (some writer) later b f = record {
+  from_line reader None later b f = from_later b later f
+  from_line reader (Some writer) later b f = record {
     at = n;
     latest = b;
     first = λ y x i j d. by_test (leb n y) (λ t. inl (leb-true n y t)) (λ g. inr (leb-false n y g));
@@ -64,8 +64,8 @@ module _ (h : History) (n : ℕ) where
   module _ (seen : History) (a : Action) (rest : History) (l : in_order_lem seen (Does a ∷ rest) ≡ h) (s : length seen ≡ n) where
     -- looking back from the read finds every action that makes it dirty
     from_back : (reader : ℕ) (o : Option ℕ) → Back h n (length seen) reader o → Here reader o
-    from_back reader none b = λ x i j d. omega (arith, b x i j d, write_ahead d)
-    from_back reader (some writer) b = subst (λ m. Latest h n m reader writer) s b
+    from_back reader None b = λ x i j d. omega (arith, b x i j d, write_ahead d)
+    from_back reader (Some writer) b = subst (λ m. Latest h n m reader writer) s b
 
     -- if it is not a read in a run that commits, nothing makes it dirty
     unread : (not (changes a.kind) && commits a.job rest) ≡ false → (x i j : ℕ) → DirtyRead h n x i j → ⊥
@@ -134,32 +134,32 @@ module _ (h : History) where
   by_found o e = subst (From h 0) e (found h [] h refl)
 
   -- if the test tells a dirty read, it is the first
-  told_first : (i j : ℕ) → dirty_of h ≡ some (record { reader = i; writer = j }) → FirstDirty h i j
-  told_first i j e = from_first h i j (by_found (some (record { reader = i; writer = j })) e)
+  told_first : (i j : ℕ) → dirty_of h ≡ Some (record { reader = i; writer = j }) → FirstDirty h i j
+  told_first i j e = from_first h i j (by_found (Some (record { reader = i; writer = j })) e)
 
   -- if there is none, the test tells none
-  told_none : dirty_of h ≡ none → IsDirty h → ⊥
-  told_none e d = let l : d.read_at < 0 = by_found none e d.read_at d.write_at d.reader d.writer d.dirty_read in omega arith
+  told_none : dirty_of h ≡ None → IsDirty h → ⊥
+  told_none e d = let l : d.read_at < 0 = by_found None e d.read_at d.write_at d.reader d.writer d.dirty_read in omega arith
 
   -- a history with a first dirty read is dirty
   pub first_is_dirty : (i j : ℕ) → FirstDirty h i j → IsDirty h
   first_is_dirty i j f = record { read_at = f.read_at; write_at = f.write_at; reader = i; writer = j; dirty_read = f.dirty_read }
 
   -- a proof by what the test tells
-  by_told : {P : Type 0} (o : Option ReadOf) → dirty_of h ≡ o → (dirty_of h ≡ none → P) → ((i j : ℕ) → dirty_of h ≡ some (record { reader = i; writer = j }) → P) → P
-  by_told none e one' two' = one' e
-  by_told (some r) e one' two' = two' r.reader r.writer e
+  by_told : {P : Type 0} (o : Option ReadOf) → dirty_of h ≡ o → (dirty_of h ≡ None → P) → ((i j : ℕ) → dirty_of h ≡ Some (record { reader = i; writer = j }) → P) → P
+  by_told None e one' two' = one' e
+  by_told (Some r) e one' two' = two' r.reader r.writer e
 
   -- THE TEST: it tells reader and writer exactly if they are those of the first dirty read
-  pub dirty_exactly : (i j : ℕ) → FirstDirty h i j ↔ (dirty_of h ≡ some (record { reader = i; writer = j }))
+  pub dirty_exactly : (i j : ℕ) → FirstDirty h i j ↔ (dirty_of h ≡ Some (record { reader = i; writer = j }))
   dirty_exactly i j = (
     λ f. by_told (dirty_of h) refl (λ n. absurd (told_none n (first_is_dirty i j f)))
-        (λ k l e. let s = first_dirty_one h k l i j (told_first k l e) f in e ∙ λ t. some (record { reader = s.0 t; writer = s.1 t })),
+        (λ k l e. let s = first_dirty_one h k l i j (told_first k l e) f in e ∙ λ t. Some (record { reader = s.0 t; writer = s.1 t })),
     told_first i j,
   )
 
   -- and it tells nothing exactly if the history is not dirty
-  pub clean_exactly : (IsDirty h → ⊥) ↔ (dirty_of h ≡ none)
+  pub clean_exactly : (IsDirty h → ⊥) ↔ (dirty_of h ≡ None)
   clean_exactly = (
     λ c. by_told (dirty_of h) refl (λ n. n) (λ i j e. absurd (c (first_is_dirty i j (told_first i j e)))),
     told_none,

@@ -1,11 +1,11 @@
 -- Looking back from a read over the lines before it finds the latest action that makes it dirty, or that there is none (02, No. 2).
 -- Assumes nothing.
+use Rattle.std.specs.Prelude.{Option, None, Some}
 use Prim.Native.Nat.{ℕ, suc, ◌+◌, ◌≤◌}
 use mathlib.Core.Path.{◌≡◌, refl, sym, ap, ◌∙◌, subst}
 use mathlib.Core.Logic.{◌⊎◌, inl, inr}
 use mathlib.Core.Bool.{true, false}
 use mathlib.Core.List.{[], ◌∷◌, ◌++◌, append_assoc}
-use mathlib.Core.Option.{Option, none, some}
 use native.Mathlib.Omega.{arith}
 use lib.Dec.{eqb, leb}
 use lib.ListN.{length}
@@ -44,8 +44,8 @@ pub record Latest (h : History) (p n reader writer : ℕ) : Type 0 where
 
 -- the latest such action, or that there is none
 abbrev pub Back : History → ℕ → ℕ → ℕ → Option ℕ → Type 0
-Back h p n reader none = (x i j : ℕ) → DirtyRead h p x i j → n ≤ x
-Back h p n reader (some writer) = Latest h p n reader writer
+Back h p n reader None = (x i j : ℕ) → DirtyRead h p x i j → n ≤ x
+Back h p n reader (Some writer) = Latest h p n reader writer
 
 -- a number is at most n, or it is more
 at_most : (x n : ℕ) → (x ≤ n) ⊎ (suc n ≤ x)
@@ -58,8 +58,8 @@ module _ (h : History) (p n : ℕ) (apart : (x i j : ℕ) → DirtyRead h p x i 
 
   -- an answer for n places is one for n + 1 if the next place does not make the read at p dirty
   back_more : (reader : ℕ) (o : Option ℕ) → Back h p n reader o → Back h p (suc n) reader o
-  back_more reader none b = λ x i j d. past x i j d (b x i j d)
-  back_more reader (some writer) b = record { at = b.at; dirty_read = b.dirty_read; last = λ x i j d. more x i j d (b.last x i j d) }
+  back_more reader None b = λ x i j d. past x i j d (b x i j d)
+  back_more reader (Some writer) b = record { at = b.at; dirty_read = b.dirty_read; last = λ x i j d. more x i j d (b.last x i j d) }
     where
       more : (x i j : ℕ) → DirtyRead h p x i j → (x ≤ b.at) ⊎ (n ≤ x) → (x ≤ b.at) ⊎ (suc n ≤ x)
       more x i j d (inl l) = inl l

@@ -25,10 +25,10 @@ use Rattle.conflict.proofs.modes.asked_mode.Reads as asked-mode
 use Rattle.conflict.proofs.modes.asked_mode.Kinds as asked-modeK
 use Rattle.conflict.proofs.modes.mode_is_free.Reads as mode-is-free
 use Rattle.conflict.proofs.modes.mode_is_free.Kinds as mode-is-freeK
-use Rattle.conflict.proofs.modes.code_of.Reads as code_of_lem
-use Rattle.conflict.proofs.modes.code_of.Kinds as code-ofK
-use Rattle.conflict.proofs.modes.mode_of.Reads as Mode-of
-use Rattle.conflict.proofs.modes.mode_of.Kinds as mode-ofK
+use Rattle.conflict.proofs.modes.U8FromMode.from.Reads as code_of_lem
+use Rattle.conflict.proofs.modes.U8FromMode.from.Kinds as code-ofK
+use Rattle.conflict.proofs.modes.ModeFromU8.from.Reads as Mode-of
+use Rattle.conflict.proofs.modes.ModeFromU8.from.Kinds as mode-ofK
 
 pub kinds_agree_unique : Unique kinds-agreeK.ps kinds-agreeK.r kinds-agree.Post
 kinds_agree_unique κs a x y e f p q = p ∙ sym q

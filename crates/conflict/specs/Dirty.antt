@@ -1,6 +1,5 @@
 -- Dirty histories: a run that commits has read what another run had written, and that run had not ended yet and does not commit. In the request's words, and as it is looked for line by line (02, No. 2).
-use Rattle.std.specs.Prelude.{ℕ, ◌+◌, ◌≤◌, ◌≡◌, ◌≢◌, Bool, true, false, not, ◌&&◌, [], ◌∷◌, ◌++◌, eqb, length}
-use Rattle.std.proofs.Math.Option.{Option, none, some}
+use Rattle.std.specs.Prelude.{ℕ, ◌+◌, ◌≤◌, ◌≡◌, ◌≢◌, Bool, true, false, not, ◌&&◌, [], ◌∷◌, ◌++◌, eqb, length, Option, None, Some}
 use Rattle.laws.specs.Choice.{pick}
 use Rattle.conflict.specs.declared.action.Kind.{Kind}
 use Rattle.conflict.specs.declared.action.Kind.TheVariants.{Read, Write, Increment}
@@ -64,22 +63,22 @@ spoils a between read after =
 
 -- looking back from a read over the lines before it, the last line first: the job of the first action found that makes the read dirty
 unfoldable pub look_back : History → History → Action → History → Option ℕ
-look_back [] between read after = none
-look_back (Does a ∷ seen) between read after = pick (spoils a between read after) (some a.job) (look_back seen (Does a ∷ between) read after)
+look_back [] between read after = None
+look_back (Does a ∷ seen) between read after = pick (spoils a between read after) (Some a.job) (look_back seen (Does a ∷ between) read after)
 look_back (Ends m j ∷ seen) between read after = look_back seen (Ends m j ∷ between) read after
 
 -- the writer that makes an action dirty, if the action is a read in a run that commits
 unfoldable pub writer_of : History → Action → History → Option ℕ
-writer_of seen a after = pick (not (changes a.kind) && commits a.job after) (look_back seen [] a after) none
+writer_of seen a after = pick (not (changes a.kind) && commits a.job after) (look_back seen [] a after) None
 
 -- this read with its writer if it has one, else what is found later
 unfoldable pub read_or_later : ℕ → Option ℕ → Option ReadOf → Option ReadOf
-read_or_later reader none later = later
-read_or_later reader (some writer) later = some (record { reader = reader; writer = writer })
+read_or_later reader None later = later
+read_or_later reader (Some writer) later = Some (record { reader = reader; writer = writer })
 
 -- the first dirty read among the lines that are left, given the lines already seen, the last of them first
 unfoldable pub dirty_from : History → History → Option ReadOf
-dirty_from seen [] = none
+dirty_from seen [] = None
 dirty_from seen (Does a ∷ h) = read_or_later a.job (writer_of seen a h) (dirty_from (Does a ∷ seen) h)
 dirty_from seen (Ends m j ∷ h) = dirty_from (Ends m j ∷ seen) h
 

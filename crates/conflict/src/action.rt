@@ -46,19 +46,10 @@ pub enum Event {
 pub fn kinds_agree(a: Kind, b: Kind) -> bool
     ensures { result ≡ agree a b }
 {
-    match a {
-        Kind::Read => match b {
-            Kind::Read => true,
-            Kind::Write => false,
-            Kind::Increment => false,
-        },
-        Kind::Write => false,
-        Kind::Increment => match b {
-            Kind::Read => false,
-            Kind::Write => false,
-            Kind::Increment => true,
-        },
-    }
+    matches!(
+        (a, b),
+        (Kind::Read, Kind::Read) | (Kind::Increment, Kind::Increment)
+    )
 }
 
 // Whether two actions conflict: they are by two jobs on one cell, and their kinds do not agree.
@@ -66,13 +57,5 @@ pub fn kinds_agree(a: Kind, b: Kind) -> bool
 pub fn actions_conflict(a: Action, b: Action) -> bool
     ensures { result ≡ conflicts a b }
 {
-    if a.cell != b.cell {
-        return false;
-    }
-    if a.job == b.job {
-        return false;
-    }
-    let one = a.kind;
-    let other = b.kind;
-    !kinds_agree(one, other)
+    a.cell == b.cell && a.job != b.job && !kinds_agree(a.kind, b.kind)
 }

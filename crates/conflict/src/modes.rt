@@ -91,39 +91,37 @@ pub fn asked_mode(held: Mode, need: Mode) -> Mode
 pub fn mode_is_free(m: Mode) -> bool
     ensures { result ≡ is_free m }
 {
-    match m {
-        Mode::Free => true,
-        Mode::S => false,
-        Mode::X => false,
-        Mode::I => false,
-        Mode::U => false,
-    }
+    matches!(m, Mode::Free)
 }
 
 // The number that stands for a mode in a table.
-#[tactic(auto, unfolding(crate::specs::Modes::code_of))]
-pub fn code_of(m: Mode) -> u8
-    ensures { result ≡ code_of m }
-{
-    match m {
-        Mode::Free => NOTHING,
-        Mode::S => SHARED,
-        Mode::X => EXCLUSIVE,
-        Mode::I => INCREMENTING,
-        Mode::U => UPDATING,
+impl From<Mode> for u8 {
+    ghost from_gives = { λ m code. code ≡ code_of m };
+
+    #[tactic(auto, unfolding(crate::specs::Modes::code_of))]
+    fn from(m: Mode) -> u8 {
+        match m {
+            Mode::Free => NOTHING,
+            Mode::S => SHARED,
+            Mode::X => EXCLUSIVE,
+            Mode::I => INCREMENTING,
+            Mode::U => UPDATING,
+        }
     }
 }
 
-// The mode that a number stands for.
-#[tactic(auto, unfolding(crate::specs::Modes::code_of, crate::specs::Modes::mode_of))]
-pub fn mode_of(code: u8) -> Mode
-    ensures { result ≡ mode_of code }
-{
-    match code {
-        SHARED => Mode::S,
-        EXCLUSIVE => Mode::X,
-        INCREMENTING => Mode::I,
-        UPDATING => Mode::U,
-        _ => Mode::Free,
+// The mode that a number stands for; nothing held, for a number of no mode.
+impl From<u8> for Mode {
+    ghost from_gives = { λ code m. m ≡ mode_of code };
+
+    #[tactic(auto, unfolding(crate::specs::Modes::code_of, crate::specs::Modes::mode_of))]
+    fn from(code: u8) -> Mode {
+        match code {
+            SHARED => Mode::S,
+            EXCLUSIVE => Mode::X,
+            INCREMENTING => Mode::I,
+            UPDATING => Mode::U,
+            _ => Mode::Free,
+        }
     }
 }

@@ -20,8 +20,7 @@ use Rattle.desk_arrays.specs.Settling.{Settling, granted, settle_cell, settle_al
 use Rattle.desk_arrays.proofs.EveryPlace.{all_each}
 use Rattle.desk_arrays.proofs.Front.{no_youngest}
 use Rattle.desk_arrays.proofs.EveryGrant.{waits_code}
-use Rattle.desk_plan.specs.declared.grants.Grant.{Grant}
-use Rattle.desk_plan.specs.declared.grants.Grant.TheVariants.{Nobody, To}
+use Rattle.std.specs.Prelude.{Option, Some, None}
 use Rattle.desk_plan.specs.Grants.{none_waits, wanted, next_grant}
 use Rattle.desk_plan.proofs.Wanted.{unwanted}
 use Rattle.desk.specs.InPlace.{Reached}
@@ -54,16 +53,16 @@ module _ (number cell ask : List ℕ) (c : ℕ) (s₀ : Settling) (inside : c < 
   abbrev at_turn : ℕ → Settling
   at_turn n = settle_cell number cell ask c n s₀
 
-  module _ (n : ℕ) {l held status woken : List ℕ} {count : ℕ} (r : Reached (at_turn n) l held status woken count) {g : Grant} (found : g ≡ next_grant number status cell ask held c) where
+  module _ (n : ℕ) {l held status woken : List ℕ} {count : ℕ} (r : Reached (at_turn n) l held status woken count) {g : Option (ℕ × Mode)} (found : g ≡ next_grant number status cell ask held c) where
     -- what is found is found of the state reached
     found_there : g ≡ next_grant number (at_turn n).status cell ask (at_turn n).held c
     found_there = found ∙ ap (λ x. next_grant number x cell ask held c) r.doing ∙ ap (λ x. next_grant number (at_turn n).status cell ask x c) r.modes
 
     -- nobody is granted: further turns change nothing
-    pub cell_stops : g ≡ Nobody → n ≤ places → Reached (settle_cell number cell ask c places s₀) l held status woken count
+    pub cell_stops : g ≡ None → n ≤ places → Reached (settle_cell number cell ask c places s₀) l held status woken count
     cell_stops h b = reached_as r (settle_stop number cell ask c s₀ n places (none_granted number cell ask c (at_turn n) inside found_there h) b)
 
-    module _ {p : ℕ} {m : Mode} (granting : g ≡ To p m) where
+    module _ {p : ℕ} {m : Mode} (granting : g ≡ Some (p, m)) where
       -- the granted place is one of the 32
       pub turn_place : p < places
       turn_place = granted_place number cell ask c (at_turn n) inside found_there granting

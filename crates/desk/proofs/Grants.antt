@@ -9,6 +9,7 @@ use native.Mathlib.Omega.{arith}
 use lib.Dec.{eqb, ltb}
 use lib.ListN.{get_or}
 use borrow.Author.Tests.{eqb-true, eqb-false, ltb-true, lt-ltb, le-ltb}
+use Rattle.std.proofs.lemmas.Option.{some_pair_parts}
 use Rattle.laws.specs.Choice.{pick, by_test}
 use Rattle.laws.proofs.Parts.{and_first}
 use Rattle.terms.specs.Limits.{places, cells}
@@ -16,8 +17,7 @@ use Rattle.conflict.specs.declared.modes.Mode.{Mode}
 use Rattle.desk_arrays.specs.Codes.{ask_of}
 use Rattle.desk_arrays.specs.Places.{youngest, agrees_at, wants_at}
 use Rattle.desk_arrays.specs.Settling.{Settling, granted, grant_front, settle_cell}
-use Rattle.desk_plan.specs.declared.grants.Grant.{Grant}
-use Rattle.desk_plan.specs.declared.grants.Grant.TheVariants.{Nobody, To}
+use Rattle.std.specs.Prelude.{Option, Some, None}
 use Rattle.desk_plan.specs.Grants.{next_grant}
 
 -- a choice that came out as somebody: the test holds, and the parts are those given
@@ -27,13 +27,13 @@ pub record Picked (b : Bool) (p : ℕ) (m : Mode) (q : ℕ) (k : Mode) : Type 0 
   pub mode : k ≡ m
 
 -- a choice that came out as nobody: the test fails
-picked_nobody : (b : Bool) (p : ℕ) (m : Mode) → pick b (To p m) Nobody ≡ Nobody → b ≡ false
+picked_nobody : (b : Bool) (p : ℕ) (m : Mode) → pick {A = Option (ℕ × Mode)} b (Some (p, m)) None ≡ None → b ≡ false
 picked_nobody true p m h = let z : ◌≡◌ {A = ℕ} 0 1 = cc in absurd (omega arith)
 picked_nobody false p m h = refl
 
 -- a choice that came out as somebody
-picked_to : (b : Bool) {p q : ℕ} {m k : Mode} → pick b (To p m) Nobody ≡ To q k → Picked b p m q k
-picked_to true h = record { is_so = refl; place = cc; mode = cc }
+picked_to : (b : Bool) {p q : ℕ} {m k : Mode} → pick {A = Option (ℕ × Mode)} b (Some (p, m)) None ≡ Some (q, k) → Picked b p m q k
+picked_to true {p} {q} {m} {k} h = let e = some_pair_parts p q m k h in record { is_so = refl; place = sym e.0; mode = sym e.1 }
 picked_to false h = let z : ◌≡◌ {A = ℕ} 0 1 = cc in absurd (omega arith)
 
 module _ (number cell ask : List ℕ) (c : ℕ) where
@@ -63,22 +63,22 @@ module _ (number cell ask : List ℕ) (c : ℕ) where
   pub stands_empty : (s : Settling) → front s ≡ places → grant_front number cell ask c s ≡ s
   stands_empty s e = grant_stands s (rw (e, le-ltb places places (omega arith)))
 
-  module _ (s : Settling) {g : Grant} (inside : c < cells) (found : g ≡ next_grant number s.status cell ask s.held c) where
+  module _ (s : Settling) {g : Option (ℕ × Mode)} (inside : c < cells) (found : g ≡ next_grant number s.status cell ask s.held c) where
     -- what is found, by whether the front may be granted what it asks for
-    found_by : g ≡ pick (may_grant s) (To (front s) (fronts s)) Nobody
+    found_by : g ≡ pick (may_grant s) (Some (front s, fronts s)) None
     unfolding next_grant
     found_by = rw (lt-ltb c cells inside) at found
 
     -- nobody is granted: nothing changes
-    pub none_granted : g ≡ Nobody → grant_front number cell ask c s ≡ s
+    pub none_granted : g ≡ None → grant_front number cell ask c s ≡ s
     none_granted h = grant_stands s (picked_nobody (may_grant s) _ _ (sym found_by ∙ h))
 
     -- the place granted is the front, with what it asks for
-    pub who_granted : {p : ℕ} {m : Mode} → g ≡ To p m → Picked (may_grant s) (front s) (fronts s) p m
+    pub who_granted : {p : ℕ} {m : Mode} → g ≡ Some (p, m) → Picked (may_grant s) (front s) (fronts s) p m
     who_granted h = picked_to (may_grant s) (sym found_by ∙ h)
 
     -- the granted place is one of the 32
-    pub granted_place : {p : ℕ} {m : Mode} → g ≡ To p m → p < places
+    pub granted_place : {p : ℕ} {m : Mode} → g ≡ Some (p, m) → p < places
     granted_place h =
         let w = who_granted h in
         let l = ltb-true (front s) places (and_first (ltb (front s) places) _ w.is_so) in

@@ -1,5 +1,6 @@
 -- A move carried out in place, branch by branch: the fields that the code leaves, and what it tells, are what the definition makes of the move.
 -- Assumes nothing.
+use Rattle.std.specs.Prelude.{Option, None, Some}
 use Prim.Native.Nat.{ℕ, ◌<◌, ◌+◌}
 use mathlib.Core.Path.{◌≡◌, refl, sym, ap, subst, ◌∙◌}
 use mathlib.Core.List.{List}
@@ -9,8 +10,6 @@ use Rattle.laws.specs.Lists.{filled}
 use Rattle.laws.specs.Choice.{by_test}
 use Rattle.terms.specs.declared.letters.Ask.{Ask}
 use Rattle.terms.specs.declared.letters.Letter.{Letter}
-use Rattle.terms.specs.declared.letters.Lettered.{Lettered}
-use Rattle.terms.specs.declared.letters.Lettered.TheVariants.{Known, Unknown}
 use Rattle.terms.specs.declared.refusals.Refusal.{Refusal}
 use Rattle.terms.specs.declared.refusals.Refusal.TheVariants.{UnknownKind}
 use Rattle.terms.specs.Letters.{byte_of, letter_of}
@@ -38,7 +37,7 @@ retried_status : (d : Desk) (job : ℕ) → with_status d (retried_job d job).st
 unfolding retried_job retried
 retried_status d job = by_test (eqb (status_of d.number d.status job) sent_back_code) (λ t. rw t) (λ f. rw f)
 
-module _ (d : Desk) (l : List ℕ) (kind job c : ℕ) {letter : Lettered} (of_kind : letter_of kind ≡ letter) {m : Move} (plans : m ≡ move_for d.next d.number d.status d.cell d.held job c letter) where
+module _ (d : Desk) (l : List ℕ) (kind job c : ℕ) {letter : Option Letter} (of_kind : letter_of kind ≡ letter) {m : Move} (plans : m ≡ move_for d.next d.number d.status d.cell d.held job c letter) where
   -- the plan by the letter is the plan by its byte
   planned : m ≡ move_for d.next d.number d.status d.cell d.held job c (letter_of kind)
   planned = plans ∙ ap (move_for d.next d.number d.status d.cell d.held job c) (sym of_kind)
@@ -115,10 +114,10 @@ module _ (d : Desk) (l : List ℕ) (kind job c : ℕ) {letter : Lettered} (of_ki
     tried e h = steps (rw e (ap (with_status d) h ∙ retried_status d job)) (rw e) (rw e)
 
 -- a byte that is no letter's is refused
-pub refused_byte : (d : Desk) (l : List ℕ) (kind job c : ℕ) → letter_of kind ≡ Unknown → StepsTo d l kind job c d l (record { answer = No UnknownKind; count = 0 })
+pub refused_byte : (d : Desk) (l : List ℕ) (kind job c : ℕ) → letter_of kind ≡ None → StepsTo d l kind job c d l (record { answer = No UnknownKind; count = 0 })
 unfolding move_for answer_to
 refused_byte d l kind job c h = refused d l kind job c h {m = Refuse UnknownKind} refl {a = No UnknownKind} refl {why = UnknownKind} refl
 
 -- the step by the letter of a byte is the step by the byte
-pub by_letter : {d e : Desk} {l w : List ℕ} {kind job c : ℕ} {letter : Letter} {t : Told} → letter_of kind ≡ Known letter → StepsTo d l (byte_of letter) job c e w t → StepsTo d l kind job c e w t
+pub by_letter : {d e : Desk} {l w : List ℕ} {kind job c : ℕ} {letter : Letter} {t : Told} → letter_of kind ≡ Some letter → StepsTo d l (byte_of letter) job c e w t → StepsTo d l kind job c e w t
 by_letter {d} {e} {l} {w} {kind} {job} {c} {letter} {t} h s = subst (λ k. StepsTo d l k job c e w t) (byte_of_letter kind letter h) s

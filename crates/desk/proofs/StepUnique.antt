@@ -1,4 +1,4 @@
--- No second result, and no second content of a field or of the list, meets the contract of a step in place, by letter or by byte; no second result meets that of the step by value or of the wakes.
+-- No second result, and no second content of a field, of a whole desk or of the list, meets the contract of a step in place, by letter or by byte; no second result meets that of the step by value or of the wakes.
 -- Assumes nothing.
 use mathlib.Core.Path.{◌≡◌, sym, ◌∙◌}
 use mathlib.Core.List.{List}
@@ -14,6 +14,8 @@ use Rattle.desk.proofs.step.step_on.Reads as step_on
 use Rattle.desk.proofs.step.step_on.Kinds as step-onK
 use Rattle.desk.proofs.step.step_for.Reads as step-for
 use Rattle.desk.proofs.step.step_for.Kinds as step-forK
+use Rattle.desk.proofs.step.step_in.Reads as step-in
+use Rattle.desk.proofs.step.step_in.Kinds as step-inK
 use Rattle.desk.proofs.wakes.wake_at.Reads as wake-at
 use Rattle.desk.proofs.wakes.wake_at.Kinds as wake-atK
 use Rattle.desk.proofs.wakes.tell.Reads as tell
@@ -43,6 +45,9 @@ step_for_unique κs a x y e f p q = same_end p q
 pub step_on_unique : UniqueLent step-onK.ps step-onK.r step_on.Post
     (λ κs e. lent (desk_of e.0.now e.1.0.now e.1.1.0.now e.1.1.1.0.now e.1.1.1.1.0.now e.1.1.1.1.1.0.now) e.1.1.1.1.1.1.0.now)
 step_on_unique κs a x y e f p q = same_end p q
+
+pub step_in_unique : UniqueLent step-inK.ps step-inK.r step-in.Post (λ κs e. lent e.0.now e.1.0.now)
+step_in_unique κs a x y e f p q = same_end p q
 
 pub step_unique : Unique stepK.ps stepK.r step.Post
 step_unique κs a x y e f p q = p ∙ sym q

@@ -6,11 +6,12 @@ ghost use Rattle.desk_arrays.specs.Steps.{desk_of, code_after, settled};
 ghost use Rattle.desk.specs.InPlace.{Reached};
 ghost use Rattle.terms.specs.Limits.{cells, places};
 
-use conflict::modes::code_of;
+use conflict::modes::NOTHING;
+use desk_arrays::board::{Board, Waits};
 use desk_arrays::codes::{FREE, RUNNING, SENT_BACK};
 use desk_arrays::moves::Ending;
 use desk_arrays::state::{ROWS, SPOTS};
-use desk_plan::grants::{Grant, front_grant, none_waits, wanted_cells};
+use desk_plan::grants::{front_grant, none_waits, wanted_cells};
 use terms::limits::PLACES;
 
 // A place drops all its locks.
@@ -19,89 +20,78 @@ fn drop_locks(held: &mut [u8; SPOTS], p: usize)
     requires { p < places }
     ensures { held.new ≡ dropped_by held.old p cells }
 {
-    let mut c: usize = 0;
-    while c < ROWS {
-        held[c * PLACES + p] = 0;
-        c += 1;
+    for c in 0..ROWS {
+        held[c * PLACES + p] = NOTHING;
     }
 }
 
 // Grants waiters of one cell from the front, while each agrees with the other holders; `count` were woken before.
 #[tactic(auto, unfolding(desk_arrays::specs::Settling::settle_cell, laws::specs::Lists::filled), using(crate::proofs::Cells::reached_as))]
-fn settle_cell<'a>(
+fn settle_cell(
     held: &mut [u8; SPOTS],
     status: &mut [u8; PLACES],
     woken: &mut [u8; PLACES],
-    number: &'a [u32; PLACES],
-    cell: &'a [u8; PLACES],
-    ask: &'a [u8; PLACES],
+    w: Waits,
     count: usize,
     c: usize,
 ) -> usize
-    requires { (c < cells) × (count + waiters status.old places ≤ places) × (length woken.old ≡ places) }
-    ensures { Reached (settle_cell number.now cell.now ask.now c places (record { held = held.old; status = status.old; woken = take count woken.old })) woken.old held.new status.new woken.new result }
+    requires { (c < cells) × (count + waiters status.old places ≤ places) }
+    ensures { Reached (settle_cell w.entry.number.now w.entry.cell.now w.entry.ask.now c places (record { held = held.old; status = status.old; woken = take count woken.old })) woken.old held.new status.new woken.new result }
 {
     let mut k = count;
-    let mut n: usize = 0;
-    while n < PLACES {
-        match front_grant(number, status, cell, ask, held, c) {
-            Grant::Nobody => {
-                return k;
-            }
-            Grant::To(p, m) => {
-                held[c * PLACES + p] = code_of(m);
-                status[p] = RUNNING;
-                woken[k] = p as u8;
-                k += 1;
-            }
-        }
-        n += 1;
+    for _ in 0..PLACES {
+        let b = Board {
+            number: w.number,
+            status,
+            cell: w.cell,
+            ask: w.ask,
+            held,
+        };
+        let Some((p, m)) = front_grant(b, c) else {
+            return k;
+        };
+        held[c * PLACES + p] = u8::from(m);
+        status[p] = RUNNING;
+        woken[k] = p as u8;
+        k += 1;
     }
     k
 }
 
 // The same for every cell from 0 to 63; a cell without waiters is skipped.
 #[tactic(auto, unfolding(desk_arrays::specs::Settling::settle_all, laws::specs::Lists::filled), using(crate::proofs::Cells::reached_as))]
-fn settle_all<'a>(
+fn settle_all(
     held: &mut [u8; SPOTS],
     status: &mut [u8; PLACES],
     woken: &mut [u8; PLACES],
-    number: &'a [u32; PLACES],
-    cell: &'a [u8; PLACES],
-    ask: &'a [u8; PLACES],
+    w: Waits,
 ) -> usize
-    requires { length woken.old ≡ places }
-    ensures { Reached (settle_all number.now cell.now ask.now cells (record { held = held.old; status = status.old; woken = [] })) woken.old held.new status.new woken.new result }
+    ensures { Reached (settle_all w.entry.number.now w.entry.cell.now w.entry.ask.now cells (record { held = held.old; status = status.old; woken = [] })) woken.old held.new status.new woken.new result }
 {
-    let cells = wanted_cells(status, cell);
-    let mut k: usize = 0;
-    let mut c: usize = 0;
-    while c < ROWS {
+    let cells = wanted_cells(status, w.cell);
+    let mut k = 0;
+    for c in 0..ROWS {
         if cells[c] {
-            k = settle_cell(held, status, woken, number, cell, ask, k, c);
+            k = settle_cell(held, status, woken, w, k, c);
         }
-        c += 1;
     }
     k
 }
 
 // Rule 4, after the locks were dropped. Mostly nobody waits: one look over the places shows it, and then nothing changes.
 #[tactic(auto, unfolding(laws::specs::Lists::filled), using(crate::proofs::Cells::none_settled, crate::proofs::Cells::reached_as))]
-fn settle<'a>(
+fn settle(
     held: &mut [u8; SPOTS],
     status: &mut [u8; PLACES],
     woken: &mut [u8; PLACES],
-    number: &'a [u32; PLACES],
-    cell: &'a [u8; PLACES],
-    ask: &'a [u8; PLACES],
+    w: Waits,
 ) -> usize
-    requires { length woken.old ≡ places }
-    ensures { Reached (settle_all number.now cell.now ask.now cells (record { held = held.old; status = status.old; woken = [] })) woken.old held.new status.new woken.new result }
+    ensures { Reached (settle_all w.entry.number.now w.entry.cell.now w.entry.ask.now cells (record { held = held.old; status = status.old; woken = [] })) woken.old held.new status.new woken.new result }
 {
     if none_waits(status) {
         return 0;
     }
-    settle_all(held, status, woken, number, cell, ask)
+    settle_all(held, status, woken, w)
 }
 
 // The status code of a place after its run has ended: free, or sent back.
@@ -117,20 +107,18 @@ fn code_after(e: Ending) -> u8
 
 // Ends the run at a place: drops its locks and settles the cells, in place; tells how many were woken.
 #[tactic(auto, unfolding(desk_arrays::specs::Steps::settled))]
-pub fn end_run<'a>(
+pub fn end_run(
     held: &mut [u8; SPOTS],
     status: &mut [u8; PLACES],
     woken: &mut [u8; PLACES],
-    number: &'a [u32; PLACES],
-    cell: &'a [u8; PLACES],
-    ask: &'a [u8; PLACES],
+    w: Waits,
     p: usize,
     e: Ending,
 ) -> usize
-    requires { (p < places) × (length woken.old ≡ places) }
-    ensures { Reached (settled (desk_of 0 number.now status.old cell.now ask.now held.old) p (code_after e)) woken.old held.new status.new woken.new result }
+    requires { p < places }
+    ensures { Reached (settled (desk_of 0 w.entry.number.now status.old w.entry.cell.now w.entry.ask.now held.old) p (code_after e)) woken.old held.new status.new woken.new result }
 {
     status[p] = code_after(e);
     drop_locks(held, p);
-    settle(held, status, woken, number, cell, ask)
+    settle(held, status, woken, w)
 }

@@ -1,5 +1,5 @@
 // One step of the desk: carries out the plan on the desk, in place (01, The desk's rules).
-ghost use Rattle.std.specs.Prelude.{◌<◌, ◌≡◌, length};
+ghost use Rattle.std.specs.Prelude.{◌<◌, ◌≡◌};
 ghost use Rattle.terms.specs.Letters.{byte_of};
 ghost use Rattle.desk_arrays.specs.Steps.{desk_of, retried_job, numbers_after, answer_after, answer_to, step_of};
 ghost use Rattle.desk.specs.InPlace.{StepsTo};
@@ -7,13 +7,13 @@ ghost use Rattle.terms.specs.Limits.{places};
 
 use crate::settling::end_run;
 use crate::wakes::tell;
-use conflict::modes::code_of;
+use desk_arrays::board::{Board, Waits};
 use desk_arrays::codes::{RUNNING, WAITING, ask_code};
 use desk_arrays::moves::{Ending, Move};
 use desk_arrays::state::{Desk, Outcome, SPOTS, Said, Told};
 use desk_plan::plan::plan_for;
 use desks::Answer;
-use terms::letters::{Letter, Lettered, letter_of};
+use terms::letters::{Letter, letter_of};
 use terms::limits::PLACES;
 use terms::refusals::Refusal;
 
@@ -66,13 +66,6 @@ fn status_retried(d: Desk, job: u32) -> [u8; PLACES]
     after.status
 }
 
-// Called for its contract alone: both lists have an entry for each place, which a lent array does not say by itself.
-fn sized(status: [u8; PLACES], woken: [u8; PLACES]) -> bool
-    ensures { (length status ≡ places) × (length woken ≡ places) }
-{
-    true
-}
-
 // One step by letter, job and cell, on the desk's fields, each lent and changed in place.
 // The woken places go into the first places of a lent list, and the result tells how many there are.
 pub fn step_for(
@@ -89,8 +82,14 @@ pub fn step_for(
 ) -> Told
     ensures { StepsTo (desk_of next.old number.old status.old at.old ask.old held.old) woken.old (byte_of letter) job cell (desk_of next.new number.new status.new at.new ask.new held.new) woken.new result }
 {
-    sized(*status, *woken);
-    let m = plan_for(*next, number, status, at, held, letter, job, cell);
+    let b = Board {
+        number,
+        status,
+        cell: at,
+        ask,
+        held,
+    };
+    let m = plan_for(*next, b, letter, job, cell);
     let answer = answer_to(m, job);
     match m {
         Move::Refuse(_) => Told { answer, count: 0 },
@@ -102,7 +101,7 @@ pub fn step_for(
         }
         Move::Keep => Told { answer, count: 0 },
         Move::Take(p, mode) => {
-            held[cell as usize * PLACES + p] = code_of(mode);
+            held[cell as usize * PLACES + p] = u8::from(mode);
             Told { answer, count: 0 }
         }
         Move::Stay(p, a) => {
@@ -112,7 +111,12 @@ pub fn step_for(
             Told { answer, count: 0 }
         }
         Move::End(p, e) => {
-            let count = end_run(held, status, woken, number, at, ask, p, e);
+            let w = Waits {
+                number,
+                cell: at,
+                ask,
+            };
+            let count = end_run(held, status, woken, w, p, e);
             leave_place(number, p, e);
             Told { answer, count }
         }
@@ -148,53 +152,58 @@ pub fn step_on(
     ensures { StepsTo (desk_of next.old number.old status.old at.old ask.old held.old) woken.old kind job cell (desk_of next.new number.new status.new at.new ask.new held.new) woken.new result }
 {
     match letter_of(kind) {
-        Lettered::Unknown => Told {
+        None => Told {
             answer: Answer::No(Refusal::UnknownKind),
             count: 0,
         },
-        Lettered::Known(l) => { step_for(next, number, status, at, ask, held, woken, l, job, cell) }
+        Some(l) => { step_for(next, number, status, at, ask, held, woken, l, job, cell) }
     }
 }
 
-// The same by value: takes the desk, and returns the new desk with what was said.
-#[tactic(auto, using(crate::proofs::Telling::step_whole))]
-pub fn step(d: Desk, kind: u8, job: u32, cell: u32) -> Outcome
-    ensures { result ≡ step_of d kind job cell }
+// The same on a whole desk, in place.
+pub fn step_in(d: &mut Desk, woken: &mut [u8; PLACES], letter: Letter, job: u32, cell: u32) -> Told
+    ensures { StepsTo d.old woken.old (byte_of letter) job cell d.new woken.new result }
 {
-    let mut next = d.next;
-    let mut number = d.number;
-    let mut status = d.status;
-    let mut at = d.cell;
-    let mut ask = d.ask;
-    let mut held = d.held;
-    let mut woken = [0; PLACES];
-    let t = step_on(
-        &mut next,
-        &mut number,
-        &mut status,
-        &mut at,
-        &mut ask,
-        &mut held,
-        &mut woken,
-        kind,
-        job,
-        cell,
-    );
-    let answer = t.answer;
-    let count = t.count;
-    let wakes = tell(&number, &at, &ask, woken, count);
-    let desk = Desk {
+    let Desk {
         next,
         number,
         status,
         cell: at,
         ask,
         held,
+    } = d;
+    step_for(
+        next, number, status, at, ask, held, woken, letter, job, cell,
+    )
+}
+
+// The same by value: takes the desk, and returns the new desk with what was said.
+#[tactic(auto, using(crate::proofs::Telling::step_whole))]
+pub fn step(mut d: Desk, kind: u8, job: u32, cell: u32) -> Outcome
+    ensures { result ≡ step_of d kind job cell }
+{
+    let mut woken = [0; PLACES];
+    let t = step_on(
+        &mut d.next,
+        &mut d.number,
+        &mut d.status,
+        &mut d.cell,
+        &mut d.ask,
+        &mut d.held,
+        &mut woken,
+        kind,
+        job,
+        cell,
+    );
+    let w = Waits {
+        number: &d.number,
+        cell: &d.cell,
+        ask: &d.ask,
     };
     let said = Said {
-        answer,
-        wakes,
-        count,
+        answer: t.answer,
+        wakes: tell(w, woken, t.count),
+        count: t.count,
     };
-    Outcome { desk, said }
+    Outcome { desk: d, said }
 }

@@ -1,12 +1,12 @@
 -- THE PROMISES hold of the desk that runs; the main ones are written out here for its step, to be read.
 -- Assumes nothing.
+use Rattle.std.specs.Prelude.{Some}
 use Prim.Native.Nat.{ℕ, ◌<◌, ◌≤◌}
 use mathlib.Core.Path.{◌≡◌}
 use mathlib.Core.Logic.{◌≢◌, ◌↔◌}
 use mathlib.Core.List.{List, ◌++◌}
 use Rattle.terms.specs.declared.letters.Ask.{Ask}
 use Rattle.terms.specs.declared.letters.Letter.TheVariants.{Begin, Asks}
-use Rattle.terms.specs.declared.letters.Lettered.TheVariants.{Known}
 use Rattle.terms.specs.declared.refusals.Refusal.{Refusal}
 use Rattle.terms.specs.Letters.{letter_of}
 use Rattle.terms.specs.Limits.{last_number}
@@ -85,7 +85,7 @@ module _ {d : Desk} {h : History} (s : Started d h) (r : Request) where
   desk_refused_as = (desk_promises s).worded.as_worded r
 
   -- a begin that goes opens a running job under the next number
-  pub desk_begins : (j : ℕ) → letter_of r.kind ≡ Known Begin → (step_of d r.kind r.job r.cell).said.answer ≡ Go j → Begins (view d) (view (step_of d r.kind r.job r.cell).desk) j
+  pub desk_begins : (j : ℕ) → letter_of r.kind ≡ Some Begin → (step_of d r.kind r.job r.cell).said.answer ≡ Go j → Begins (view d) (view (step_of d r.kind r.job r.cell).desk) j
   desk_begins = (desk_promises s).effects.begins r
 
   -- when a run ends, every cell is released: which jobs are woken, which are left waiting, and why (01, rule 4)
@@ -97,7 +97,7 @@ module _ {d : Desk} {h : History} (s : Started d h) (r : Request) where
   desk_never_answered_back = (desk_promises s).ages.never_answered_back r
 
   -- a job that asks and is answered wait is served in time (demand 3)
-  pub desk_served_in_time : (a : Ask) → letter_of r.kind ≡ Known (Asks a) → (step_of d r.kind r.job r.cell).said.answer ≡ Wait r.job → ServedInTime (running (step_of d r.kind r.job r.cell).desk) r.cell (asker r a)
+  pub desk_served_in_time : (a : Ask) → letter_of r.kind ≡ Some (Asks a) → (step_of d r.kind r.job r.cell).said.answer ≡ Wait r.job → ServedInTime (running (step_of d r.kind r.job r.cell).desk) r.cell (asker r a)
   desk_served_in_time = (desk_promises s).service.served_in_time r
 
   -- the second sentence of demand 3, whole: whatever is answered wait, its job gets its cell in time

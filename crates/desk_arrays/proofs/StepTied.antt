@@ -1,5 +1,6 @@
 -- A step of the arrays is the step of the paper's desk that they stand for: the move is decided in the same order, refusals first, then the rules, and carried out alike.
 -- Assumes nothing.
+use Rattle.std.specs.Prelude.{Option, None, Some}
 use Prim.Native.Nat.{ℕ, ◌≤◌}
 use mathlib.Core.Path.{◌≡◌, refl, sym, ◌∙◌}
 use mathlib.Core.Logic.{◌≢◌}
@@ -11,10 +12,9 @@ use lib.ListN.{length, get_or, get_or-eq_default}
 use borrow.Author.Tests.{eqb-true, eqb-false, eq-eqb, ne_eqb}
 use Rattle.laws.specs.Choice.{pick, by_test}
 use Rattle.laws.specs.Lists.{pos}
+use Rattle.terms.specs.declared.letters.Letter.{Letter}
 use Rattle.terms.specs.declared.letters.Ask.{Ask}
 use Rattle.terms.specs.declared.letters.Letter.TheVariants.{Begin as begins, Commit, GiveUp, Retry as retries, Back, Asks}
-use Rattle.terms.specs.declared.letters.Lettered.{Lettered}
-use Rattle.terms.specs.declared.letters.Lettered.TheVariants.{Known, Unknown}
 use Rattle.terms.specs.declared.refusals.Refusal.{Refusal}
 use Rattle.terms.specs.declared.refusals.Refusal.TheVariants.{UnknownKind, CellAbove, NotOpen, Waiting, SentBack, Running}
 use Rattle.terms.specs.Letters.{letter_of}
@@ -119,15 +119,15 @@ module _ {d : Desk} {q : ℕ → List Waiter} (plain : Plain d) (v : Inv (paper_
     ask_by_lem x = runs_by _ (step_ask (paper_of d q) j c x) refl refl refl (λ s. ask_tied plain v s c x)
 
   -- a request by its letter
-  letter_tied : (kind : ℕ) (l : Lettered) → Tied (performed d j c (move_for d.next d.number d.status d.cell d.held j c l)) (step_by (paper_of d q) (record { kind = kind; job = j; cell = c }) l)
+  letter_tied : (kind : ℕ) (l : Option Letter) → Tied (performed d j c (move_for d.next d.number d.status d.cell d.held j c l)) (step_by (paper_of d q) (record { kind = kind; job = j; cell = c }) l)
   unfolding move_for ask_move found_at step_by
-  letter_tied kind Unknown = refuse UnknownKind
-  letter_tied kind (Known Back) = refuse UnknownKind
-  letter_tied kind (Known begins) = begin_tied plain v j c
-  letter_tied kind (Known Commit) = rw (status_code plain j) (commit_by _ _ _ refl (code_seat plain j))
-  letter_tied kind (Known GiveUp) = rw (status_code plain j) (give_up_by _ _ _ refl (code_seat plain j))
-  letter_tied kind (Known retries) = rw (status_code plain j) (retry_by _ _ _ refl (code_seat plain j))
-  letter_tied kind (Known (Asks a)) = rw (status_code plain j) (ask_by_lem _ _ _ refl (code_seat plain j) a)
+  letter_tied kind None = refuse UnknownKind
+  letter_tied kind (Some Back) = refuse UnknownKind
+  letter_tied kind (Some begins) = begin_tied plain v j c
+  letter_tied kind (Some Commit) = rw (status_code plain j) (commit_by _ _ _ refl (code_seat plain j))
+  letter_tied kind (Some GiveUp) = rw (status_code plain j) (give_up_by _ _ _ refl (code_seat plain j))
+  letter_tied kind (Some retries) = rw (status_code plain j) (retry_by _ _ _ refl (code_seat plain j))
+  letter_tied kind (Some (Asks a)) = rw (status_code plain j) (ask_by_lem _ _ _ refl (code_seat plain j) a)
 
 -- a step of arrays that stand for a paper's desk, with what holds of every started one, is that desk's step
 pub tie : {d : Desk} {D : paper.Desk} → Stands d D → Inv D → (kind job c : ℕ) → Tied (step_of d kind job c) (step D (record { kind = kind; job = job; cell = c }))

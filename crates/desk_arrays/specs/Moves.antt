@@ -1,16 +1,15 @@
 -- What a request is to do, decided over the arrays before anything changes: the refusals in their order, then rules 1 to 3 (01, The desk's rules; 01, Refusals by number).
-use Rattle.std.specs.Prelude.{ℕ, ◌&&◌, List, eqb, ltb, get_or}
+use Rattle.std.specs.Prelude.{ℕ, ◌&&◌, List, eqb, ltb, get_or, Option, None, Some, Result, Ok, Err}
 use Rattle.laws.specs.Choice.{pick}
 use Rattle.laws.specs.Lists.{pos}
+use Rattle.terms.specs.declared.letters.Letter.{Letter}
 use Rattle.terms.specs.declared.letters.Ask.{Ask}
 use Rattle.terms.specs.declared.letters.Letter.TheVariants.{Begin as begins, Commit, GiveUp, Retry as retries, Back as no-request, Asks}
-use Rattle.terms.specs.declared.letters.Lettered.{Lettered}
-use Rattle.terms.specs.declared.letters.Lettered.TheVariants.{Known, Unknown}
+use Rattle.terms.specs.declared.refusals.Refusal.{Refusal}
 use Rattle.terms.specs.declared.refusals.Refusal.TheVariants.{UnknownKind, CellAbove, NotOpen, Waiting, SentBack as was_sent_back, Running}
 use Rattle.terms.specs.Limits.{cells}
 use Rattle.conflict.specs.Modes.{needed, covers, asked, is_free}
 use Rattle.desks.specs.declared.finding.Opening.{Opening}
-use Rattle.desks.specs.declared.finding.Opening.TheVariants.{At, Refused}
 use Rattle.desks.specs.Opening.{opening_of}
 use Rattle.desk_arrays.specs.declared.moves.Found.{Found}
 use Rattle.desk_arrays.specs.declared.moves.Standing.{Standing}
@@ -41,9 +40,9 @@ if_runs (Against why) goes = Refuse why
 if_runs Runs goes = goes
 
 -- begin, given where the new job is opened (01, Refusals by number)
-unfoldable pub opened : Opening → Move
-opened (At p n) = Begin p n
-opened (Refused why) = Refuse why
+unfoldable pub opened : Result Opening Refusal → Move
+opened (Ok o) = Begin o.place o.number
+opened (Err why) = Refuse why
 
 -- begin: refusal 7, then 6, else the next number at the first free place (01, Refusals by number)
 unfoldable pub begin_move : ℕ → List ℕ → Move
@@ -90,11 +89,11 @@ module _ (number status cell held : List ℕ) where
       if_runs (standing_of f.code) (pick (ltb c cells) (decided f.place c job a) (Refuse CellAbove))
 
 -- the move of a request, by its letter; refusal 1 if no request has the letter
-unfoldable pub move_for : ℕ → List ℕ → List ℕ → List ℕ → List ℕ → ℕ → ℕ → Lettered → Move
-move_for next number status cell held job c Unknown = Refuse UnknownKind
-move_for next number status cell held job c (Known no-request) = Refuse UnknownKind
-move_for next number status cell held job c (Known begins) = begin_move next number
-move_for next number status cell held job c (Known Commit) = commit_move (found_at number status job)
-move_for next number status cell held job c (Known GiveUp) = give_up_move (found_at number status job)
-move_for next number status cell held job c (Known retries) = retry_move (found_at number status job)
-move_for next number status cell held job c (Known (Asks a)) = ask_move number status cell held job c a
+unfoldable pub move_for : ℕ → List ℕ → List ℕ → List ℕ → List ℕ → ℕ → ℕ → Option Letter → Move
+move_for next number status cell held job c None = Refuse UnknownKind
+move_for next number status cell held job c (Some no-request) = Refuse UnknownKind
+move_for next number status cell held job c (Some begins) = begin_move next number
+move_for next number status cell held job c (Some Commit) = commit_move (found_at number status job)
+move_for next number status cell held job c (Some GiveUp) = give_up_move (found_at number status job)
+move_for next number status cell held job c (Some retries) = retry_move (found_at number status job)
+move_for next number status cell held job c (Some (Asks a)) = ask_move number status cell held job c a

@@ -1,9 +1,9 @@
 -- What a request for a job's chain is answered, by what the job is doing: the refusal that is due, or the chain.
 -- Assumes nothing.
+use Rattle.std.specs.Prelude.{Option, None, Some}
 use Prim.Native.Nat.{ℕ, ◌≤◌, ◌<◌}
 use mathlib.Core.Path.{◌≡◌, refl, ap, ◌∙◌}
 use mathlib.Core.List.{List}
-use mathlib.Core.Option.{Option, none, some}
 use native.Mathlib.Omega.{arith}
 use lib.Dec.{eqb, ltb}
 use lib.ListN.{length, get_or}
@@ -43,7 +43,7 @@ open_place number status job {f} s e c = rw e (open_inside number status job s (
 
 -- which refusal is due, by the code that a job was found with: 3, then 5, then 18
 abbrev due_by : ℕ → ℕ → Option Refusal
-due_by code n = pick (eqb code free_code) (some NotOpen) (pick (eqb code sent_back_code) (some SentBack) (pick (ltb n places) (some ShortList) none))
+due_by code n = pick (eqb code free_code) (Some NotOpen) (pick (eqb code sent_back_code) (Some SentBack) (pick (ltb n places) (Some ShortList) None))
 
 -- it is the one that is due by what the job is doing
 due_code : (code c n : ℕ) (a : Ask) → chain_due (status_for code c a) n ≡ due_by code n
@@ -63,7 +63,7 @@ module _ (d : Desk) (job : ℕ) (list : List ℕ) (n : length d.number ≡ place
       ∙ rw e
 
   -- a refusal leaves the list
-  asked_refused : (why : Refusal) → due_by f.code (length list) ≡ some why → (No why ≡ (asked_on d job list).said) × (list ≡ (asked_on d job list).list)
+  asked_refused : (why : Refusal) → due_by f.code (length list) ≡ Some why → (No why ≡ (asked_on d job list).said) × (list ≡ (asked_on d job list).list)
   unfolding chain_told
   asked_refused why h = let a = asked_by in (rw (a, h), rw (a, h))
 
@@ -86,7 +86,7 @@ module _ (d : Desk) (job : ℕ) (list : List ℕ) (n : length d.number ≡ place
     unfolding chain_told
     asked_told h t =
         let a = asked_by in
-        let due : due_by f.code (length list) ≡ none = rw (ne_eqb f.code free_code c, ne_eqb f.code sent_back_code b, le-ltb (length list) places h) in
+        let due : due_by f.code (length list) ≡ None = rw (ne_eqb f.code free_code c, ne_eqb f.code sent_back_code b, le-ltb (length list) places h) in
         (rw (a, due) (ap Jobs t.0), rw (a, due) t.1)
 
 module _ (d : Desk) (last : ℕ) (list : List ℕ) {p : ℕ} (e : p ≡ waiter_above d.number d.status last places) where

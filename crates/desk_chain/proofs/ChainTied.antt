@@ -1,10 +1,10 @@
 -- THE CHAIN OVER THE ARRAYS IS THE PAPER'S, for every started desk that runs, every job and every lent list (02, No. 3).
 -- Assumes nothing.
+use Rattle.std.specs.Prelude.{Option, None, Some}
 use Prim.Native.Nat.{ℕ, zero, suc, ◌<◌, ◌≤◌}
 use mathlib.Core.Path.{◌≡◌, refl, sym, ap, ◌∙◌}
 use mathlib.Core.Bool.{true, ◌&&◌}
 use mathlib.Core.List.{List}
-use mathlib.Core.Option.{Option, none, some}
 use native.Mathlib.Omega.{arith}
 use lib.Dec.{eqb}
 use lib.ListN.{length, get_or}
@@ -41,7 +41,7 @@ use Rattle.desk_chain.specs.Chains.{next_at, chain_from_by, chain_from, asked_on
 use Rattle.desk_chain.proofs.NextTied.{open_seat, next_seat, holder_is_next}
 
 -- where nothing is due the job is live
-not_due_live : (s : Status) (n : ℕ) → chain_due s n ≡ none → is_live s ≡ true
+not_due_live : (s : Status) (n : ℕ) → chain_due s n ≡ None → is_live s ≡ true
 unfolding chain_due chain_order first_of chain_holds is_open is_live
 not_due_live closed n e = let z : ◌≡◌ {A = ℕ} 0 1 = cc in absurd (omega arith)
 not_due_live running n e = refl
@@ -107,8 +107,8 @@ module _ {d : Desk} (v : Inv (view d)) (pl : Plain d) where
   asked_is j list = by_due (chain_due ((view d).stat j) (length list)) refl
     where
       by_due : (o : Option Refusal) → chain_due ((view d).stat j) (length list) ≡ o → chain_told (chain_from d.number d.status d.cell d.held (pos d.number j)) list (chain_due ((view d).stat j) (length list)) ≡ chain_told (chain_of (view d) j) list (chain_due ((view d).stat j) (length list))
-      by_due (some why) e = unfold chain_told in rw e
-      by_due none e = ap (λ js. chain_told js list (chain_due ((view d).stat j) (length list))) (chain_is j (not_due_live ((view d).stat j) (length list) e))
+      by_due (Some why) e = unfold chain_told in rw e
+      by_due None e = ap (λ js. chain_told js list (chain_due ((view d).stat j) (length list))) (chain_is j (not_due_live ((view d).stat j) (length list) e))
 
 -- what holds of every started desk that runs
 pub started_view : {d : Desk} {h : History} → Started d h → Inv (view d) × Plain d

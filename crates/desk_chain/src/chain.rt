@@ -5,97 +5,75 @@ ghost use Rattle.terms.specs.Limits.{cells, places};
 ghost use Rattle.desk_rules.specs.Chain.{younger_than};
 ghost use Rattle.desk_chain.specs.Chains.{holds_above, holder_above, next_at, chain_from, asked_on, waits_within, waiter_above, next_chain};
 
-use conflict::modes::{mode_is_free, mode_of};
+use conflict::modes::{Mode, mode_is_free};
+use desk_arrays::board::Board;
 use desk_arrays::codes::{FREE, SENT_BACK, WAITING};
-use desk_arrays::state::{Desk, ROWS, SPOTS};
+use desk_arrays::state::{Desk, ROWS};
 use desk_plan::plan::find;
 use desk_rules::Chained;
 use terms::limits::{LAST_NUMBER, PLACES};
 use terms::refusals::Refusal;
 
+// A number above every job's.
+const ABOVE_ALL: u64 = LAST_NUMBER as u64 + 1;
+
 // Whether the place holds the cell and its number is above `age`.
 #[tactic(auto, unfolding(crate::specs::Chains::holds_above, desk_arrays::specs::Places::mode_at))]
-fn holds_above<'a>(
-    number: &'a [u32; PLACES],
-    held: &'a [u8; SPOTS],
-    c: usize,
-    age: u32,
-    q: usize,
-) -> bool
+fn holds_above(b: Board, c: usize, age: u32, q: usize) -> bool
     requires { (c < cells) × (q < places) }
-    ensures { result ≡ holds_above number.now held.now c age q }
+    ensures { result ≡ holds_above b.entry.number.now b.entry.held.now c age q }
 {
-    if mode_is_free(mode_of(held[c * PLACES + q])) {
+    if mode_is_free(Mode::from(b.held[c * PLACES + q])) {
         return false;
     }
-    age < number[q]
+    age < b.number[q]
 }
 
 // The place of the youngest holder of the cell that is younger than the job, or 32; this leaves out the job's own hold.
-fn holder_above<'a>(number: &'a [u32; PLACES], held: &'a [u8; SPOTS], c: usize, job: u32) -> usize
-    requires { (c < cells) × (length number.now ≡ places) }
-    ensures { result ≡ holder_above number.now held.now c job places }
+#[tactic(auto, unfolding(crate::specs::Chains::holder_above), using(crate::proofs::Finding::holder_newer, crate::proofs::Finding::holder_same))]
+fn holder_above(b: Board, c: usize, job: u32) -> usize
+    requires { c < cells }
+    ensures { result ≡ holder_above b.entry.number.now b.entry.held.now c job places }
 {
-    let mut best: usize = PLACES;
-    let mut age: u32 = job;
-    let mut q: usize = 0;
-    while q < PLACES {
-        if holds_above(number, held, c, age, q) {
+    let number = b.number;
+    let mut best = PLACES;
+    for q in 0..PLACES {
+        let age = number.get(best).copied().unwrap_or(job);
+        if holds_above(b, c, age, q) {
             best = q;
-            age = number[q];
         }
-        q += 1;
     }
     best
 }
 
-// A byte as an index.
-fn wide(byte: u8) -> usize
-    ensures { result ≡ byte }
-{
-    byte as usize
-}
-
 // The place of the next job after the one at this place, or 32 if that one does not wait for a cell from 0 to 63.
 #[tactic(auto, unfolding(crate::specs::Chains::next_at))]
-fn next_at<'a>(
-    number: &'a [u32; PLACES],
-    status: &'a [u8; PLACES],
-    cell: &'a [u8; PLACES],
-    held: &'a [u8; SPOTS],
-    p: usize,
-) -> usize
-    requires { (p < places) × (length number.now ≡ places) }
-    ensures { result ≡ next_at number.now status.now cell.now held.now p }
+fn next_at(b: Board, p: usize) -> usize
+    requires { p < places }
+    ensures { result ≡ next_at b.entry.number.now b.entry.status.now b.entry.cell.now b.entry.held.now p }
 {
-    if status[p] != WAITING {
+    if b.status[p] != WAITING {
         return PLACES;
     }
-    let c = wide(cell[p]);
+    let c = usize::from(b.cell[p]);
     if c < ROWS {
-        return holder_above(number, held, c, number[p]);
+        return holder_above(b, c, b.number[p]);
     }
     PLACES
 }
 
 // Puts the chain of the job at a place into the first places of the list, and tells how many jobs it has. It calls itself for the next job, over the later places.
 // It ends because numbers rise along a chain, so each further look has fewer younger jobs left.
-fn follow<'a>(
-    number: &'a [u32; PLACES],
-    status: &'a [u8; PLACES],
-    cell: &'a [u8; PLACES],
-    held: &'a [u8; SPOTS],
-    p: usize,
-    list: &mut [u32],
-) -> usize
-    requires p_lt_places { (p < places) × (length number.now ≡ places) }
-    requires number_in_bounds { younger_than (get_or number.now p 0) number.now < length list.old }
-    ensures { (result ≡ length (chain_from number.now status.now cell.now held.now p)) × (list.new ≡ filled (chain_from number.now status.now cell.now held.now p) list.old) }
+fn follow(b: Board, p: usize, list: &mut [u32]) -> usize
+    requires p_lt_places { p < places }
+    requires number_in_bounds { younger_than (get_or b.number.now p 0) b.number.now < length list.old }
+    ensures { (result ≡ length (chain_from b.entry.number.now b.entry.status.now b.entry.cell.now b.entry.held.now p)) × (list.new ≡ filled (chain_from b.entry.number.now b.entry.status.now b.entry.cell.now b.entry.held.now p) list.old) }
 {
+    let number = b.number;
     list[0] = number[p];
-    let q = next_at(number, status, cell, held, p);
+    let q = next_at(b, p);
     if q < PLACES {
-        return 1 + follow(number, status, cell, held, q, &mut list[1..]);
+        return 1 + follow(b, q, &mut list[1..]);
     }
     1
 }
@@ -106,7 +84,14 @@ fn follow<'a>(
 pub fn chain(d: Desk, job: u32, list: &mut [u32]) -> Chained
     ensures { (result ≡ (asked_on d job list.old).said) × (list.new ≡ (asked_on d job list.old).list) }
 {
-    let f = find(&d.number, &d.status, job);
+    let b = Board {
+        number: &d.number,
+        status: &d.status,
+        cell: &d.cell,
+        ask: &d.ask,
+        held: &d.held,
+    };
+    let f = find(b, job);
     if f.code == FREE {
         return Chained::No(Refusal::NotOpen);
     }
@@ -116,52 +101,37 @@ pub fn chain(d: Desk, job: u32, list: &mut [u32]) -> Chained
     if list.len() < PLACES {
         return Chained::No(Refusal::ShortList);
     }
-    Chained::Jobs(follow(&d.number, &d.status, &d.cell, &d.held, f.place, list))
-}
-
-// A job's number with room for one above all.
-fn long(job: u32) -> u64
-    ensures { result ≡ job }
-{
-    job as u64
+    Chained::Jobs(follow(b, f.place, list))
 }
 
 // Whether the place waits and its number is above `last` and below `least`.
 #[tactic(auto, unfolding(crate::specs::Chains::waits_within))]
-fn waits_within<'a>(
-    number: &'a [u32; PLACES],
-    status: &'a [u8; PLACES],
-    last: u32,
-    least: u64,
-    q: usize,
-) -> bool
+fn waits_within(b: Board, last: u32, least: u64, q: usize) -> bool
     requires { q < places }
-    ensures { result ≡ waits_within number.now status.now last least q }
+    ensures { result ≡ waits_within b.entry.number.now b.entry.status.now last least q }
 {
-    let job = number[q];
-    if status[q] != WAITING {
+    let job = b.number[q];
+    if b.status[q] != WAITING {
         return false;
     }
     if last < job {
-        return long(job) < least;
+        return u64::from(job) < least;
     }
     false
 }
 
 // The place of the waiter with the smallest number above `last`, or 32.
-fn waiter_above<'a>(number: &'a [u32; PLACES], status: &'a [u8; PLACES], last: u32) -> usize
-    requires { length number.now ≡ places }
-    ensures { result ≡ waiter_above number.now status.now last places }
+#[tactic(auto, unfolding(crate::specs::Chains::waiter_above), using(crate::proofs::Finding::waiter_newer, crate::proofs::Finding::waiter_same))]
+fn waiter_above(b: Board, last: u32) -> usize
+    ensures { result ≡ waiter_above b.entry.number.now b.entry.status.now last places }
 {
-    let mut best: usize = PLACES;
-    let mut least: u64 = LAST_NUMBER as u64 + 1;
-    let mut q: usize = 0;
-    while q < PLACES {
-        if waits_within(number, status, last, least, q) {
+    let number = b.number;
+    let mut best = PLACES;
+    for q in 0..PLACES {
+        let least = number.get(best).copied().map_or(ABOVE_ALL, u64::from);
+        if waits_within(b, last, least, q) {
             best = q;
-            least = long(number[q]);
         }
-        q += 1;
     }
     best
 }
@@ -172,9 +142,16 @@ fn waiter_above<'a>(number: &'a [u32; PLACES], status: &'a [u8; PLACES], last: u
 pub fn next_chain(d: Desk, last: u32, list: &mut [u32; PLACES]) -> usize
     ensures { (result ≡ length (next_chain d last)) × (list.new ≡ filled (next_chain d last) list.old) }
 {
-    let p = waiter_above(&d.number, &d.status, last);
+    let b = Board {
+        number: &d.number,
+        status: &d.status,
+        cell: &d.cell,
+        ask: &d.ask,
+        held: &d.held,
+    };
+    let p = waiter_above(b, last);
     if p < PLACES {
-        return follow(&d.number, &d.status, &d.cell, &d.held, p, list);
+        return follow(b, p, list);
     }
     0
 }

@@ -31,12 +31,7 @@ open_inside number status job e h =
     (λ f. absurd (eqb-false (status_of number status job) free_code h (nowhere_free number status job (omega (arith, ltb-false (pos number job) 32 f)))))
 
 -- a running job is open
-pub runs_open : (code : ℕ) → standing_of code ≡ Runs → eqb code free_code ≡ false
+pub runs_open : (code : ℕ) {s : Standing} → s ≡ standing_of code → s ≡ Runs → 0 < code
 unfolding standing_of
-runs_open code h = by_test (eqb code free_code) (λ t. let e : Against NotOpen ≡ Runs = rw t at h in let z : ◌≡◌ {A = ℕ} 0 1 = cc in absurd (omega arith)) (λ f. f)
-
--- a job found running has a place
-pub runs_inside : (number status : List ℕ) (job : ℕ) {f : Found} {s : Standing} → length status ≡ 32 → f ≡ found_at number status job → s ≡ standing_of f.code → s ≡ Runs → f.place < 32
-unfolding found_at
-runs_inside number status job {f} {s} l e g h =
-    rw e (open_inside number status job l (runs_open (status_of number status job) (rw e at (sym g ∙ h))))
+runs_open code g h =
+    by_test (eqb code free_code) (λ t. let e : Against NotOpen ≡ Runs = rw t at (sym g ∙ h) in cc) (λ f. let z = eqb-false code 0 f in omega arith)

@@ -23,7 +23,7 @@ pub wanted_cells_unique : Unique wanted-cellsK.ps wanted-cellsK.r wanted-cells.P
 wanted_cells_unique κs a x y e f p q = p ∙ sym q
 
 pub find_unique : Unique findK.ps findK.r find.Post
-find_unique κs a x y e f p q = p ∙ sym q
+find_unique κs a x y e f p q = p.0 ∙ sym q.0
 
 pub plan_for_unique : Unique plan-forK.ps plan-forK.r plan-for.Post
 plan_for_unique κs a x y e f p q = p ∙ sym q

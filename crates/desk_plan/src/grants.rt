@@ -4,19 +4,13 @@ ghost use Rattle.desk_arrays.specs.Places.{wants_at};
 ghost use Rattle.desk_plan.specs.Grants.{none_waits, wanted, next_grant};
 ghost use Rattle.terms.specs.Limits.{cells, places};
 
-use crate::places::{agrees, front_of, mode_at, sized, wide};
+use crate::places::{agrees, front_of, mode_at};
 use conflict::modes::{Mode, asked_mode, needed_mode};
+use desk_arrays::board::Board;
 use desk_arrays::codes::{WAITING, ask_of};
 use desk_arrays::state::{ROWS, SPOTS};
 use terms::letters::Ask;
 use terms::limits::PLACES;
-
-// The next grant: nobody, or a place and the mode that it gets.
-#[derive(Clone, Copy)]
-pub enum Grant {
-    Nobody,
-    To(usize, Mode),
-}
 
 // Whether nobody waits for any cell.
 #[tactic(auto, unfolding(crate::specs::Grants::none_waits), using(crate::proofs::Every::all_failed, crate::proofs::Every::all_kept, crate::proofs::Every::all_none))]
@@ -24,31 +18,27 @@ pub fn none_waits(status: &[u8; PLACES]) -> bool
     ensures { result ≡ none_waits status.now }
 {
     let mut none = true;
-    let mut q: usize = 0;
-    while q < PLACES {
+    for q in 0..PLACES {
         if status[q] == WAITING {
             none = false;
         }
-        q += 1;
     }
     none
 }
 
 // The cells with waiters.
 #[tactic(auto, unfolding(crate::specs::Grants::wanted), using(crate::proofs::Wanted::wanted_marked, crate::proofs::Wanted::wanted_outside, crate::proofs::Wanted::wanted_unmarked))]
-pub fn wanted_cells<'a>(status: &'a [u8; PLACES], cell: &'a [u8; PLACES]) -> [bool; ROWS]
+pub fn wanted_cells(status: &[u8; PLACES], cell: &[u8; PLACES]) -> [bool; ROWS]
     ensures { result ≡ wanted status.now cell.now places }
 {
     let mut cells = [false; ROWS];
-    let mut q: usize = 0;
-    while q < PLACES {
+    for q in 0..PLACES {
         if status[q] == WAITING {
-            let c = wide(cell[q]);
+            let c = usize::from(cell[q]);
             if c < ROWS {
                 cells[c] = true;
             }
         }
-        q += 1;
     }
     cells
 }
@@ -64,28 +54,19 @@ fn wanted_mode(held: &[u8; SPOTS], c: usize, p: usize, a: Ask) -> Mode
 
 // The front of a cell's queue, if its mode agrees with the other holders; nobody, if there is no such cell.
 #[tactic(auto, using(crate::proofs::Granting::granted_front, crate::proofs::Granting::no_cell, crate::proofs::Granting::no_front, crate::proofs::Granting::not_agreed))]
-pub fn front_grant<'a>(
-    number: &'a [u32; PLACES],
-    status: &'a [u8; PLACES],
-    cell: &'a [u8; PLACES],
-    ask: &'a [u8; PLACES],
-    held: &[u8; SPOTS],
-    c: usize,
-) -> Grant
-    ensures { result ≡ next_grant number.now status.now cell.now ask.now held.now c }
+pub fn front_grant(b: Board, c: usize) -> Option<(usize, Mode)>
+    ensures { result ≡ next_grant b.entry.number.now b.entry.status.now b.entry.cell.now b.entry.ask.now b.entry.held.now c }
 {
     if ROWS <= c {
-        return Grant::Nobody;
+        return None;
     }
-    sized(*number, *status);
-    let p = front_of(number, status, cell, c);
+    let p = front_of(b, c);
     if PLACES <= p {
-        return Grant::Nobody;
+        return None;
     }
-    let a = ask_of(ask[p]);
-    let m = wanted_mode(held, c, p, a);
-    if agrees(held, c, p, m) {
-        return Grant::To(p, m);
+    let m = wanted_mode(b.held, c, p, ask_of(b.ask[p]));
+    if agrees(b.held, c, p, m) {
+        return Some((p, m));
     }
-    Grant::Nobody
+    None
 }

@@ -1,17 +1,16 @@
 // What a step is to do, decided over lent arrays before anything changes (01, rules 1 to 3; 01, Refusals by number).
-ghost use Rattle.std.specs.Prelude.{◌<◌, ◌≡◌, ◌&&◌, length};
-ghost use Rattle.terms.specs.declared.letters.Lettered.TheVariants.{Known};
+ghost use Rattle.std.specs.Prelude.{◌<◌, ◌≡◌, ◌&&◌, Some};
 ghost use Rattle.desk_arrays.specs.Places.{mode_at, nobody_waits, agrees_at, older_at, oldest_of};
 ghost use Rattle.desk_arrays.specs.Moves.{found_at, standing_of, begin_move, commit_move, give_up_move, retry_move, promotes, enters, decided, ask_move, move_for};
 ghost use Rattle.terms.specs.Limits.{cells, places};
 
 use crate::places::{
-    agrees, goes_beside, mode_at, nobody_waits, older_than_holders, older_than_waiters, sized,
+    agrees, goes_beside, mode_at, nobody_waits, older_than_holders, older_than_waiters,
 };
 use conflict::modes::{Mode, asked_mode, mode_covers, mode_is_free, needed_mode};
+use desk_arrays::board::Board;
 use desk_arrays::codes::{FREE, SENT_BACK, WAITING};
 use desk_arrays::moves::{Ending, Found, Move, Standing};
-use desk_arrays::state::SPOTS;
 use desks::finding::{Opening, opening_for, place_of};
 use terms::letters::{Ask, Letter};
 use terms::limits::{CELLS, PLACES};
@@ -19,21 +18,19 @@ use terms::refusals::Refusal;
 
 // Where a job stands, and what the job is doing; nothing, for 0 and for a number at no place.
 #[tactic(auto, unfolding(desk_arrays::specs::Moves::found_at, desk_arrays::specs::Moves::status_of), using(crate::proofs::Open::nowhere_free))]
-pub fn find<'a>(number: &'a [u32; PLACES], status: &'a [u8; PLACES], job: u32) -> Found
-    ensures { result ≡ found_at number.now status.now job }
+pub fn find(b: Board, job: u32) -> Found
+    ensures found { result ≡ found_at b.entry.number.now b.entry.status.now job }
+    ensures inside { 0 < result.code → result.place < places }
 {
-    sized(*number, *status);
+    let Board { number, status, .. } = b;
     let place = place_of(number, job);
     if job == 0 {
         return Found { place, code: FREE };
     }
-    if place < PLACES {
-        return Found {
-            place,
-            code: status[place],
-        };
+    Found {
+        place,
+        code: status.get(place).copied().unwrap_or(FREE),
     }
-    Found { place, code: FREE }
 }
 
 // Refusals 3, 4 and 5.
@@ -54,62 +51,38 @@ fn standing_of(code: u8) -> Standing
 }
 
 // Rule 3, go: the queue is empty and the mode agrees with every holder.
-fn may_take<'a>(
-    held: &'a [u8; SPOTS],
-    status: &'a [u8; PLACES],
-    cell: &'a [u8; PLACES],
-    p: usize,
-    c: usize,
-    m: Mode,
-) -> bool
+fn may_take(b: Board, p: usize, c: usize, m: Mode) -> bool
     requires { c < cells }
-    ensures { result ≡ (nobody_waits status.now cell.now c && agrees_at held.now c p m) }
+    ensures { result ≡ (nobody_waits b.entry.status.now b.entry.cell.now c && agrees_at b.entry.held.now c p m) }
 {
-    if nobody_waits(status, cell, c) {
-        return goes_beside(held, c, p, m);
+    if nobody_waits(b, c) {
+        return goes_beside(b.held, c, p, m);
     }
     false
 }
 
 // Rule 3, wait: the job is older than every holder and every waiter.
-fn may_wait<'a>(
-    held: &'a [u8; SPOTS],
-    number: &'a [u32; PLACES],
-    status: &'a [u8; PLACES],
-    cell: &'a [u8; PLACES],
-    p: usize,
-    c: usize,
-    job: u32,
-) -> bool
+fn may_wait(b: Board, p: usize, c: usize, job: u32) -> bool
     requires { c < cells }
-    ensures { result ≡ (older_at held.now number.now c p job && oldest_of number.now status.now cell.now c job) }
+    ensures { result ≡ (older_at b.entry.held.now b.entry.number.now c p job && oldest_of b.entry.number.now b.entry.status.now b.entry.cell.now c job) }
 {
-    if older_than_holders(held, number, c, p, job) {
-        return older_than_waiters(number, status, cell, c, job);
+    if older_than_holders(b, c, p, job) {
+        return older_than_waiters(b, c, job);
     }
     false
 }
 
 // Rule 3: a job new to the cell.
 #[tactic(auto, using(crate::proofs::Decides::leaves, crate::proofs::Decides::takes, crate::proofs::Decides::waits))]
-fn enter<'a>(
-    held: &'a [u8; SPOTS],
-    number: &'a [u32; PLACES],
-    status: &'a [u8; PLACES],
-    cell: &'a [u8; PLACES],
-    p: usize,
-    c: usize,
-    job: u32,
-    a: Ask,
-) -> Move
+fn enter(b: Board, p: usize, c: usize, job: u32, a: Ask) -> Move
     requires { c < cells }
-    ensures { result ≡ enters number.now status.now cell.now held.now p c job a }
+    ensures { result ≡ enters b.entry.number.now b.entry.status.now b.entry.cell.now b.entry.held.now p c job a }
 {
     let need = needed_mode(a);
-    if may_take(held, status, cell, p, c, need) {
+    if may_take(b, p, c, need) {
         return Move::Take(p, need);
     }
-    if may_wait(held, number, status, cell, p, c, job) {
+    if may_wait(b, p, c, job) {
         return Move::Stay(p, a);
     }
     Move::End(p, Ending::SentBack)
@@ -117,23 +90,15 @@ fn enter<'a>(
 
 // Rule 2: a job that holds another mode goes if its new mode agrees with every other holder.
 #[tactic(auto, using(crate::proofs::Decides::leaves_promoted, crate::proofs::Decides::promoted, crate::proofs::Decides::waits_promoted))]
-fn promote<'a>(
-    held: &'a [u8; SPOTS],
-    number: &'a [u32; PLACES],
-    p: usize,
-    c: usize,
-    job: u32,
-    a: Ask,
-    mine: Mode,
-) -> Move
-    requires { (c < cells) × (mine ≡ mode_at held.now c p) }
-    ensures { result ≡ promotes number.now held.now p c job a }
+fn promote(b: Board, p: usize, c: usize, job: u32, a: Ask, mine: Mode) -> Move
+    requires { (c < cells) × (mine ≡ mode_at b.held.now c p) }
+    ensures { result ≡ promotes b.entry.number.now b.entry.held.now p c job a }
 {
     let wanted = asked_mode(mine, needed_mode(a));
-    if agrees(held, c, p, wanted) {
+    if agrees(b.held, c, p, wanted) {
         return Move::Take(p, wanted);
     }
-    if older_than_holders(held, number, c, p, job) {
+    if older_than_holders(b, c, p, job) {
         return Move::Stay(p, a);
     }
     Move::End(p, Ending::SentBack)
@@ -141,27 +106,18 @@ fn promote<'a>(
 
 // Rules 1 to 3: the decision on a request for a cell.
 #[tactic(auto, using(crate::proofs::Decides::goes_in, crate::proofs::Decides::goes_up, crate::proofs::Decides::keeps))]
-fn decide<'a>(
-    held: &'a [u8; SPOTS],
-    number: &'a [u32; PLACES],
-    status: &'a [u8; PLACES],
-    cell: &'a [u8; PLACES],
-    p: usize,
-    c: usize,
-    job: u32,
-    a: Ask,
-) -> Move
+fn decide(b: Board, p: usize, c: usize, job: u32, a: Ask) -> Move
     requires { (p < places) × (c < cells) }
-    ensures { result ≡ decided number.now status.now cell.now held.now p c job a }
+    ensures { result ≡ decided b.entry.number.now b.entry.status.now b.entry.cell.now b.entry.held.now p c job a }
 {
-    let mine = mode_at(held, c, p);
+    let mine = mode_at(b.held, c, p);
     if mode_covers(mine, needed_mode(a)) {
         return Move::Keep;
     }
     if mode_is_free(mine) {
-        return enter(held, number, status, cell, p, c, job, a);
+        return enter(b, p, c, job, a);
     }
-    promote(held, number, p, c, job, a, mine)
+    promote(b, p, c, job, a, mine)
 }
 
 // Begin: refusal 7, then 6, else the next number at the first free place.
@@ -170,8 +126,8 @@ fn begin_move(next: u64, number: &[u32; PLACES]) -> Move
     ensures { result ≡ begin_move next number.now }
 {
     match opening_for(next, number) {
-        Opening::At(p, n) => Move::Begin(p, n),
-        Opening::Refused(why) => Move::Refuse(why),
+        Ok(Opening { place, number }) => Move::Begin(place, number),
+        Err(why) => Move::Refuse(why),
     }
 }
 
@@ -215,25 +171,16 @@ fn retry_move(f: Found) -> Move
 }
 
 // Read, write, increment and u: refusals 3, 4, 5, 2, else what the rules decide.
-#[tactic(auto, unfolding(desk_arrays::specs::Moves::if_runs, desk_arrays::specs::Moves::ask_move), using(crate::proofs::Open::runs_inside))]
-fn ask_move<'a>(
-    held: &'a [u8; SPOTS],
-    number: &'a [u32; PLACES],
-    status: &'a [u8; PLACES],
-    cell: &'a [u8; PLACES],
-    job: u32,
-    c: u32,
-    a: Ask,
-) -> Move
-    requires { (length number.now ≡ places) × (length status.now ≡ places) }
-    ensures { result ≡ ask_move number.now status.now cell.now held.now job c a }
+#[tactic(auto, unfolding(desk_arrays::specs::Moves::if_runs, desk_arrays::specs::Moves::ask_move), using(crate::proofs::Open::runs_open))]
+fn ask_move(b: Board, job: u32, c: u32, a: Ask) -> Move
+    ensures { result ≡ ask_move b.entry.number.now b.entry.status.now b.entry.cell.now b.entry.held.now job c a }
 {
-    let f = find(number, status, job);
+    let f = find(b, job);
     match standing_of(f.code) {
         Standing::Against(why) => Move::Refuse(why),
         Standing::Runs => {
             if c < CELLS {
-                return decide(held, number, status, cell, f.place, c as usize, job, a);
+                return decide(b, f.place, c as usize, job, a);
             }
             Move::Refuse(Refusal::CellAbove)
         }
@@ -242,25 +189,15 @@ fn ask_move<'a>(
 
 // The move of a request, by its letter.
 #[tactic(auto, unfolding(desk_arrays::specs::Moves::move_for))]
-pub fn plan_for<'a>(
-    next: u64,
-    number: &'a [u32; PLACES],
-    status: &'a [u8; PLACES],
-    cell: &'a [u8; PLACES],
-    held: &'a [u8; SPOTS],
-    letter: Letter,
-    job: u32,
-    c: u32,
-) -> Move
-    ensures { result ≡ move_for next number.now status.now cell.now held.now job c (Known letter) }
+pub fn plan_for(next: u64, b: Board, letter: Letter, job: u32, c: u32) -> Move
+    ensures { result ≡ move_for next b.entry.number.now b.entry.status.now b.entry.cell.now b.entry.held.now job c (Some letter) }
 {
-    sized(*number, *status);
     match letter {
         Letter::Back => Move::Refuse(Refusal::UnknownKind),
-        Letter::Begin => begin_move(next, number),
-        Letter::Commit => commit_move(find(number, status, job)),
-        Letter::GiveUp => give_up_move(find(number, status, job)),
-        Letter::Retry => retry_move(find(number, status, job)),
-        Letter::Asks(a) => ask_move(held, number, status, cell, job, c, a),
+        Letter::Begin => begin_move(next, b.number),
+        Letter::Commit => commit_move(find(b, job)),
+        Letter::GiveUp => give_up_move(find(b, job)),
+        Letter::Retry => retry_move(find(b, job)),
+        Letter::Asks(a) => ask_move(b, job, c, a),
     }
 }

@@ -1,5 +1,6 @@
 -- What a request's letter and its answer tell of the step: which rule it was, and for which job.
 -- Assumes nothing.
+use Rattle.std.specs.Prelude.{Option, Some}
 use Prim.Native.Nat.{ℕ, ◌≤◌}
 use mathlib.Core.Path.{◌≡◌, refl, sym, ap, ◌∙◌, subst}
 use mathlib.Core.Bool.{true, false}
@@ -10,8 +11,6 @@ use Rattle.laws.specs.Choice.{by_test, not_both}
 use Rattle.terms.specs.declared.letters.Ask.{Ask}
 use Rattle.terms.specs.declared.letters.Letter.{Letter}
 use Rattle.terms.specs.declared.letters.Letter.TheVariants.{Begin, Commit, GiveUp, Retry, Asks}
-use Rattle.terms.specs.declared.letters.Lettered.{Lettered}
-use Rattle.terms.specs.declared.letters.Lettered.TheVariants.{Known}
 use Rattle.terms.specs.Letters.{letter_of, has_cell}
 use Rattle.terms.specs.Limits.{last_number}
 use Rattle.conflict.specs.declared.modes.Mode.{Mode}
@@ -42,7 +41,7 @@ same_go : {i j : ℕ} → Go i ≡ Go j → j ≡ i
 same_go e = cc
 
 -- a commit that goes is of a running job, and closes it
-pub commit_went : (d : Desk) (r : Request) (j : ℕ) → letter_of r.kind ≡ Known Commit → (step d r).said ≡ Go j → Tells d r r.job j (close d r.job) (d.stat r.job ≡ running)
+pub commit_went : (d : Desk) (r : Request) (j : ℕ) → letter_of r.kind ≡ Some Commit → (step d r).said ≡ Go j → Tells d r r.job j (close d r.job) (d.stat r.job ≡ running)
 unfolding step_commit refused close rule4
 commit_went d r j e g = by_status (d.stat r.job) refl (unfold step step_by in ap (step_by d r) e)
   where
@@ -53,7 +52,7 @@ commit_went d r j e g = by_status (d.stat r.job) refl (unfold step step_by in ap
     by_status sentback q h = other-answer (sym (ap (λ o. o.said) h) ∙ g) refl
 
 -- a give-up that goes is of an open job, and closes it
-pub give_up_went : (d : Desk) (r : Request) (j : ℕ) → letter_of r.kind ≡ Known GiveUp → (step d r).said ≡ Go j → Tells d r r.job j (close d r.job) (is_open (d.stat r.job) ≡ true)
+pub give_up_went : (d : Desk) (r : Request) (j : ℕ) → letter_of r.kind ≡ Some GiveUp → (step d r).said ≡ Go j → Tells d r r.job j (close d r.job) (is_open (d.stat r.job) ≡ true)
 unfolding step_give_up refused close rule4 is_open
 give_up_went d r j e g = by_status (d.stat r.job) refl (unfold step step_by in ap (step_by d r) e)
   where
@@ -64,7 +63,7 @@ give_up_went d r j e g = by_status (d.stat r.job) refl (unfold step step_by in a
     by_status sentback q h = record { job = same_go (sym (ap (λ o. o.said) h) ∙ g); outcome = h; was = rw q }
 
 -- a retry that goes is of a sent back job, and makes it run
-pub retry_went : (d : Desk) (r : Request) (j : ℕ) → letter_of r.kind ≡ Known Retry → (step d r).said ≡ Go j → Tells d r r.job j (retry d r.job) (d.stat r.job ≡ sentback)
+pub retry_went : (d : Desk) (r : Request) (j : ℕ) → letter_of r.kind ≡ Some Retry → (step d r).said ≡ Go j → Tells d r r.job j (retry d r.job) (d.stat r.job ≡ sentback)
 unfolding step_retry refused retry
 retry_went d r j e g = by_status (d.stat r.job) refl (unfold step step_by in ap (step_by d r) e)
   where
@@ -75,7 +74,7 @@ retry_went d r j e g = by_status (d.stat r.job) refl (unfold step step_by in ap 
     by_status sentback q h = record { job = same_go (sym (ap (λ o. o.said) h) ∙ g); outcome = h; was = q }
 
 -- a begin that goes gives the next number, which had not been given, to a new job, and a place was free for it
-pub begin_went : (d : Desk) (r : Request) (j : ℕ) → letter_of r.kind ≡ Known Begin → (step d r).said ≡ Go j → Tells d r d.next j (begin d) ((d.next ≤ last_number) × (member 0 d.jobs ≡ true))
+pub begin_went : (d : Desk) (r : Request) (j : ℕ) → letter_of r.kind ≡ Some Begin → (step d r).said ≡ Go j → Tells d r d.next j (begin d) ((d.next ≤ last_number) × (member 0 d.jobs ≡ true))
 unfolding step_begin beginning refused begin
 begin_went d r j e g = by_tests (unfold step step_by in ap (step_by d r) e)
   where
@@ -91,15 +90,15 @@ pub data AskWent (d : Desk) (r : Request) (a : Ask) : Type 0 where
   got : (m : Mode) → covers m (needed a) ≡ true → covers m ((d.row r.cell).held r.job) ≡ true → step d r ≡ grant d r.job r.cell m → AskWent d r a
 
 -- a letter without a cell asks for none
-pub no_ask : {P : Type 0} {x : Lettered} {l : Letter} {a : Ask} → x ≡ Known l → has_cell l ≡ false → x ≡ Known (Asks a) → P
+pub no_ask : {P : Type 0} {x : Option Letter} {l : Letter} {a : Ask} → x ≡ Some l → has_cell l ≡ false → x ≡ Some (Asks a) → P
 no_ask p n q = not_both (ap (letter_is has_cell) q) (ap (letter_is has_cell) p ∙ n)
 
 -- a letter asks for one thing
-pub same_ask : {x : Lettered} {a b : Ask} → x ≡ Known (Asks a) → x ≡ Known (Asks b) → a ≡ b
+pub same_ask : {x : Option Letter} {a b : Ask} → x ≡ Some (Asks a) → x ≡ Some (Asks b) → a ≡ b
 same_ask p q = cc
 
 -- a request for a cell that goes is of the request's job
-pub ask_went : (d : Desk) (r : Request) (a : Ask) (j : ℕ) → letter_of r.kind ≡ Known (Asks a) → (step d r).said ≡ Go j → (j ≡ r.job) × AskWent d r a
+pub ask_went : (d : Desk) (r : Request) (a : Ask) (j : ℕ) → letter_of r.kind ≡ Some (Asks a) → (step d r).said ≡ Go j → (j ≡ r.job) × AskWent d r a
 ask_went d r a j e g = by_move (step_moved d r) refl g
   where
     by_move : {o : Outcome} → Moved d r o → step d r ≡ o → o.said ≡ Go j → (j ≡ r.job) × AskWent d r a

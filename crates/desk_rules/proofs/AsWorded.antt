@@ -1,17 +1,16 @@
 -- The lock desk refuses a request with a number exactly if the paper's words say so; and a refusal of one ask of a cell is given to every other (01, Refusals by number; 02, No. 1).
 -- Assumes nothing.
+use Rattle.std.specs.Prelude.{Option, None, Some}
 use Prim.Native.Nat.{ℕ}
 use mathlib.Core.Path.{◌≡◌, refl, sym, ap, ◌∙◌, subst}
 use mathlib.Core.Bool.{true, false}
 use mathlib.Core.List.{[], ◌∷◌, map}
-use mathlib.Core.Option.{Option, none, some}
 use borrow.Author.Tests.{le-leb}
 use Rattle.laws.specs.Choice.{pick, not_both}
 use Rattle.laws.specs.Lists.{first_of}
+use Rattle.terms.specs.declared.letters.Letter.{Letter}
 use Rattle.terms.specs.declared.letters.Ask.TheVariants.{Read}
 use Rattle.terms.specs.declared.letters.Letter.TheVariants.{Begin, Commit, GiveUp, Retry, Back, Asks}
-use Rattle.terms.specs.declared.letters.Lettered.{Lettered}
-use Rattle.terms.specs.declared.letters.Lettered.TheVariants.{Known, Unknown}
 use Rattle.terms.specs.declared.refusals.Refusal.{Refusal}
 use Rattle.terms.specs.declared.refusals.Refusal.TheVariants.{UnknownKind, CellAbove, NotOpen, Waiting, SentBack, AllOpen, NoNumberLeft, Running}
 use Rattle.terms.specs.Letters.{letter_of}
@@ -42,24 +41,24 @@ is_closed (waiting c a) f = not_both refl f
 is_closed sentback f = not_both refl f
 
 -- 1 is due for a request of another kind, whatever else it says
-other_due : (d : Desk) (x : Lettered) (s : Status) (c : ℕ) → other_kind x ≡ true → due_by d x s c ≡ some UnknownKind
+other_due : (d : Desk) (x : Option Letter) (s : Status) (c : ℕ) → other_kind x ≡ true → due_by d x s c ≡ Some UnknownKind
 unfolding due_by holds order first_of
-other_due d Unknown s c t = refl
-other_due d (Known Back) s c t = refl
-other_due d (Known Begin) s c t = not_both t refl
-other_due d (Known Commit) s c t = not_both t refl
-other_due d (Known GiveUp) s c t = not_both t refl
-other_due d (Known Retry) s c t = not_both t refl
-other_due d (Known (Asks a)) s c t = not_both t refl
+other_due d None s c t = refl
+other_due d (Some Back) s c t = refl
+other_due d (Some Begin) s c t = not_both t refl
+other_due d (Some Commit) s c t = not_both t refl
+other_due d (Some GiveUp) s c t = not_both t refl
+other_due d (Some Retry) s c t = not_both t refl
+other_due d (Some (Asks a)) s c t = not_both t refl
 
 -- for one ask of a cell the same is due as for another
-ask_due : (d : Desk) (s : Status) (c : ℕ) → map (λ b. due_by d (letter_of b) s c) asks ≡ map (λ b. due_by d (Known (Asks Read)) s c) asks
+ask_due : (d : Desk) (s : Status) (c : ℕ) → map (λ b. due_by d (letter_of b) s c) asks ≡ map (λ b. due_by d (Some (Asks Read)) s c) asks
 unfolding due_by holds order first_of
 ask_due d s c = refl
 
 module _ (d : Desk) (r : Request) where
   -- what is due for a begin
-  begin_due : r.kind ≡ 98 → due_of d r ≡ due_by d (Known Begin) (d.stat r.job) r.cell
+  begin_due : r.kind ≡ 98 → due_of d r ≡ due_by d (Some Begin) (d.stat r.job) r.cell
   unfolding due_of
   begin_due b = ap (λ k. due_by d (letter_of k) (d.stat r.job) r.cell) b
 
@@ -67,7 +66,7 @@ module _ (d : Desk) (r : Request) where
   alike_due : DeskLimits d.next d.jobs (λ j. is_open (d.stat j)) → {n : ℕ} → RefusedAlike (λ j. is_open (d.stat j)) d.next (d.stat r.job ≡ running) r n → (why : Refusal) × Due d r why × (number_of why ≡ n)
   unfolding due_by holds order first_of is_open
   alike_due l (of_other_kind f) = (UnknownKind, unfold due_of in other_due d (letter_of r.kind) (d.stat r.job) r.cell (none_of_eight r.kind f), refl)
-  alike_due l (above m q p) = (CellAbove, unfold due_of in by_bytes (due_by d) r q asks CellAbove (ap (λ b. let x : Option Refusal = pick b (some CellAbove) none in x ∷ x ∷ x ∷ x ∷ []) (le-leb cells r.cell p)) m, refl)
+  alike_due l (above m q p) = (CellAbove, unfold due_of in by_bytes (due_by d) r q asks CellAbove (ap (λ b. let x : Option Refusal = pick b (Some CellAbove) None in x ∷ x ∷ x ∷ x ∷ []) (le-leb cells r.cell p)) m, refl)
   alike_due l (not_open m f) = (NotOpen, unfold due_of in by_bytes (due_by d) r (is_closed (d.stat r.job) f) with_cat NotOpen refl m, refl)
   alike_due l (all_open b p o) = (AllOpen, begin_due b ∙ six_due d.next d.jobs p (none_free l o), refl)
   alike_due l (no_number_left b p) = (NoNumberLeft, begin_due b ∙ seven_due d.next d.jobs p, refl)
@@ -78,7 +77,7 @@ module _ (d : Desk) (r : Request) where
   worded_due l (alike w) = alike_due l w
   worded_due l (still_waiting m c a q) = (Waiting, unfold due_of in by_bytes (due_by d) r q with_ct Waiting refl m, refl)
   worded_due l (was_sent_back m q) = (SentBack, unfold due_of in by_bytes (due_by d) r q with_c SentBack refl m, refl)
-  worded_due l (retry_while_running b q) = (Running, unfold due_of in ap (λ k. due_by d (letter_of k) (d.stat r.job) r.cell) b ∙ ap (λ x. due_by d (Known Retry) x r.cell) q, refl)
+  worded_due l (retry_while_running b q) = (Running, unfold due_of in ap (λ k. due_by d (letter_of k) (d.stat r.job) r.cell) b ∙ ap (λ x. due_by d (Some Retry) x r.cell) q, refl)
 
 -- THE WORDS AND THE STEP REFUSE ALIKE, in both directions, for every started desk
 pub worded : {d : Desk} {h : History} → Started d h → RefusesAs RefusedAs (from d)

@@ -1,11 +1,11 @@
 -- A question for a chain: which refusal is due, by what the job is doing and the places lent, and what the answer and the list then are (02, No. 3).
 -- Assumes nothing.
+use Rattle.std.specs.Prelude.{None, Some}
 use Prim.Native.Nat.{ℕ, ◌<◌, ◌≤◌}
 use mathlib.Core.Path.{◌≡◌, refl, sym, ap, subst, ◌∙◌}
 use mathlib.Core.Logic.{◌≢◌, inl, inr}
 use mathlib.Core.Bool.{true}
 use mathlib.Core.List.{List}
-use mathlib.Core.Option.{none, some}
 use native.Mathlib.Omega.{arith}
 use lib.Dec.{ltb}
 use lib.ListN.{length, take, drop}
@@ -35,7 +35,7 @@ pub data Way (d : Desk) (j : ℕ) (list : List ℕ) : Type 0 where
   told : is_live (d.stat j) ≡ true → 32 ≤ length list → ask_chain d j list ≡ record { said = Jobs (length (chain_of d j)); list = filled (chain_of d j) list } → Way d j list
 
 -- for a job that runs or waits, the places lent decide
-pub live_due : (s : Status) (n : ℕ) → is_live s ≡ true → chain_due s n ≡ pick (ltb n places) (some ShortList) none
+pub live_due : (s : Status) (n : ℕ) → is_live s ≡ true → chain_due s n ≡ pick (ltb n places) (Some ShortList) None
 unfolding chain_due chain_order first_of chain_holds is_live is_open
 live_due closed n h = not_both h refl
 live_due running n h = refl

@@ -1,5 +1,6 @@
 -- A step changes the status and place of no job but the one that the answer names and the woken ones (01, The desk's rules).
 -- Assumes nothing.
+use Rattle.std.specs.Prelude.{Some}
 use Prim.Native.Nat.{ℕ}
 use mathlib.Core.Path.{◌≡◌, refl, ◌∙◌}
 use mathlib.Core.Logic.{◌≢◌}
@@ -7,7 +8,6 @@ use mathlib.Core.Bool.{false}
 use mathlib.Core.List.{List}
 use Rattle.terms.specs.declared.letters.Letter.{Letter}
 use Rattle.terms.specs.declared.letters.Letter.TheVariants.{Begin}
-use Rattle.terms.specs.declared.letters.Lettered.TheVariants.{Known}
 use Rattle.terms.specs.Letters.{letter_of}
 use Rattle.laws.specs.Lists.{member}
 use Rattle.desks.specs.declared.Answer.{Answer}
@@ -33,12 +33,12 @@ ended_others d j s js said i n f = others_stay (at d.stat j s) (wakes_after d j)
 
 module _ (d : Desk) (r : Request) (i : ℕ) (n : i ≢ named d r) where
   -- a job that the answer does not name is not the request's, unless the request is a begin
-  pub not_job : {l : Letter} → letter_of r.kind ≡ Known l → is_begin l ≡ false → i ≢ r.job
+  pub not_job : {l : Letter} → letter_of r.kind ≡ Some l → is_begin l ≡ false → i ≢ r.job
   unfolding named
   not_job e f q = n (q ∙ rw (e, f))
 
   -- nor is it the new job of a begin
-  not_next : letter_of r.kind ≡ Known Begin → i ≢ d.next
+  not_next : letter_of r.kind ≡ Some Begin → i ≢ d.next
   unfolding named
   not_next e q = n (q ∙ rw e)
 

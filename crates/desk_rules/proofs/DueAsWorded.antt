@@ -1,16 +1,15 @@
 -- What the table of the lock desk has due is what the paper's words say, letter by letter and by what the job is doing (01, Refusals by number; 02, No. 1).
 -- Assumes nothing.
+use Rattle.std.specs.Prelude.{Option, None, Some}
 use mathlib.Core.Path.{◌≡◌, refl, sym, ap, subst}
 use mathlib.Core.Bool.{true}
-use mathlib.Core.Option.{some}
 use lib.Dec.{leb}
 use borrow.Author.Tests.{leb-true}
 use Rattle.laws.specs.Choice.{by_test}
 use Rattle.laws.specs.Lists.{member, first_of}
+use Rattle.terms.specs.declared.letters.Letter.{Letter}
 use Rattle.terms.specs.declared.letters.Ask.{Ask}
 use Rattle.terms.specs.declared.letters.Letter.TheVariants.{Begin, Commit, GiveUp, Retry, Back, Asks}
-use Rattle.terms.specs.declared.letters.Lettered.{Lettered}
-use Rattle.terms.specs.declared.letters.Lettered.TheVariants.{Known, Unknown}
 use Rattle.terms.specs.declared.refusals.Refusal.{Refusal}
 use Rattle.terms.specs.declared.refusals.Refusal.TheVariants.{UnknownKind, CellAbove, NotOpen, Waiting, SentBack, Running}
 use Rattle.terms.specs.Letters.{letter_of}
@@ -29,7 +28,7 @@ use Rattle.desk_rules.specs.AsWorded.{RefusedAs, alike, still_waiting, was_sent_
 
 module _ (d : Desk) (r : Request) where
   -- the refusal that is due is the one of the words
-  is_due : (x why : Refusal) → RefusedAs d r (number_of x) → some x ≡ some why → RefusedAs d r (number_of why)
+  is_due : (x why : Refusal) → RefusedAs d r (number_of x) → Some x ≡ Some why → RefusedAs d r (number_of why)
   is_due x why w e = subst (λ y. RefusedAs d r (number_of y)) (same_why e) w
 
   -- 3, for a request that names a job
@@ -38,7 +37,7 @@ module _ (d : Desk) (r : Request) where
 
   module _ (why : Refusal) where
     -- a commit's refusal, in words
-    commit_worded : letter_of r.kind ≡ Known Commit → (s : Status) → d.stat r.job ≡ s → due_by d (Known Commit) s r.cell ≡ some why → RefusedAs d r (number_of why)
+    commit_worded : letter_of r.kind ≡ Some Commit → (s : Status) → d.stat r.job ≡ s → due_by d (Some Commit) s r.cell ≡ Some why → RefusedAs d r (number_of why)
     unfolding due_by holds order first_of is_open member
     commit_worded e closed q t = is_due NotOpen why (shut (listed r Commit with_cat e refl) q) t
     commit_worded e running q t = some_not_none t
@@ -46,7 +45,7 @@ module _ (d : Desk) (r : Request) where
     commit_worded e sentback q t = is_due SentBack why (was_sent_back (listed r Commit with_c e refl) q) t
 
     -- a give-up's
-    give_up_worded : letter_of r.kind ≡ Known GiveUp → (s : Status) → d.stat r.job ≡ s → due_by d (Known GiveUp) s r.cell ≡ some why → RefusedAs d r (number_of why)
+    give_up_worded : letter_of r.kind ≡ Some GiveUp → (s : Status) → d.stat r.job ≡ s → due_by d (Some GiveUp) s r.cell ≡ Some why → RefusedAs d r (number_of why)
     unfolding due_by holds order first_of is_open member
     give_up_worded e closed q t = is_due NotOpen why (shut (listed r GiveUp with_cat e refl) q) t
     give_up_worded e running q t = some_not_none t
@@ -54,7 +53,7 @@ module _ (d : Desk) (r : Request) where
     give_up_worded e sentback q t = some_not_none t
 
     -- a retry's
-    retry_worded : letter_of r.kind ≡ Known Retry → (s : Status) → d.stat r.job ≡ s → due_by d (Known Retry) s r.cell ≡ some why → RefusedAs d r (number_of why)
+    retry_worded : letter_of r.kind ≡ Some Retry → (s : Status) → d.stat r.job ≡ s → due_by d (Some Retry) s r.cell ≡ Some why → RefusedAs d r (number_of why)
     unfolding due_by holds order first_of is_open member
     retry_worded e closed q t = is_due NotOpen why (shut (listed r Retry with_cat e refl) q) t
     retry_worded e running q t = is_due Running why (retry_while_running (sym (byte_of_letter r.kind Retry e)) q) t
@@ -62,7 +61,7 @@ module _ (d : Desk) (r : Request) where
     retry_worded e sentback q t = some_not_none t
 
     -- and that of a read, a write, an increment and a u
-    ask_worded : (a : Ask) → letter_of r.kind ≡ Known (Asks a) → (s : Status) → d.stat r.job ≡ s → due_by d (Known (Asks a)) s r.cell ≡ some why → RefusedAs d r (number_of why)
+    ask_worded : (a : Ask) → letter_of r.kind ≡ Some (Asks a) → (s : Status) → d.stat r.job ≡ s → due_by d (Some (Asks a)) s r.cell ≡ Some why → RefusedAs d r (number_of why)
     unfolding due_by holds order first_of is_open
     ask_worded a e closed q t =
         is_due NotOpen why (shut (ask_with_cat r a e) q) t
@@ -75,11 +74,11 @@ module _ (d : Desk) (r : Request) where
     ask_worded a e sentback q t = is_due SentBack why (was_sent_back (ask_with_c r a e) q) t
 
     -- what is due is what the words say, for every letter
-    pub due_worded : DeskLimits d.next d.jobs (λ j. is_open (d.stat j)) → (x : Lettered) → letter_of r.kind ≡ x → due_by d x (d.stat r.job) r.cell ≡ some why → RefusedAs d r (number_of why)
-    due_worded l Unknown e t = is_due UnknownKind why (alike (of_other_kind (other_kind_listed r.kind (ap other_kind e)))) (unfold due_by holds order first_of in t)
-    due_worded l (Known Back) e t = is_due UnknownKind why (alike (of_other_kind (other_kind_listed r.kind (ap other_kind e)))) (unfold due_by holds order first_of in t)
-    due_worded l (Known Begin) e t = alike (begin_worded l _ r why (sym (byte_of_letter r.kind Begin e)) (unfold due_by holds order first_of in t))
-    due_worded l (Known Commit) e t = commit_worded e (d.stat r.job) refl t
-    due_worded l (Known GiveUp) e t = give_up_worded e (d.stat r.job) refl t
-    due_worded l (Known Retry) e t = retry_worded e (d.stat r.job) refl t
-    due_worded l (Known (Asks a)) e t = ask_worded a e (d.stat r.job) refl t
+    pub due_worded : DeskLimits d.next d.jobs (λ j. is_open (d.stat j)) → (x : Option Letter) → letter_of r.kind ≡ x → due_by d x (d.stat r.job) r.cell ≡ Some why → RefusedAs d r (number_of why)
+    due_worded l None e t = is_due UnknownKind why (alike (of_other_kind (other_kind_listed r.kind (ap other_kind e)))) (unfold due_by holds order first_of in t)
+    due_worded l (Some Back) e t = is_due UnknownKind why (alike (of_other_kind (other_kind_listed r.kind (ap other_kind e)))) (unfold due_by holds order first_of in t)
+    due_worded l (Some Begin) e t = alike (begin_worded l _ r why (sym (byte_of_letter r.kind Begin e)) (unfold due_by holds order first_of in t))
+    due_worded l (Some Commit) e t = commit_worded e (d.stat r.job) refl t
+    due_worded l (Some GiveUp) e t = give_up_worded e (d.stat r.job) refl t
+    due_worded l (Some Retry) e t = retry_worded e (d.stat r.job) refl t
+    due_worded l (Some (Asks a)) e t = ask_worded a e (d.stat r.job) refl t

@@ -1,11 +1,11 @@
 -- A run's end. Commit and give-up close a job and free its place; a sent back job keeps its number and its place; both drop all locks and every place in a queue (01, Jobs and their numbers; 01, rule 4).
 -- Assumes nothing.
+use Rattle.std.specs.Prelude.{Some}
 use Prim.Native.Nat.{ℕ}
 use mathlib.Core.Path.{◌≡◌, refl}
 use mathlib.Core.Logic.{◌⊎◌, inl, inr}
 use mathlib.Core.Bool.{true}
 use Rattle.terms.specs.declared.letters.Letter.TheVariants.{Commit, GiveUp}
-use Rattle.terms.specs.declared.letters.Lettered.TheVariants.{Known}
 use Rattle.terms.specs.Letters.{letter_of}
 use Rattle.desks.specs.declared.Answer.TheVariants.{Go, Back}
 use Rattle.desks.specs.Request.{Request}
@@ -45,6 +45,6 @@ back_sends {d} v j o = record {
 }
 
 -- a commit or a give-up that goes is of an open job, and closes it
-pub close_went : (d : Desk) (r : Request) (j : ℕ) → (letter_of r.kind ≡ Known Commit) ⊎ (letter_of r.kind ≡ Known GiveUp) → (step d r).said ≡ Go j → Tells d r r.job j (close d r.job) (is_open (d.stat r.job) ≡ true)
+pub close_went : (d : Desk) (r : Request) (j : ℕ) → (letter_of r.kind ≡ Some Commit) ⊎ (letter_of r.kind ≡ Some GiveUp) → (step d r).said ≡ Go j → Tells d r r.job j (close d r.job) (is_open (d.stat r.job) ≡ true)
 close_went d r j (inl e) g = let c = commit_went d r j e g in record { job = c.job; outcome = c.outcome; was = running_open c.was }
 close_went d r j (inr e) g = give_up_went d r j e g

@@ -1,5 +1,6 @@
 -- A step writes at most one record of its own and one for each waiter that it takes from a queue. So requests never write more records than there are requests (01, Lines; 01, rule 4).
 -- Assumes nothing.
+use Rattle.std.specs.Prelude.{Option, None, Some}
 use Prim.Native.Nat.{ℕ, zero, suc, ◌+◌, ◌≤◌}
 use mathlib.Core.Path.{◌≡◌, refl, ap}
 use mathlib.Core.Logic.{◌≢◌}
@@ -9,10 +10,9 @@ use lib.ListN.{length, length-append}
 use borrow.Author.Tests.{eqb-true, eqb-false}
 use lib.Dec.{eqb}
 use Rattle.laws.specs.Choice.{by_test}
+use Rattle.terms.specs.declared.letters.Letter.{Letter}
 use Rattle.terms.specs.declared.letters.Ask.{Ask}
 use Rattle.terms.specs.declared.letters.Letter.TheVariants.{Begin, Commit, GiveUp, Retry, Back as no-request, Asks}
-use Rattle.terms.specs.declared.letters.Lettered.{Lettered}
-use Rattle.terms.specs.declared.letters.Lettered.TheVariants.{Known, Unknown}
 use Rattle.terms.specs.Letters.{letter_of}
 use Rattle.terms.specs.Limits.{cells}
 use Rattle.conflict.specs.declared.modes.Mode.{Mode}
@@ -99,15 +99,15 @@ wake_size [] = refl
 wake_size (a ∷ ws) = ap suc (wake_size ws)
 
 -- a request that goes has at most one record
-went_size : (r : Request) (j : ℕ) (l : Lettered) → length (went_by r j l) ≤ 1
+went_size : (r : Request) (j : ℕ) (l : Option Letter) → length (went_by r j l) ≤ 1
 unfolding went_by
-went_size r j Unknown = omega arith
-went_size r j (Known no-request) = omega arith
-went_size r j (Known Begin) = omega arith
-went_size r j (Known Commit) = omega arith
-went_size r j (Known GiveUp) = omega arith
-went_size r j (Known Retry) = omega arith
-went_size r j (Known (Asks a)) = omega arith
+went_size r j None = omega arith
+went_size r j (Some no-request) = omega arith
+went_size r j (Some Begin) = omega arith
+went_size r j (Some Commit) = omega arith
+went_size r j (Some GiveUp) = omega arith
+went_size r j (Some Retry) = omega arith
+went_size r j (Some (Asks a)) = omega arith
 
 -- and so does any answer
 pub own_size : (r : Request) (a : Answer) → length (own_records r a) ≤ 1

@@ -1,5 +1,6 @@
 -- The second sentence of demand 3, whole: what is promised of a waiter right after it asked, said of the desk as it was when it asked.
 -- Assumes nothing.
+use Rattle.std.specs.Prelude.{Some}
 use Prim.Native.Nat.{ℕ, ◌<◌}
 use mathlib.Core.Path.{◌≡◌, subst}
 use mathlib.Core.Bool.{true}
@@ -7,7 +8,6 @@ use mathlib.Core.List.{List}
 use native.Mathlib.Omega.{arith}
 use Rattle.terms.specs.declared.letters.Ask.{Ask}
 use Rattle.terms.specs.declared.letters.Letter.TheVariants.{Asks}
-use Rattle.terms.specs.declared.letters.Lettered.TheVariants.{Known}
 use Rattle.terms.specs.Letters.{letter_of}
 use Rattle.conflict.specs.History.{History}
 use Rattle.desks.specs.declared.Answer.TheVariants.{Wait}
@@ -24,7 +24,7 @@ use Rattle.desk_rules.specs.GetsItsCell.{GotItsCell, GetsItsCell}
 use Rattle.desk_rules.proofs.Settle.{wants_same}
 use Rattle.desk_rules.proofs.JustAsked.{just_asked, way_was, was_way}
 
-module _ {d : Desk} {h : History} (s : Started d h) (r : Request) (a : Ask) (l : letter_of r.kind ≡ Known (Asks a)) (e : (step d r).said ≡ Wait r.job) (w : Waiters (from (step d r).desk) r.cell (asker r a)) where
+module _ {d : Desk} {h : History} (s : Started d h) (r : Request) (a : Ask) (l : letter_of r.kind ≡ Some (Asks a)) (e : (step d r).said ≡ Wait r.job) (w : Waiters (from (step d r).desk) r.cell (asker r a)) where
   -- a job that was in its way when it asked was in a run
   was_live : (i : ℕ) → WasInWay d r i → is_live (d.stat i) ≡ true
   was_live i was =

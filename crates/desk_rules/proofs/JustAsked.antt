@@ -1,5 +1,6 @@
 -- The desk right after a job asked and was answered wait: the job waits for that cell with what it asked. In its way are exactly the other jobs that held the cell, or stood ahead, when it asked (demand 3).
 -- Assumes nothing.
+use Rattle.std.specs.Prelude.{Some}
 use Prim.Native.Nat.{ℕ}
 use mathlib.Core.Path.{◌≡◌, refl, sym, subst}
 use mathlib.Core.Bool.{true, false}
@@ -7,7 +8,6 @@ use mathlib.Core.List.{List}
 use Rattle.laws.specs.Choice.{not_both}
 use Rattle.terms.specs.declared.letters.Ask.{Ask}
 use Rattle.terms.specs.declared.letters.Letter.TheVariants.{Asks}
-use Rattle.terms.specs.declared.letters.Lettered.TheVariants.{Known}
 use Rattle.terms.specs.Letters.{letter_of}
 use Rattle.conflict.specs.Modes.{is_free}
 use Rattle.conflict.specs.History.{History}
@@ -26,7 +26,7 @@ use Rattle.desk_rules.proofs.StepEffects.{effects}
 use Rattle.desk_rules.proofs.KeptStatus.{no_place}
 use Rattle.desk_rules.proofs.AheadLaws.{ahead_split, ahead_of_lem, before_last, ahead_before_last}
 
-module _ {d : Desk} {h : History} (s : Started d h) (r : Request) (a : Ask) (l : letter_of r.kind ≡ Known (Asks a)) (e : (step d r).said ≡ Wait r.job) where
+module _ {d : Desk} {h : History} (s : Started d h) (r : Request) (a : Ask) (l : letter_of r.kind ≡ Some (Asks a)) (e : (step d r).said ≡ Wait r.job) where
   -- a job that asks and is answered wait
   pub just_asked : StartsToWait d (step d r).desk r a r.job
   just_asked = let w = (effects s).waits r r.job e in subst (λ b. StartsToWait d (step d r).desk r b r.job) (same_ask w.1.asking.letter l) w.1

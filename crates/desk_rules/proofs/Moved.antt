@@ -1,16 +1,15 @@
 -- Every step is a move of the rules as a relation, which has one constructor for each rule, with its tests as premises. Only this file follows the tests.
 -- Assumes nothing.
+use Rattle.std.specs.Prelude.{Option, None, Some}
 use Prim.Native.Nat.{ℕ}
-use mathlib.Core.Option.{some}
 use mathlib.Core.Path.{◌≡◌, refl}
 use mathlib.Core.Bool.{Bool, true, false, ◌&&◌}
 use lib.Dec.{ltb, leb}
 use borrow.Author.Tests.{ltb-true, ltb-false, le-leb}
 use Rattle.laws.specs.Choice.{pick}
+use Rattle.terms.specs.declared.letters.Letter.{Letter}
 use Rattle.terms.specs.declared.letters.Ask.{Ask}
 use Rattle.terms.specs.declared.letters.Letter.TheVariants.{Begin, Commit, GiveUp, Retry, Back as no-request, Asks}
-use Rattle.terms.specs.declared.letters.Lettered.{Lettered}
-use Rattle.terms.specs.declared.letters.Lettered.TheVariants.{Known, Unknown}
 use Rattle.terms.specs.declared.refusals.Refusal.{Refusal}
 use Rattle.terms.specs.declared.refusals.Refusal.TheVariants.{UnknownKind, CellAbove, NotOpen, Waiting, SentBack, AllOpen, NoNumberLeft, Running}
 use Rattle.terms.specs.Letters.{letter_of}
@@ -66,19 +65,19 @@ cell_above_lem : (c : ℕ) → ltb c cells ≡ false → leb cells c ≡ true
 cell_above_lem c f = le-leb cells c (ltb-false c cells f)
 
 -- a refusal that is due, given the request's letter and what its job is doing
-due_by_lem : {d : Desk} {r : Request} {l : Lettered} {s : Status} (why : Refusal) → letter_of r.kind ≡ l → d.stat r.job ≡ s → due_by d l s r.cell ≡ some why → Moved d r (refused d why)
+due_by_lem : {d : Desk} {r : Request} {l : Option Letter} {s : Status} (why : Refusal) → letter_of r.kind ≡ l → d.stat r.job ≡ s → due_by d l s r.cell ≡ Some why → Moved d r (refused d why)
 unfolding due_of
 due_by_lem why e q h = refuses why (rw (e, q) h)
 
 -- begin tests 7, then 6
-begin_moved : (d : Desk) (r : Request) → letter_of r.kind ≡ Known Begin → Moved d r (step_begin d)
+begin_moved : (d : Desk) (r : Request) → letter_of r.kind ≡ Some Begin → Moved d r (step_begin d)
 unfolding step_begin beginning begin due_by holds order first_of
 begin_moved d r e =
     either (ltb last_number d.next) (λ t. due_by_lem NoNumberLeft e refl (rw t))
     (λ f. either (member 0 d.jobs) (begins e (ltb-false _ _ f)) (λ n. due_by_lem AllOpen e refl (rw (f, n))))
 
 -- a commit, by what the job is doing
-commit_moved : (d : Desk) (r : Request) (s : Status) → letter_of r.kind ≡ Known Commit → d.stat r.job ≡ s → Moved d r (step_commit d r.job s)
+commit_moved : (d : Desk) (r : Request) (s : Status) → letter_of r.kind ≡ Some Commit → d.stat r.job ≡ s → Moved d r (step_commit d r.job s)
 unfolding step_commit close due_by holds order first_of is_open
 commit_moved d r closed e q = due_by_lem NotOpen e q refl
 commit_moved d r running e q = commits e q
@@ -86,7 +85,7 @@ commit_moved d r (waiting c a) e q = due_by_lem Waiting e q refl
 commit_moved d r sentback e q = due_by_lem SentBack e q refl
 
 -- a give-up
-give_up_moved : (d : Desk) (r : Request) (s : Status) → letter_of r.kind ≡ Known GiveUp → d.stat r.job ≡ s → Moved d r (step_give_up d r.job s)
+give_up_moved : (d : Desk) (r : Request) (s : Status) → letter_of r.kind ≡ Some GiveUp → d.stat r.job ≡ s → Moved d r (step_give_up d r.job s)
 unfolding step_give_up close due_by holds order first_of is_open
 give_up_moved d r closed e q = due_by_lem NotOpen e q refl
 give_up_moved d r running e q = gives_up e (rw q)
@@ -94,7 +93,7 @@ give_up_moved d r (waiting c a) e q = gives_up e (rw q)
 give_up_moved d r sentback e q = gives_up e (rw q)
 
 -- a retry
-retry_moved : (d : Desk) (r : Request) (s : Status) → letter_of r.kind ≡ Known Retry → d.stat r.job ≡ s → Moved d r (step_retry d r.job s)
+retry_moved : (d : Desk) (r : Request) (s : Status) → letter_of r.kind ≡ Some Retry → d.stat r.job ≡ s → Moved d r (step_retry d r.job s)
 unfolding step_retry retry due_by holds order first_of is_open
 retry_moved d r closed e q = due_by_lem NotOpen e q refl
 retry_moved d r running e q = due_by_lem Running e q refl
@@ -102,7 +101,7 @@ retry_moved d r (waiting c a) e q = due_by_lem _ e q refl
 retry_moved d r sentback e q = retries e q
 
 -- a read, a write, an increment or a u
-asked_moved : (d : Desk) (r : Request) (a : Ask) (s : Status) → letter_of r.kind ≡ Known (Asks a) → d.stat r.job ≡ s → Moved d r (step_ask d r.job r.cell a s)
+asked_moved : (d : Desk) (r : Request) (a : Ask) (s : Status) → letter_of r.kind ≡ Some (Asks a) → d.stat r.job ≡ s → Moved d r (step_ask d r.job r.cell a s)
 unfolding step_ask due_by holds order first_of is_open
 asked_moved d r a closed e q = due_by_lem NotOpen e q refl
 asked_moved d r a running e q =
@@ -112,15 +111,15 @@ asked_moved d r a (waiting c a') e q = due_by_lem Waiting e q refl
 asked_moved d r a sentback e q = due_by_lem SentBack e q refl
 
 -- by the request's letter
-step_by_lem : (d : Desk) (r : Request) (l : Lettered) → letter_of r.kind ≡ l → Moved d r (step_by d r l)
+step_by_lem : (d : Desk) (r : Request) (l : Option Letter) → letter_of r.kind ≡ l → Moved d r (step_by d r l)
 unfolding step_by
-step_by_lem d r Unknown e = unfold due_by holds order first_of in due_by_lem UnknownKind e refl refl
-step_by_lem d r (Known no-request) e = unfold due_by holds order first_of in due_by_lem UnknownKind e refl refl
-step_by_lem d r (Known Begin) e = begin_moved d r e
-step_by_lem d r (Known Commit) e = commit_moved d r (d.stat r.job) e refl
-step_by_lem d r (Known GiveUp) e = give_up_moved d r (d.stat r.job) e refl
-step_by_lem d r (Known Retry) e = retry_moved d r (d.stat r.job) e refl
-step_by_lem d r (Known (Asks a)) e = asked_moved d r a (d.stat r.job) e refl
+step_by_lem d r None e = unfold due_by holds order first_of in due_by_lem UnknownKind e refl refl
+step_by_lem d r (Some no-request) e = unfold due_by holds order first_of in due_by_lem UnknownKind e refl refl
+step_by_lem d r (Some Begin) e = begin_moved d r e
+step_by_lem d r (Some Commit) e = commit_moved d r (d.stat r.job) e refl
+step_by_lem d r (Some GiveUp) e = give_up_moved d r (d.stat r.job) e refl
+step_by_lem d r (Some Retry) e = retry_moved d r (d.stat r.job) e refl
+step_by_lem d r (Some (Asks a)) e = asked_moved d r a (d.stat r.job) e refl
 
 -- every step is a move by one of the rules, and refuses only what the table has due
 pub step_moved : (d : Desk) (r : Request) → Moved d r (step d r)

@@ -1,12 +1,13 @@
 -- Refusals and answers: a refusal of the table exactly if it is the first that is due, and then nothing changes; otherwise go, wait or back, with the job (01, Refusals by number; 01, Lines).
 -- Assumes nothing.
+use Rattle.std.specs.Prelude.{Option}
 use Prim.Native.Nat.{ℕ, ◌≤◌}
 use mathlib.Core.Path.{◌≡◌, refl, ap}
 use mathlib.Core.Bool.{true}
 use native.Mathlib.Omega.{arith}
 use Rattle.laws.specs.Choice.{not_both}
 use Rattle.laws.proofs.Lists.{first_holds}
-use Rattle.terms.specs.declared.letters.Lettered.{Lettered}
+use Rattle.terms.specs.declared.letters.Letter.{Letter}
 use Rattle.terms.specs.declared.refusals.Refusal.{Refusal}
 use Rattle.terms.specs.declared.refusals.Refusal.TheVariants.{UnknownKind, CellAbove, NotOpen, Waiting, SentBack, AllOpen, NoNumberLeft, Running, BadLine, StartedAtZero, TooManyLines, JobOutside, Ended, ShortOrder, NoRoom, TooLong, ShortList, NoRetry}
 use Rattle.terms.specs.Letters.{letter_of}
@@ -33,7 +34,7 @@ pub due_refused : (d : Desk) (r : Request) (why : Refusal) → Due d r why → s
 due_refused = by_table.due_refused step due_of named step_meant
 
 -- rows from 9 on never hold for a step
-row_number : (l : Lettered) (s : Status) (c : ℕ) (d : Desk) (why : Refusal) → holds l s c d why ≡ true → (1 ≤ number_of why) × (number_of why ≤ 8)
+row_number : (l : Option Letter) (s : Status) (c : ℕ) (d : Desk) (why : Refusal) → holds l s c d why ≡ true → (1 ≤ number_of why) × (number_of why ≤ 8)
 unfolding holds
 row_number l s c d UnknownKind h = omega arith
 row_number l s c d CellAbove h = omega arith

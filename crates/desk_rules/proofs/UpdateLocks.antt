@@ -1,5 +1,6 @@
 -- The update lock, for every started desk: what goes beside what, what a mode becomes, that no job gets in beside a U or an X, when the holder of a U is sent back, how u is recorded and when it is refused (02, No. 1).
 -- Assumes nothing.
+use Rattle.std.specs.Prelude.{Some}
 use Prim.Native.Nat.{ℕ, ◌<◌}
 use mathlib.Core.Path.{◌≡◌, refl, sym, ap, ap₂, subst, subst₂, ◌∙◌}
 use mathlib.Core.Logic.{◌≢◌, ◌⊎◌, inl, inr, ⊎_elim}
@@ -10,7 +11,6 @@ use Rattle.laws.specs.Choice.{by_test, not_both}
 use Rattle.terms.specs.declared.letters.Ask.{Ask}
 use Rattle.terms.specs.declared.letters.Ask.TheVariants.{Read as asks_read, Update}
 use Rattle.terms.specs.declared.letters.Letter.TheVariants.{Asks}
-use Rattle.terms.specs.declared.letters.Lettered.TheVariants.{Known}
 use Rattle.terms.specs.Letters.{letter_of}
 use Rattle.laws.specs.Lists.{first_of}
 use Rattle.conflict.specs.declared.action.Kind.TheVariants.{Read}
@@ -53,16 +53,16 @@ use Rattle.desk_rules.proofs.ShutOut.{moved_beside, moved_got}
 use Rattle.desk_rules.proofs.StillShut.{step_shuts, still_shuts, run_inv, fewer_through, same_between}
 
 -- the table has the same due for a u as for a read
-same_row : (d : Desk) (s : Status) (c : ℕ) → due_by d (Known (Asks Update)) s c ≡ due_by d (Known (Asks asks_read)) s c
+same_row : (d : Desk) (s : Status) (c : ℕ) → due_by d (Some (Asks Update)) s c ≡ due_by d (Some (Asks asks_read)) s c
 unfolding due_by holds order first_of
 same_row d s c = refl
 
 -- so the same for two requests with the same job and cell
-same_due : (d : Desk) (r s : Request) → letter_of r.kind ≡ Known (Asks Update) → letter_of s.kind ≡ Known (Asks asks_read) → r.job ≡ s.job → r.cell ≡ s.cell → due_of d r ≡ due_of d s
+same_due : (d : Desk) (r s : Request) → letter_of r.kind ≡ Some (Asks Update) → letter_of s.kind ≡ Some (Asks asks_read) → r.job ≡ s.job → r.cell ≡ s.cell → due_of d r ≡ due_of d s
 unfolding due_of
 same_due d r s e f p q =
     ap (λ l. due_by d l (d.stat r.job) r.cell) e ∙ same_row d (d.stat r.job) r.cell
-    ∙ ap₂ (λ j c. due_by d (Known (Asks asks_read)) (d.stat j) c) p q ∙ sym (ap (λ l. due_by d l (d.stat s.job) s.cell) f)
+    ∙ ap₂ (λ j c. due_by d (Some (Asks asks_read)) (d.stat j) c) p q ∙ sym (ap (λ l. due_by d l (d.stat s.job) s.cell) f)
 
 module _ {d : Desk} {h : History} (s : Started d h) where
   v : Inv d

@@ -1,11 +1,11 @@
 -- A job that goes with a mode that it did not have before agrees with every other holder of the cell (01, rules 2 and 3; 02, No. 1).
 -- Assumes nothing.
+use Rattle.std.specs.Prelude.{Some}
 use mathlib.Core.Path.{◌≡◌, refl, subst}
 use mathlib.Core.Bool.{true, false}
 use Rattle.laws.specs.Choice.{not_both}
 use Rattle.terms.specs.declared.letters.Ask.{Ask}
 use Rattle.terms.specs.declared.letters.Letter.TheVariants.{Asks}
-use Rattle.terms.specs.declared.letters.Lettered.TheVariants.{Known}
 use Rattle.terms.specs.Letters.{letter_of}
 use Rattle.conflict.specs.Modes.{needed, covers}
 use Rattle.conflict.proofs.ModeLaws.{asked_free}
@@ -19,7 +19,7 @@ use Rattle.desk_rules.specs.Moves.{fits_in, Moved, refuses, begins, commits, giv
 use Rattle.desks.proofs.Answers.{other-answer}
 use Rattle.desk_rules.proofs.AnswerTells.{no_ask, same_ask}
 
-module _ (d : Desk) (r : Request) (a : Ask) (l : letter_of r.kind ≡ Known (Asks a)) (n : covers (own_mode d r) (needed a) ≡ false) where
+module _ (d : Desk) (r : Request) (a : Ask) (l : letter_of r.kind ≡ Some (Asks a)) (n : covers (own_mode d r) (needed a) ≡ false) where
   -- in any move, a go agrees
   pub went_agrees : {o : Outcome} → Moved d r o → o.said ≡ Go r.job → fits_in d r (asked_there d r a) ≡ true
   went_agrees (refuses why _) q = unfold refused in other-answer q refl

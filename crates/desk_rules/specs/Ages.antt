@@ -1,7 +1,6 @@
 -- What is promised of ages: a job older than every other live job is never sent back, and no job begun later is older (demand 3, third sentence).
-use Rattle.std.specs.Prelude.{ℕ, ◌<◌, ◌≡◌, ◌≢◌, true, false, List, ◌++◌}
+use Rattle.std.specs.Prelude.{ℕ, ◌<◌, ◌≡◌, ◌≢◌, true, false, List, ◌++◌, Some}
 use Rattle.terms.specs.declared.letters.Letter.TheVariants.{Begin}
-use Rattle.terms.specs.declared.letters.Lettered.TheVariants.{Known}
 use Rattle.terms.specs.Letters.{letter_of}
 use Rattle.desks.specs.declared.Answer.TheVariants.{Go, Back}
 use Rattle.desks.specs.Request.{Request}
@@ -16,7 +15,7 @@ OlderClosed d e j = (i : ℕ) → i < j → is_open (d.stat i) ≡ true → is_o
 
 pub record Ages (k : Course) : Type 0 where
   -- no job begun later is older: a begin that goes after some requests gives a number larger than every open job's (demand 3)
-  pub begun_later_is_younger : (j : ℕ) → is_open ((now k).stat j) ≡ true → (rs : List Request) (r : Request) (i : ℕ) → letter_of r.kind ≡ Known Begin → (k.does rs r).said ≡ Go i → j < i
+  pub begun_later_is_younger : (j : ℕ) → is_open ((now k).stat j) ≡ true → (rs : List Request) (r : Request) (i : ℕ) → letter_of r.kind ≡ Some Begin → (k.does rs r).said ≡ Go i → j < i
   -- a job is sent back only while an older job is live
   pub back_only_while_older : (r : Request) (j : ℕ) → (to k r).said ≡ Back j → (i : ℕ) × (i < j) × (is_live ((now k).stat i) ≡ true)
   -- a job older than every other live job is never answered back, nor sent back after any step (demand 3)

@@ -1,8 +1,7 @@
 -- A running job asks for a cell: what rules 2 and 3 look at; and the fields of a request that its kind uses (01, rules 2 and 3; 01, Refusals by number).
-use Rattle.std.specs.Prelude.{ℕ, ◌<◌, ◌≡◌, ◌≢◌, true, false, List}
+use Rattle.std.specs.Prelude.{ℕ, ◌<◌, ◌≡◌, ◌≢◌, true, false, List, Some}
 use Rattle.terms.specs.declared.letters.Ask.{Ask}
 use Rattle.terms.specs.declared.letters.Letter.TheVariants.{Asks}
-use Rattle.terms.specs.declared.letters.Lettered.TheVariants.{Known}
 use Rattle.terms.specs.Letters.{letter_of}
 use Rattle.terms.specs.Limits.{cells}
 use Rattle.conflict.specs.declared.modes.Mode.{Mode}
@@ -14,7 +13,7 @@ use Rattle.desk_rules.specs.Locks.{older_than_holders, older_than_waiters}
 
 -- a running job asks for a cell from 0 to 63
 pub record Asking (d : Desk) (r : Request) (a : Ask) : Type 0 where
-  pub letter : letter_of r.kind ≡ Known (Asks a)
+  pub letter : letter_of r.kind ≡ Some (Asks a)
   pub runs : d.stat r.job ≡ running
   pub within : r.cell < cells
 

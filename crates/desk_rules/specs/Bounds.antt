@@ -1,9 +1,8 @@
 -- The numbers that bound what a started desk can reach: each is the least that holds, and desks on which it is reached (01, What is delivered; 01, Jobs and their numbers; 01, rule 4; demand 3; 02, No. 3).
-use Rattle.std.specs.Prelude.{ℕ, zero, suc, ◌≤◌, ◌≡◌, true, List, [], ◌∷◌, ◌++◌, length}
+use Rattle.std.specs.Prelude.{ℕ, zero, suc, ◌≤◌, ◌≡◌, true, List, [], ◌∷◌, ◌++◌, length, Some}
 use Rattle.terms.specs.declared.letters.Ask.{Ask}
 use Rattle.terms.specs.declared.letters.Ask.TheVariants.{Read}
 use Rattle.terms.specs.declared.letters.Letter.TheVariants.{Asks}
-use Rattle.terms.specs.declared.letters.Lettered.TheVariants.{Known}
 use Rattle.terms.specs.Letters.{letter_of}
 use Rattle.conflict.specs.declared.action.Kind.TheVariants.{Read as a_read}
 use Rattle.conflict.specs.declared.action.Action.{Action}
@@ -53,7 +52,7 @@ InWayAtMost n = OfStarted (λ d. (c : ℕ) (w : Waiter) → IsWaiting d c w → 
 
 -- at most n jobs are in a job's way right after it asked and was answered wait (demand 3)
 abbrev pub JustAskedAtMost : ℕ → Type 0
-JustAskedAtMost n = OfStarted (λ d. (r : Request) (a : Ask) → letter_of r.kind ≡ Known (Asks a) → (step d r).said ≡ Wait r.job → AtMostInWay n ((step d r).desk.row r.cell) (asker r a))
+JustAskedAtMost n = OfStarted (λ d. (r : Request) (a : Ask) → letter_of r.kind ≡ Some (Asks a) → (step d r).said ≡ Wait r.job → AtMostInWay n ((step d r).desk.row r.cell) (asker r a))
 
 -- when a job asked and was answered wait, at most n jobs held the cell or stood ahead (demand 3)
 abbrev pub WereInWayAtMost : ℕ → Type 0

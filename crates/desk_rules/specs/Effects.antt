@@ -1,9 +1,8 @@
 -- What a step does, by its answer, from desk d before it to desk e after it (01, The desk's rules).
-use Rattle.std.specs.Prelude.{ℕ, suc, ◌<◌, ◌≡◌, ◌≢◌, Bool, true, false, List, [], ◌∷◌, ◌++◌}
+use Rattle.std.specs.Prelude.{ℕ, suc, ◌<◌, ◌≡◌, ◌≢◌, Bool, true, false, List, [], ◌∷◌, ◌++◌, Some}
 use Rattle.laws.specs.Lists.{member}
 use Rattle.terms.specs.declared.letters.Ask.{Ask}
 use Rattle.terms.specs.declared.letters.Letter.TheVariants.{Commit, GiveUp}
-use Rattle.terms.specs.declared.letters.Lettered.TheVariants.{Known}
 use Rattle.terms.specs.Letters.{letter_of}
 use Rattle.terms.specs.Limits.{cells}
 use Rattle.conflict.specs.declared.modes.Mode.{Mode}
@@ -101,8 +100,8 @@ pub record StartsToWait (d e : Desk) (r : Request) (a : Ask) (j : ℕ) : Type 0 
 
 -- this answer says that the step commits, gives up or sends back the request's job
 pub data RunEnds (said : Answer) (r : Request) : Type 0 where
-  by_commit : letter_of r.kind ≡ Known Commit → said ≡ Go r.job → RunEnds said r
-  by_give_up : letter_of r.kind ≡ Known GiveUp → said ≡ Go r.job → RunEnds said r
+  by_commit : letter_of r.kind ≡ Some Commit → said ≡ Go r.job → RunEnds said r
+  by_give_up : letter_of r.kind ≡ Some GiveUp → said ≡ Go r.job → RunEnds said r
   by_back : said ≡ Back r.job → RunEnds said r
 
 -- from desk d to desk e, for wake a: its job waited for exactly that, and what the job is and holds now

@@ -1,8 +1,7 @@
 -- The second sentence of demand 3, whole, for one request that is answered wait. All of it speaks of the desk as it was when the job asked.
-use Rattle.std.specs.Prelude.{ℕ, ◌≤◌, ◌≡◌, true, false, List, [], ◌∷◌, ◌++◌, length}
+use Rattle.std.specs.Prelude.{ℕ, ◌≤◌, ◌≡◌, true, false, List, [], ◌∷◌, ◌++◌, length, Some}
 use Rattle.terms.specs.declared.letters.Ask.{Ask}
 use Rattle.terms.specs.declared.letters.Letter.TheVariants.{Asks}
-use Rattle.terms.specs.declared.letters.Lettered.TheVariants.{Known}
 use Rattle.terms.specs.Letters.{letter_of}
 use Rattle.conflict.specs.Runs.{ended}
 use Rattle.laws.specs.Lists.{member, distinct}
@@ -35,7 +34,7 @@ pub record GotItsCell (k : Course) (r : Request) (a : Ask) (rs : List Request) :
 -- for a request that is answered wait (demand 3)
 pub record GetsItsCell (k : Course) (r : Request) : Type 0 where
   pub ask : Ask
-  pub asks : letter_of r.kind ≡ Known (Asks ask)
+  pub asks : letter_of r.kind ≡ Some (Asks ask)
   -- the other jobs that held that cell or stood ahead when it asked are each in a run, and there are at most 31 of them
   pub in_a_run : (i : ℕ) → WasInWay (now k) r i → is_live ((now k).stat i) ≡ true
   pub at_most_31 : AtMostWereInWay 31 (now k) r

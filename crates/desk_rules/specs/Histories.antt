@@ -1,9 +1,8 @@
 -- What stands in a history, and the lock that an action is done under (01, Lines; 01, The desk's rules; demand 2).
-use Rattle.std.specs.Prelude.{ℕ, ◌+◌, ◌≡◌, ◌≢◌, true, [], ◌∷◌, eqb}
+use Rattle.std.specs.Prelude.{ℕ, ◌+◌, ◌≡◌, ◌≢◌, true, [], ◌∷◌, eqb, Some}
 use Rattle.laws.specs.Choice.{pick}
 use Rattle.terms.specs.declared.letters.Ask.{Ask}
 use Rattle.terms.specs.declared.letters.Letter.TheVariants.{Asks}
-use Rattle.terms.specs.declared.letters.Lettered.TheVariants.{Known}
 use Rattle.terms.specs.Letters.{letter_of}
 use Rattle.conflict.specs.declared.action.Action.{Action}
 use Rattle.conflict.specs.declared.action.Event.TheVariants.{Does, Ends}
@@ -14,7 +13,7 @@ use Rattle.desk_rules.specs.Desk.{waiting, Desk}
 
 -- the request that an action of a step was asked by: the step's own, or, for a wake, the one that its job waits with
 pub data AskedBy (d : Desk) (r : Request) (x : Action) (a : Ask) : Type 0 where
-  request : letter_of r.kind ≡ Known (Asks a) → x.job ≡ r.job → x.cell ≡ r.cell → AskedBy d r x a
+  request : letter_of r.kind ≡ Some (Asks a) → x.job ≡ r.job → x.cell ≡ r.cell → AskedBy d r x a
   waiter : d.stat x.job ≡ waiting x.cell a → AskedBy d r x a
 
 -- an action asked with a is done under a lock: its job holds on its cell a mode that covers its need, lets it be done, and may stand beside every other job's (01, The desk's rules)

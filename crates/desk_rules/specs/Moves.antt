@@ -1,9 +1,8 @@
 -- The rules as a relation: one move for each rule, with what the rule tests and what it leaves written out (01, The desk's rules; 01, Refusals by number).
-use Rattle.std.specs.Prelude.{ℕ, suc, ◌≤◌, ◌≡◌, Bool, true, false, ◌&&◌, List, [], ◌∷◌, ◌++◌}
+use Rattle.std.specs.Prelude.{ℕ, suc, ◌≤◌, ◌≡◌, Bool, true, false, ◌&&◌, List, [], ◌∷◌, ◌++◌, Some}
 use Rattle.laws.specs.Lists.{member}
 use Rattle.terms.specs.declared.letters.Ask.{Ask}
 use Rattle.terms.specs.declared.letters.Letter.TheVariants.{Begin, Commit, GiveUp, Retry}
-use Rattle.terms.specs.declared.letters.Lettered.TheVariants.{Known}
 use Rattle.terms.specs.declared.refusals.Refusal.{Refusal}
 use Rattle.terms.specs.Letters.{letter_of}
 use Rattle.terms.specs.Limits.{last_number}
@@ -58,15 +57,15 @@ pub data Moved (d : Desk) (r : Request) : Outcome → Type 0 where
   -- a refusal that the table says is due
   refuses : (why : Refusal) → Due d r why → Moved d r (refused d why)
   -- begin gives the next number to a running job that holds nothing
-  begins : letter_of r.kind ≡ Known Begin → d.next ≤ last_number → member 0 d.jobs ≡ true →
+  begins : letter_of r.kind ≡ Some Begin → d.next ≤ last_number → member 0 d.jobs ≡ true →
       Moved d r (goes (record { next = suc d.next; jobs = seated d.next d.jobs; stat = at d.stat d.next running; row = d.row }) d.next)
   -- rule 4: commit and give-up close the job
-  commits : letter_of r.kind ≡ Known Commit → d.stat r.job ≡ running →
+  commits : letter_of r.kind ≡ Some Commit → d.stat r.job ≡ running →
       Moved d r (rule4 d r.job closed (vacated r.job d.jobs) (Go r.job))
-  gives_up : letter_of r.kind ≡ Known GiveUp → is_open (d.stat r.job) ≡ true →
+  gives_up : letter_of r.kind ≡ Some GiveUp → is_open (d.stat r.job) ≡ true →
       Moved d r (rule4 d r.job closed (vacated r.job d.jobs) (Go r.job))
   -- rule 5: retry makes a sent back job running again
-  retries : letter_of r.kind ≡ Known Retry → d.stat r.job ≡ sentback → Moved d r (goes (with_status d r.job running) r.job)
+  retries : letter_of r.kind ≡ Some Retry → d.stat r.job ≡ sentback → Moved d r (goes (with_status d r.job running) r.job)
   -- rule 1: the job holds a covering mode, and nothing changes
   has_it : (a : Ask) → Asking d r a → covers (own_mode d r) (needed a) ≡ true → Moved d r (goes d r.job)
   -- rule 2: a promotion goes if its new mode agrees with the other holders

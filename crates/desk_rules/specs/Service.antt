@@ -1,8 +1,7 @@
 -- What is promised of waiting: some job is in a waiter's way; each such job is live and younger; they are at most 31; waits never run in a circle; and a waiter that does not give up is served in time (demand 3, first and second sentence).
-use Rattle.std.specs.Prelude.{ℕ, ◌<◌, ◌≡◌, ◌↔◌, ◌⊎◌, true, false, List, []}
+use Rattle.std.specs.Prelude.{ℕ, ◌<◌, ◌≡◌, ◌↔◌, ◌⊎◌, true, false, List, [], Some}
 use Rattle.terms.specs.declared.letters.Ask.{Ask}
 use Rattle.terms.specs.declared.letters.Letter.TheVariants.{Asks}
-use Rattle.terms.specs.declared.letters.Lettered.TheVariants.{Known}
 use Rattle.terms.specs.Letters.{letter_of}
 use Rattle.conflict.specs.Modes.{needed, covers, is_free}
 use Rattle.conflict.specs.Runs.{ended}
@@ -46,8 +45,8 @@ pub record Service (k : Course) : Type 0 where
   pub waiting_is_standing : (c : ℕ) (w : Waiter) → IsWaiting (now k) c w ↔ In w ((now k).row c).queue
   pub waiters : (c : ℕ) (w : Waiter) → IsWaiting (now k) c w → Waiters k c w
   -- a job that asks and is answered wait waits for that cell with what it asked; the jobs in its way are then exactly those that held the cell or stood ahead when it asked; and it is served in time (demand 3)
-  pub asker_waits : (r : Request) (a : Ask) → letter_of r.kind ≡ Known (Asks a) → (to k r).said ≡ Wait r.job → IsWaiting (to k r).desk r.cell (asker r a)
-  pub in_way_when_asked : (r : Request) (a : Ask) → letter_of r.kind ≡ Known (Asks a) → (to k r).said ≡ Wait r.job → (i : ℕ) → InWay ((to k r).desk.row r.cell) (asker r a) i ↔ WasInWay (now k) r i
-  pub served_in_time : (r : Request) (a : Ask) → letter_of r.kind ≡ Known (Asks a) → (to k r).said ≡ Wait r.job → ServedInTime (later k r) r.cell (asker r a)
+  pub asker_waits : (r : Request) (a : Ask) → letter_of r.kind ≡ Some (Asks a) → (to k r).said ≡ Wait r.job → IsWaiting (to k r).desk r.cell (asker r a)
+  pub in_way_when_asked : (r : Request) (a : Ask) → letter_of r.kind ≡ Some (Asks a) → (to k r).said ≡ Wait r.job → (i : ℕ) → InWay ((to k r).desk.row r.cell) (asker r a) i ↔ WasInWay (now k) r i
+  pub served_in_time : (r : Request) (a : Ask) → letter_of r.kind ≡ Some (Asks a) → (to k r).said ≡ Wait r.job → ServedInTime (later k r) r.cell (asker r a)
   -- the second sentence of demand 3, whole, for any request that is answered wait: at most 31 jobs held its cell or stood ahead when it asked. If its job does not give up and their runs all end, the job got its cell in the mode it asked for, at the latest in the step that ended the last of them
   pub gets_its_cell : (r : Request) (j : ℕ) → (to k r).said ≡ Wait j → (j ≡ r.job) × GetsItsCell k r

@@ -1,10 +1,9 @@
 -- One step of the desk: the refusals in the order of the table, then the rules; what the history records of it; and started desks (01, Refusals by number; 01, Lines).
-use Rattle.std.specs.Prelude.{ℕ, ltb}
+use Rattle.std.specs.Prelude.{ℕ, ltb, Option, None, Some}
 use Rattle.laws.specs.Choice.{pick}
+use Rattle.terms.specs.declared.letters.Letter.{Letter}
 use Rattle.terms.specs.declared.letters.Ask.{Ask}
 use Rattle.terms.specs.declared.letters.Letter.TheVariants.{Begin, Commit as commits, GiveUp as gives_up, Retry, Back as no-request, Asks}
-use Rattle.terms.specs.declared.letters.Lettered.{Lettered}
-use Rattle.terms.specs.declared.letters.Lettered.TheVariants.{Known, Unknown}
 use Rattle.terms.specs.declared.refusals.Refusal.TheVariants.{UnknownKind, CellAbove, NotOpen, Waiting, SentBack, Running}
 use Rattle.terms.specs.Letters.{letter_of}
 use Rattle.terms.specs.Limits.{cells}
@@ -49,14 +48,14 @@ unfoldable pub step_begin : Desk → Outcome
 step_begin d = beginning d d.next d.jobs (begin d)
 
 -- a request by its letter; 1 for k and for any other byte, which are not requests
-unfoldable pub step_by : Desk → Request → Lettered → Outcome
-step_by d r Unknown = refused d UnknownKind
-step_by d r (Known no-request) = refused d UnknownKind
-step_by d r (Known Begin) = step_begin d
-step_by d r (Known commits) = step_commit d r.job (d.stat r.job)
-step_by d r (Known gives_up) = step_give_up d r.job (d.stat r.job)
-step_by d r (Known Retry) = step_retry d r.job (d.stat r.job)
-step_by d r (Known (Asks a)) = step_ask d r.job r.cell a (d.stat r.job)
+unfoldable pub step_by : Desk → Request → Option Letter → Outcome
+step_by d r None = refused d UnknownKind
+step_by d r (Some no-request) = refused d UnknownKind
+step_by d r (Some Begin) = step_begin d
+step_by d r (Some commits) = step_commit d r.job (d.stat r.job)
+step_by d r (Some gives_up) = step_give_up d r.job (d.stat r.job)
+step_by d r (Some Retry) = step_retry d r.job (d.stat r.job)
+step_by d r (Some (Asks a)) = step_ask d r.job r.cell a (d.stat r.job)
 
 -- one step of the desk: 1 first, then as the letter says (01, Refusals by number)
 unfoldable pub step : Desk → Request → Outcome

@@ -1,8 +1,7 @@
 -- The refusals of the desk as the paper's table prints them: each row by itself, then the order in which the rows are tested. The step is not mentioned here (01, Refusals by number).
-use Rattle.std.specs.Prelude.{ℕ, ◌≡◌, Bool, true, false, not, ◌&&◌, List, [], ◌∷◌}
-use Rattle.std.proofs.Math.Option.{Option, none, some}
+use Rattle.std.specs.Prelude.{ℕ, ◌≡◌, Bool, true, false, not, ◌&&◌, List, [], ◌∷◌, Option, None, Some}
 use Rattle.laws.specs.Choice.{pick}
-use Rattle.terms.specs.declared.letters.Lettered.{Lettered}
+use Rattle.terms.specs.declared.letters.Letter.{Letter}
 use Rattle.terms.specs.declared.refusals.Refusal.{Refusal}
 use Rattle.terms.specs.declared.refusals.Refusal.TheVariants.{UnknownKind, CellAbove, NotOpen, Waiting, SentBack, AllOpen, NoNumberLeft, Running, BadLine, StartedAtZero, TooManyLines, JobOutside, Ended, ShortOrder, NoRoom, TooLong, ShortList, NoRetry}
 use Rattle.terms.specs.Letters.{letter_of}
@@ -37,19 +36,19 @@ abbrev pub not_open : Status → Bool
 not_open s = not (is_open s)
 
 -- 4: job is waiting, request is not give-up
-abbrev pub still_waiting : Lettered → Status → Bool
+abbrev pub still_waiting : Option Letter → Status → Bool
 still_waiting l s = is_waiting s && not (letter_is is_give_up l)
 
 -- 5: job was sent back, request is read, write, increment, u or commit
-abbrev pub was_sent_back : Lettered → Status → Bool
+abbrev pub was_sent_back : Option Letter → Status → Bool
 was_sent_back l s = is_sent_back s && letter_is asks_or_commits l
 
 -- 8: retry of a running job
-abbrev pub retries_running : Lettered → Status → Bool
+abbrev pub retries_running : Option Letter → Status → Bool
 retries_running l s = letter_is is_retry l && is_running s
 
 -- the table: when the row of each refusal holds. Rows from 9 on do not belong to this desk, or not to a step
-unfoldable pub holds : Lettered → Status → ℕ → Desk → Refusal → Bool
+unfoldable pub holds : Option Letter → Status → ℕ → Desk → Refusal → Bool
 holds l s c d UnknownKind = other_kind l
 holds l s c d CellAbove = cell_above l c
 holds l s c d NotOpen = not_open s
@@ -70,11 +69,11 @@ holds l s c d ShortList = false
 holds l s c d NoRetry = false
 
 -- the order of the tests: 1 first; begin tests 7, then 6; other kinds test 3, 4, 5, 8, then 2
-unfoldable pub order : Lettered → List Refusal
+unfoldable pub order : Option Letter → List Refusal
 order l = UnknownKind ∷ pick (letter_is is_begin l) (NoNumberLeft ∷ AllOpen ∷ []) (NotOpen ∷ Waiting ∷ SentBack ∷ Running ∷ CellAbove ∷ [])
 
 -- what the table says of a request, given its letter, what its job is doing and its cell
-unfoldable pub due_by : Desk → Lettered → Status → ℕ → Option Refusal
+unfoldable pub due_by : Desk → Option Letter → Status → ℕ → Option Refusal
 due_by d l s c = first_of (holds l s c d) (order l)
 
 -- what the table says of a request to a desk
@@ -83,11 +82,11 @@ due_of d r = due_by d (letter_of r.kind) (d.stat r.job) r.cell
 
 -- the refusal is due: it is the first whose row holds
 abbrev pub Due : Desk → Request → Refusal → Type 0
-Due d r why = due_of d r ≡ some why
+Due d r why = due_of d r ≡ Some why
 
 -- no refusal is due
 abbrev pub NothingDue : Desk → Request → Type 0
-NothingDue d r = due_of d r ≡ none
+NothingDue d r = due_of d r ≡ None
 
 -- the job that the answer to a request names
 unfoldable pub named : Desk → Request → ℕ

@@ -1,9 +1,8 @@
 -- What is promised of the update lock: what goes beside a held S, U or X; what U and X cover; what a mode becomes; that no job gets in beside a U; when its holder is sent back; how u is recorded; and that u is refused as a read is (02, No. 1).
-use Rattle.std.specs.Prelude.{ℕ, ◌<◌, ◌≡◌, ◌≢◌, ◌↔◌, ◌⊎◌, true, false, List, [], ◌++◌}
+use Rattle.std.specs.Prelude.{ℕ, ◌<◌, ◌≡◌, ◌≢◌, ◌↔◌, ◌⊎◌, true, false, List, [], ◌++◌, Some}
 use Rattle.terms.specs.declared.letters.Ask.{Ask}
 use Rattle.terms.specs.declared.letters.Ask.TheVariants.{Read as asks_read, Update}
 use Rattle.terms.specs.declared.letters.Letter.TheVariants.{Asks}
-use Rattle.terms.specs.declared.letters.Lettered.TheVariants.{Known}
 use Rattle.terms.specs.declared.refusals.Refusal.{Refusal}
 use Rattle.terms.specs.Letters.{letter_of}
 use Rattle.conflict.specs.declared.action.Action.{Action}
@@ -31,7 +30,7 @@ holding_after k r c j = ((to k r).desk.row c).held j
 
 -- in the step of a request job j gets cell c with what it asked for: the request goes, or the job is woken
 pub data Gets (k : Course) (r : Request) (j c : ℕ) (a : Ask) : Type 0 where
-  by_go : letter_of r.kind ≡ Known (Asks a) → r.job ≡ j → r.cell ≡ c → (to k r).said ≡ Go j → Gets k r j c a
+  by_go : letter_of r.kind ≡ Some (Asks a) → r.job ≡ j → r.cell ≡ c → (to k r).said ≡ Go j → Gets k r j c a
   by_wake : (x : Action) → In x (to k r).wakes → x.job ≡ j → x.cell ≡ c → (now k).stat j ≡ waiting c a → Gets k r j c a
 
 -- the request goes, and nothing changes (01, rule 1)
@@ -74,4 +73,4 @@ pub record UpdateLock (k : Course) : Type 0 where
   -- u is recorded as a read: at once, by rule 1, and as a wake
   pub recorded_as_read : (r : Request) (j c : ℕ) → Gets k r j c Update → In (Does (record { kind = Read; job = j; cell = c })) (records k r)
   -- refusals apply to u as to r: of a u and an r with the same job and cell, one is refused exactly if the other is, with the same refusal
-  pub refused_as_a_read : (r s : Request) → letter_of r.kind ≡ Known (Asks Update) → letter_of s.kind ≡ Known (Asks asks_read) → r.job ≡ s.job → r.cell ≡ s.cell → (why : Refusal) → (to k r).said ≡ No why ↔ (to k s).said ≡ No why
+  pub refused_as_a_read : (r s : Request) → letter_of r.kind ≡ Some (Asks Update) → letter_of s.kind ≡ Some (Asks asks_read) → r.job ≡ s.job → r.cell ≡ s.cell → (why : Refusal) → (to k r).said ≡ No why ↔ (to k s).said ≡ No why

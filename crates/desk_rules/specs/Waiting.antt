@@ -1,8 +1,7 @@
 -- Waiting: which jobs are in a waiter's way, chains of waits, and what it means to go on waiting for the same request, and to be served (demand 3).
-use Rattle.std.specs.Prelude.{ℕ, ◌<◌, ◌≤◌, zero, suc, ◌+◌, ◌≡◌, ◌≢◌, true, false, List, [], ◌∷◌, ◌++◌, length}
+use Rattle.std.specs.Prelude.{ℕ, ◌<◌, ◌≤◌, zero, suc, ◌+◌, ◌≡◌, ◌≢◌, true, false, List, [], ◌∷◌, ◌++◌, length, Some}
 use Rattle.terms.specs.declared.letters.Ask.{Ask}
 use Rattle.terms.specs.declared.letters.Letter.TheVariants.{GiveUp}
-use Rattle.terms.specs.declared.letters.Lettered.TheVariants.{Known}
 use Rattle.terms.specs.Letters.{letter_of}
 use Rattle.terms.specs.Limits.{cells}
 use Rattle.conflict.specs.declared.modes.Mode.{Mode}
@@ -63,7 +62,7 @@ Waits seen c w (r ∷ rs) = IsWaiting (seen []) c w × Waits (λ more. seen (r �
 
 -- the request is the job's give-up
 abbrev pub GivesUp : ℕ → Request → Type 0
-GivesUp j r = (letter_of r.kind ≡ Known GiveUp) × (r.job ≡ j)
+GivesUp j r = (letter_of r.kind ≡ Some GiveUp) × (r.job ≡ j)
 
 -- the waiter does not give up while it waits for that request
 abbrev pub Patient : Course → ℕ → Waiter → List Request → Type 0

@@ -1,5 +1,6 @@
 -- The numbers of jobs, on any desk whose steps each give the next number or none: the next number never falls, the numbers given rise, none is given twice, and none is above 4,294,967,295 (01, Jobs and their numbers).
 -- Assumes nothing.
+use Rattle.std.specs.Prelude.{Some}
 use Prim.Native.Nat.{ℕ, suc, ◌<◌, ◌≤◌}
 use mathlib.Core.Path.{◌≡◌, refl, sym, ap, subst, ◌∙◌}
 use mathlib.Core.Bool.{true, false, not, ◌&&◌}
@@ -10,7 +11,6 @@ use lib.Dec.{eqb, ltb}
 use Rattle.laws.specs.Choice.{by_test, not_both}
 use Rattle.terms.specs.declared.letters.Letter.{Letter}
 use Rattle.terms.specs.declared.letters.Letter.TheVariants.{Begin}
-use Rattle.terms.specs.declared.letters.Lettered.TheVariants.{Known}
 use Rattle.terms.specs.declared.refusals.Refusal.{Refusal}
 use Rattle.terms.specs.Letters.{letter_of}
 use Rattle.terms.specs.Limits.{last_number}
@@ -36,7 +36,7 @@ rising_distinct (n ∷ ns) f =
     and_both (not (member n ns)) (distinct ns) (by_test (member n ns) (λ t. let l : n < n = f.0 n t in absurd (omega arith)) (λ g. rw g)) (rising_distinct ns f.1)
 
 -- a request of another letter gives no number
-pub other_letter : (r : Request) {l : Letter} → letter_of r.kind ≡ Known l → is_begin l ≡ false → (x : Answer) → given_by r x ≡ []
+pub other_letter : (r : Request) {l : Letter} → letter_of r.kind ≡ Some l → is_begin l ≡ false → (x : Answer) → given_by r x ≡ []
 unfolding given_by
 other_letter r e f x = rw (e, f)
 
@@ -46,7 +46,7 @@ unfolding given_by number_in
 refusal_none r why = by_test (letter_is is_begin (letter_of r.kind)) (λ t. rw t) (λ f. rw f)
 
 -- a begin that goes gives the number in its answer
-begin_given : (r : Request) (j : ℕ) → letter_of r.kind ≡ Known Begin → (x : Answer) → x ≡ Go j → given_by r x ≡ j ∷ []
+begin_given : (r : Request) (j : ℕ) → letter_of r.kind ≡ Some Begin → (x : Answer) → x ≡ Go j → given_by r x ≡ j ∷ []
 unfolding given_by number_in
 begin_given r j l x e = rw (e, l)
 
@@ -115,7 +115,7 @@ module _ {S : Type 0} (step : Stepping S) (next : S → ℕ) (each : (d : S) (r 
       by_gives (one_given q l e) f = rw q (λ m h. omega (arith, e, (given_within (step d r).desk rs m h).0), f)
 
   -- a begin that goes gives the next number, and the one after it is next
-  pub begin_gives : (d : S) (r : Request) (j : ℕ) → letter_of r.kind ≡ Known Begin → (step d r).said ≡ Go j → (j ≡ next d) × (next (step d r).desk ≡ suc j)
+  pub begin_gives : (d : S) (r : Request) (j : ℕ) → letter_of r.kind ≡ Some Begin → (step d r).said ≡ Go j → (j ≡ next d) × (next (step d r).desk ≡ suc j)
   begin_gives d r j l e = gave_next j (each d r) (begin_given r j l (step d r).said e)
 
   -- what is promised of the numbers

@@ -1,9 +1,9 @@
 -- Refusals and answers, on any desk whose step does what its table says: a refusal exactly if it is due, and then nothing changes; else go, wait or back, with the job (01, Refusals by number; 01, Lines).
 -- Assumes nothing.
+use Rattle.std.specs.Prelude.{Option, None, Some}
 use Prim.Native.Nat.{ℕ}
 use mathlib.Core.Path.{◌≡◌, refl, sym, ap, ◌∙◌, subst}
 use mathlib.Core.Bool.{true}
-use mathlib.Core.Option.{Option, none, some}
 use Rattle.laws.specs.Choice.{not_both}
 use Rattle.terms.specs.declared.refusals.Refusal.{Refusal}
 use Rattle.terms.specs.Letters.{letter_of}
@@ -50,32 +50,32 @@ module _ {D : Type 0} where
   refused_said d why e = ap (λ o. o.said) e
 
   -- if an outcome that the table means is a refusal, that refusal is due
-  meant_refuses : (d : D) (j : ℕ) (v : Option Refusal) (o : Stepped D) → Meant d j v o → (why : Refusal) → o.said ≡ No why → v ≡ some why
-  meant_refuses d j (some x) o m why e = ap some (same_refusal x why (sym (refused_said d x m) ∙ e))
-  meant_refuses d j none o m why e = never why j (subst (λ x. Answers x j) e m)
+  meant_refuses : (d : D) (j : ℕ) (v : Option Refusal) (o : Stepped D) → Meant d j v o → (why : Refusal) → o.said ≡ No why → v ≡ Some why
+  meant_refuses d j (Some x) o m why e = ap Some (same_refusal x why (sym (refused_said d x m) ∙ e))
+  meant_refuses d j None o m why e = never why j (subst (λ x. Answers x j) e m)
 
   -- if it is go, wait or back, none is due, and the job is the one meant
-  meant_answers : (d : D) (i : ℕ) (v : Option Refusal) (o : Stepped D) → Meant d i v o → (j : ℕ) → Answers o.said j → (v ≡ none) × (j ≡ i)
-  meant_answers d i (some x) o m j h = never x j (subst (λ y. Answers y j) (refused_said d x m) h)
-  meant_answers d i none o m j h = (refl, one_job h m)
+  meant_answers : (d : D) (i : ℕ) (v : Option Refusal) (o : Stepped D) → Meant d i v o → (j : ℕ) → Answers o.said j → (v ≡ None) × (j ≡ i)
+  meant_answers d i (Some x) o m j h = never x j (subst (λ y. Answers y j) (refused_said d x m) h)
+  meant_answers d i None o m j h = (refl, one_job h m)
 
 module _ {D : Type 0} (step : Stepping D) (due : D → Request → Option Refusal) (named : D → Request → ℕ) (meant : (d : D) (r : Request) → Meant d (named d r) (due d r) (step d r)) where
   -- if a refusal is due, the desk is as it was, and no job is woken
-  pub due_refused : (d : D) (r : Request) (why : Refusal) → due d r ≡ some why → step d r ≡ refused d why
+  pub due_refused : (d : D) (r : Request) (why : Refusal) → due d r ≡ Some why → step d r ≡ refused d why
   due_refused d r why e = subst (λ v. Meant d (named d r) v (step d r)) e (meant d r)
 
   -- and if the step refuses, that refusal is due
-  pub refused_due : (d : D) (r : Request) (why : Refusal) → (step d r).said ≡ No why → due d r ≡ some why
+  pub refused_due : (d : D) (r : Request) (why : Refusal) → (step d r).said ≡ No why → due d r ≡ Some why
   refused_due d r = meant_refuses d (named d r) (due d r) (step d r) (meant d r)
 
   -- if none is due, the answer names the job that the request names
-  not_due : (d : D) (r : Request) → due d r ≡ none → Answers (step d r).said (named d r)
+  not_due : (d : D) (r : Request) → due d r ≡ None → Answers (step d r).said (named d r)
   not_due d r e = subst (λ v. Meant d (named d r) v (step d r)) e (meant d r)
 
   -- REFUSED BY THE TABLE: a desk keeps what is promised of refusals and answers if only requests for a cell are answered wait or back, no 9 is due, and requests that are alike make the same step
   pub refuses-by :
       ((d : D) (r : Request) → letter_is asks_no_cell (letter_of r.kind) ≡ true → goes_or_refuses (step d r).said ≡ true) →
-      ((d : D) (r : Request) (why : Refusal) → due d r ≡ some why → number_of why ≡ 9 → ⊥) →
+      ((d : D) (r : Request) (why : Refusal) → due d r ≡ Some why → number_of why ≡ 9 → ⊥) →
       ((d : D) (r s : Request) → r.kind ≡ s.kind → Alike (letter_of r.kind) r s → step d r ≡ step d s) →
       (d : D) → RefusesBy due named (course (λ e. e) step d)
   unfolding refused records_of own_records wake_records word_of number_beside

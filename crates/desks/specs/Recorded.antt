@@ -1,8 +1,7 @@
 -- What is promised of the history records of a step, on any desk, by its request and its answer (01, Lines; 01, Slips to rule out, 5).
-use Rattle.std.specs.Prelude.{ℕ, ◌≡◌, Bool, true, false, [], ◌∷◌}
+use Rattle.std.specs.Prelude.{ℕ, ◌≡◌, Bool, true, false, [], ◌∷◌, Some}
 use Rattle.terms.specs.declared.letters.Ask.{Ask}
 use Rattle.terms.specs.declared.letters.Letter.TheVariants.{Begin, Commit as commit, GiveUp as give-up, Retry, Asks}
-use Rattle.terms.specs.declared.letters.Lettered.TheVariants.{Known}
 use Rattle.terms.specs.Letters.{letter_of}
 use Rattle.conflict.specs.declared.action.Mark.{Mark}
 use Rattle.conflict.specs.declared.action.Mark.TheVariants.{Commit, GiveUp, Back}
@@ -29,11 +28,11 @@ pub record Recorded {D : Type 0} (k : Course D) (r : Request) : Type 0 where
   -- c, a and k stand before the wakes of their step, and no other step writes a mark
   pub mark_first : MarkFirst (records k r)
   -- a commit, a give-up and a sending back write their mark, and then the wakes
-  pub commit_records : (j : ℕ) → letter_of r.kind ≡ Known commit → (to k r).said ≡ Go j → records k r ≡ Ends Commit j ∷ wake_records (to k r).wakes
-  pub give_up_records : (j : ℕ) → letter_of r.kind ≡ Known give-up → (to k r).said ≡ Go j → records k r ≡ Ends GiveUp j ∷ wake_records (to k r).wakes
+  pub commit_records : (j : ℕ) → letter_of r.kind ≡ Some commit → (to k r).said ≡ Go j → records k r ≡ Ends Commit j ∷ wake_records (to k r).wakes
+  pub give_up_records : (j : ℕ) → letter_of r.kind ≡ Some give-up → (to k r).said ≡ Go j → records k r ≡ Ends GiveUp j ∷ wake_records (to k r).wakes
   pub back_records : (j : ℕ) → (to k r).said ≡ sent_back j → records k r ≡ Ends Back j ∷ wake_records (to k r).wakes
   -- a read, a write, an increment or a u that goes writes its action; begin, retry and a wait write nothing
-  pub ask_records : (a : Ask) (j : ℕ) → letter_of r.kind ≡ Known (Asks a) → (to k r).said ≡ Go j → records k r ≡ Does (record { kind = recorded a; job = j; cell = r.cell }) ∷ []
-  pub begin_records : (j : ℕ) → letter_of r.kind ≡ Known Begin → (to k r).said ≡ Go j → records k r ≡ []
-  pub retry_records : (j : ℕ) → letter_of r.kind ≡ Known Retry → (to k r).said ≡ Go j → records k r ≡ []
+  pub ask_records : (a : Ask) (j : ℕ) → letter_of r.kind ≡ Some (Asks a) → (to k r).said ≡ Go j → records k r ≡ Does (record { kind = recorded a; job = j; cell = r.cell }) ∷ []
+  pub begin_records : (j : ℕ) → letter_of r.kind ≡ Some Begin → (to k r).said ≡ Go j → records k r ≡ []
+  pub retry_records : (j : ℕ) → letter_of r.kind ≡ Some Retry → (to k r).said ≡ Go j → records k r ≡ []
   pub wait_records : (j : ℕ) → (to k r).said ≡ Wait j → records k r ≡ []

@@ -1,8 +1,7 @@
 -- What the history records of a step, by its request, its answer and its wakes: the same for every desk (01, Lines).
-use Rattle.std.specs.Prelude.{ℕ, List, [], ◌∷◌, ◌++◌}
+use Rattle.std.specs.Prelude.{ℕ, List, [], ◌∷◌, ◌++◌, Option, None, Some}
+use Rattle.terms.specs.declared.letters.Letter.{Letter}
 use Rattle.terms.specs.declared.letters.Letter.TheVariants.{Begin, Commit as commits, GiveUp as gives_up, Retry, Back as no-request, Asks}
-use Rattle.terms.specs.declared.letters.Lettered.{Lettered}
-use Rattle.terms.specs.declared.letters.Lettered.TheVariants.{Known, Unknown}
 use Rattle.terms.specs.Letters.{letter_of}
 use Rattle.conflict.specs.declared.action.Action.{Action}
 use Rattle.conflict.specs.declared.action.Mark.TheVariants.{Commit, GiveUp, Back}
@@ -15,14 +14,14 @@ use Rattle.desks.specs.Request.{Request}
 use Rattle.desks.specs.Stepping.{Stepping}
 
 -- what the history records for a request that goes: an action when it is granted, c and a when given; begin and retry write none (01, Lines)
-unfoldable pub went_by : Request → ℕ → Lettered → History
-went_by r j Unknown = []
-went_by r j (Known no-request) = []
-went_by r j (Known Begin) = []
-went_by r j (Known commits) = Ends Commit j ∷ []
-went_by r j (Known gives_up) = Ends GiveUp j ∷ []
-went_by r j (Known Retry) = []
-went_by r j (Known (Asks a)) = Does (record { kind = recorded a; job = j; cell = r.cell }) ∷ []
+unfoldable pub went_by : Request → ℕ → Option Letter → History
+went_by r j None = []
+went_by r j (Some no-request) = []
+went_by r j (Some Begin) = []
+went_by r j (Some commits) = Ends Commit j ∷ []
+went_by r j (Some gives_up) = Ends GiveUp j ∷ []
+went_by r j (Some Retry) = []
+went_by r j (Some (Asks a)) = Does (record { kind = recorded a; job = j; cell = r.cell }) ∷ []
 
 -- what the history records for a request and its answer: k for a sending back, none for a wait or a refusal (01, Lines)
 unfoldable pub own_records : Request → Answer → History

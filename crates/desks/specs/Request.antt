@@ -1,6 +1,6 @@
 -- A request by numbers, and the fields of it that its kind uses (01, Refusals by number).
-use Rattle.std.specs.Prelude.{ℕ, ◌≡◌, true}
-use Rattle.terms.specs.declared.letters.Lettered.{Lettered}
+use Rattle.std.specs.Prelude.{ℕ, ◌≡◌, true, Option}
+use Rattle.terms.specs.declared.letters.Letter.{Letter}
 use Rattle.terms.specs.Letters.{has_job, has_cell}
 use Rattle.desks.specs.Table.{letter_is}
 
@@ -11,6 +11,6 @@ pub record Request : Type 0 where
   pub cell : ℕ
 
 -- two requests are alike for their letter: the same job if it has a job, and the same cell if it has a cell
-pub record Alike (l : Lettered) (r s : Request) : Type 0 where
+pub record Alike (l : Option Letter) (r s : Request) : Type 0 where
   pub job : letter_is has_job l ≡ true → r.job ≡ s.job
   pub cell : letter_is has_cell l ≡ true → r.cell ≡ s.cell

@@ -1,11 +1,9 @@
 -- What the refusal tables of all desks share: the kinds of a request, the rows 1, 2, 6 and 7, and what an answer names (01, Refusals by number).
-use Rattle.std.specs.Prelude.{ℕ, Bool, true, false, not, ◌&&◌, List, ltb, leb}
+use Rattle.std.specs.Prelude.{ℕ, Bool, true, false, not, ◌&&◌, List, ltb, leb, Option, None, Some}
 use Rattle.laws.specs.Choice.{pick}
 use Rattle.laws.specs.Lists.{member}
 use Rattle.terms.specs.declared.letters.Letter.{Letter}
 use Rattle.terms.specs.declared.letters.Letter.TheVariants.{Begin, Commit, GiveUp, Retry, Back, Asks}
-use Rattle.terms.specs.declared.letters.Lettered.{Lettered}
-use Rattle.terms.specs.declared.letters.Lettered.TheVariants.{Known, Unknown}
 use Rattle.terms.specs.Letters.{of_requests, has_cell}
 use Rattle.terms.specs.Limits.{cells, last_number}
 use Rattle.desks.specs.declared.Answer.{Answer}
@@ -57,24 +55,24 @@ asks_no_cell Back = false
 asks_no_cell (Asks a) = false
 
 -- the kind is the byte of a letter, and the letter passes this test
-abbrev pub letter_is : (Letter → Bool) → Lettered → Bool
-letter_is f Unknown = false
-letter_is f (Known l) = f l
+abbrev pub letter_is : (Letter → Bool) → Option Letter → Bool
+letter_is f None = false
+letter_is f (Some l) = f l
 
 -- 1: request kind other than the eight (02, No. 1)
-abbrev pub other_kind : Lettered → Bool
+abbrev pub other_kind : Option Letter → Bool
 other_kind l = not (letter_is of_requests l)
 
 -- 2: cell above 63; r, w, i and u have a cell
-abbrev pub cell_above : Lettered → ℕ → Bool
+abbrev pub cell_above : Option Letter → ℕ → Bool
 cell_above l c = letter_is has_cell l && leb cells c
 
 -- 6: begin with 32 open jobs, that is with no place free
-abbrev pub all_open : Lettered → List ℕ → Bool
+abbrev pub all_open : Option Letter → List ℕ → Bool
 all_open l places = letter_is is_begin l && not (member 0 places)
 
 -- 7: begin after 4,294,967,295 was given, that is with a next number above it
-abbrev pub no_number_left : Lettered → ℕ → Bool
+abbrev pub no_number_left : Option Letter → ℕ → Bool
 no_number_left l next = letter_is is_begin l && ltb last_number next
 
 -- the answer is go, wait or back, with this job
@@ -84,5 +82,5 @@ pub data Answers : Answer → ℕ → Type 0 where
   goes_back : (j : ℕ) → Answers (sent_back j) j
 
 -- the job that an answer names: the request's, and for begin the new one, under the next number (01, Lines)
-abbrev pub named_by : ℕ → ℕ → Lettered → ℕ
+abbrev pub named_by : ℕ → ℕ → Option Letter → ℕ
 named_by next j l = pick (letter_is is_begin l) next j

@@ -1,9 +1,9 @@
 -- A faultless text has at most 4,096 lines and says at most as many events, and a faulty line is at most line 4,097.
 -- Assumes nothing.
+use Rattle.std.specs.Prelude.{Option, None, Some}
 use Prim.Native.Nat.{ℕ, suc, ◌+◌, ◌≤◌}
 use mathlib.Core.Path.{◌≡◌, refl, sym, ap}
 use mathlib.Core.List.{List, [], ◌∷◌}
-use mathlib.Core.Option.{Option, none, some}
 use native.Mathlib.Omega.{arith}
 use lib.ListN.{length, length-append}
 use Rattle.terms.specs.declared.letters.Letter.TheVariants.{Begin, Commit, GiveUp, Retry, Back, Asks}
@@ -15,24 +15,24 @@ use Rattle.judge_rules.proofs.LineFaults.{few_lines}
 use Rattle.judge_rules.specs.HistoryText.{Faulty, line_fault, or_later, ended_after, first_faulty, event_of, events_in}
 
 -- nothing found is not something found
-not_found : {A P : Type 0} {x : A} → some x ≡ none → P
+not_found : {A P : Type 0} {x : A} → Some x ≡ None → P
 not_found {x = x} e = let z : ◌≡◌ {A = ℕ} 0 1 = cc in absurd (omega arith)
 
 -- where no line is faulty, this one is not
-this_none : (o : Option Refusal) (n : ℕ) (later : Option Faulty) → or_later o n later ≡ none → (o ≡ none) × (later ≡ none)
+this_none : (o : Option Refusal) (n : ℕ) (later : Option Faulty) → or_later o n later ≡ None → (o ≡ None) × (later ≡ None)
 unfolding or_later
-this_none none n later e = (refl, e)
-this_none (some why) n later e = not_found e
+this_none None n later e = (refl, e)
+this_none (Some why) n later e = not_found e
 
 -- where a line is faulty, it is this one or a later one
-this_some : (o : Option Refusal) (n : ℕ) (later : Option Faulty) (f : Faulty) {P : Type 0} → or_later o n later ≡ some f → (f.number ≡ n → P) → (o ≡ none → later ≡ some f → P) → P
+this_some : (o : Option Refusal) (n : ℕ) (later : Option Faulty) (f : Faulty) {P : Type 0} → or_later o n later ≡ Some f → (f.number ≡ n → P) → (o ≡ None → later ≡ Some f → P) → P
 unfolding or_later
-this_some none n later f e this next = next refl e
-this_some (some why) n later f e this next =
+this_some None n later f e this next = next refl e
+this_some (Some why) n later f e this next =
     let g : ◌≡◌ {A = Faulty} (record { number = n; why = why }) f = cc in this (sym (ap (λ x. x.number) g))
 
 -- faultless lines that are numbered from n on
-pub lines_few : (n : ℕ) (ended : List ℕ) (ls : List Reading) → n ≤ suc judged_lines → first_faulty n ended ls ≡ none → length ls + n ≤ suc judged_lines
+pub lines_few : (n : ℕ) (ended : List ℕ) (ls : List Reading) → n ≤ suc judged_lines → first_faulty n ended ls ≡ None → length ls + n ≤ suc judged_lines
 unfolding first_faulty
 lines_few n ended [] h e = omega arith
 lines_few n ended (l ∷ ls) h e =
@@ -41,7 +41,7 @@ lines_few n ended (l ∷ ls) h e =
     omega (arith, lines_few (suc n) (ended_after ended l) ls (omega arith) p.1)
 
 -- the number of a faulty line among lines that are numbered from n on
-pub number_few : (n : ℕ) (ended : List ℕ) (ls : List Reading) (f : Faulty) → n ≤ suc judged_lines → first_faulty n ended ls ≡ some f → f.number ≤ suc judged_lines
+pub number_few : (n : ℕ) (ended : List ℕ) (ls : List Reading) (f : Faulty) → n ≤ suc judged_lines → first_faulty n ended ls ≡ Some f → f.number ≤ suc judged_lines
 unfolding first_faulty
 number_few n ended [] f h e = not_found (sym e)
 number_few n ended (l ∷ ls) f h e =

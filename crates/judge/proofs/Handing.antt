@@ -1,9 +1,9 @@
 -- From the scan and the decision to the judgement: a short buffer, a faultless text, a faulty line.
 -- Assumes nothing.
+use Rattle.std.specs.Prelude.{Option, None, Some}
 use Prim.Native.Nat.{ℕ, ◌+◌, ◌-◌, ◌≤◌, ◌<◌}
 use mathlib.Core.Path.{◌≡◌, refl, sym, ap, ◌∙◌, subst}
 use mathlib.Core.List.{List, []}
-use mathlib.Core.Option.{Option, none, some}
 use native.Mathlib.Omega.{arith}
 use borrow.Author.Tests.{lt-ltb, le-ltb}
 use lib.ListN.{length, drop, length-drop}
@@ -46,8 +46,8 @@ finding_no_line text buffer (knotted js) = (refl, refl)
 -- and so with every verdict
 no_line : (text buffer : List ℕ) (h : History) (o : Option ReadOf) → ((say_history buffer h o).line ≡ []) × (0 ≡ line_from text (say_history buffer h o).said)
 unfolding say_history line_from
-no_line text buffer h none = finding_no_line text buffer (finding_of h)
-no_line text buffer h (some d) = (refl, refl)
+no_line text buffer h None = finding_no_line text buffer (finding_of h)
+no_line text buffer h (Some d) = (refl, refl)
 
 -- the verdict on the history that arrays keep
 abbrev pub said_of : List ℕ → List ℕ → List ℕ → List ℕ → ℕ → Judgement

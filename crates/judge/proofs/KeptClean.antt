@@ -1,7 +1,7 @@
 -- The verdict on the lines that a faultless text leaves in the arrays is the judgement on the text.
 -- Assumes nothing.
 use Prim.Native.Nat.{ℕ, ◌≤◌, ◌<◌}
-use mathlib.Core.Path.{◌≡◌, refl, sym, ap, ◌∙◌, subst}
+use mathlib.Core.Path.{◌≡◌, sym, ap, ◌∙◌, subst}
 use mathlib.Core.List.{List, []}
 use borrow.Author.Tests.{ltb-true, ltb-false}
 use lib.Dec.{ltb}
@@ -12,7 +12,6 @@ use Rattle.terms.specs.Limits.{judged_jobs}
 use Rattle.judge_rules.specs.HistoryText.{readings_of}
 use Rattle.judge_rules.specs.declared.verdict.Verdict.{Verdict}
 use Rattle.judge_rules.specs.declared.verdict.Verdict.TheVariants.{No}
-use Rattle.judge_core.specs.declared.kept.Found.TheVariants.{Faultless as found_none}
 use Rattle.judge_core.specs.Kept.{first_fault, kept_judgement}
 use Rattle.judge_core.proofs.KeptLaws.{kept_short, kept_decided}
 use Rattle.judge.specs.declared.scan.Scanned.{Scanned}
@@ -35,7 +34,7 @@ module _ (text codes jobs cells buffer : List ℕ) (x : Scanned) (s : ScannedAs 
   kept_long_enough : judged_jobs ≤ length buffer → JudgedAs text buffer after (record { said = said; from = 0; to = 0 })
   kept_long_enough h =
       let c : Clean text codes jobs cells n = subst (ScannedAs text codes jobs cells) e s in
-      let d = kept_decided codes jobs cells buffer n h found_none (sym (ap (first_fault 1 []) c.says ∙ text_sound (readings_of text) c.faultless)) refl in
+      let d = kept_decided codes jobs cells buffer n h (sym (ap (first_fault 1 []) c.says ∙ text_sound (readings_of text) c.faultless)) in
       judged_clean text codes jobs cells buffer x h s n said after e (p ∙ ap (λ j. j.said) d) (q ∙ ap (λ j. j.order) d)
 
   -- the judge hands on what is said of the lines

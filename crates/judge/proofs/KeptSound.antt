@@ -1,10 +1,10 @@
 -- A text without a faulty line says a history without one: what the judge has accepted is not refused again.
 -- Assumes nothing.
+use Rattle.std.specs.Prelude.{Option, None, Some, Ok}
 use Prim.Native.Nat.{ℕ, suc, ◌≤◌}
 use mathlib.Core.Path.{◌≡◌, refl, sym, ap, ◌∙◌}
 use mathlib.Core.Bool.{Bool, true, false, not, ◌&&◌, ◌||◌, and-true, and-false, or-false, or_comm}
 use mathlib.Core.List.{List, [], ◌∷◌, ◌++◌}
-use mathlib.Core.Option.{Option, none, some}
 use native.Mathlib.Omega.{arith}
 use lib.Dec.{eqb, ltb, leb}
 use borrow.Author.Tests.{eqb-true, eqb-false, ltb-true, ltb-false, le-ltb, le-leb, lt-leb}
@@ -28,12 +28,11 @@ use Rattle.conflict.proofs.OneEvent.{marked_none, marked_does, marked_ends, comm
 use Rattle.text_rules.specs.declared.Reading.{Reading}
 use Rattle.text_rules.specs.declared.Reading.TheVariants.{Good, Bad}
 use Rattle.judge_rules.specs.HistoryText.{fault_of_good, fault_of, line_fault, ended_after, Faulty, or_later, first_faulty, event_of, events_in}
-use Rattle.judge_core.specs.declared.kept.Found.TheVariants.{Faultless}
 use Rattle.judge_core.specs.Kept.{job_of, above, ends_job, event_fault, first_fault}
 use Rattle.judge_core.specs.Kept as kept
 
 -- something is not nothing
-not_none : {A : Type 0} {x : A} {P : Type 0} → some x ≡ none → P
+not_none : {A : Type 0} {x : A} {P : Type 0} → Some x ≡ None → P
 not_none e = absurd (let q : ◌≡◌ {A = ℕ} 0 1 = cc in omega arith)
 
 -- a job is outside 1 to 255 where it is 0 or larger
@@ -103,13 +102,13 @@ unfolding above
 does_above a = refl
 
 -- an event without a fault is passed
-passed : (n : ℕ) (before h : History) (e : Event) → event_fault n before e ≡ none → first_fault n before (e ∷ h) ≡ first_fault (suc n) (before ++ e ∷ []) h
+passed : (n : ℕ) (before h : History) (e : Event) → event_fault n before e ≡ None → first_fault n before (e ∷ h) ≡ first_fault (suc n) (before ++ e ∷ []) h
 unfolding first_fault kept.or_later
 passed n before h e f = rw f
 
 -- a line without a fault is passed, and what it says with it
-reading_sound : (r : Reading) (n k : ℕ) (ended : List ℕ) (before h : History) → k ≤ n → n ≤ judged_lines → Known ended before → fault_of ended r ≡ none →
-    ((m : ℕ) (after : History) → m ≤ suc n → Known (ended_after ended r) after → first_fault m after h ≡ Faultless) → first_fault k before (event_of r ++ h) ≡ Faultless
+reading_sound : (r : Reading) (n k : ℕ) (ended : List ℕ) (before h : History) → k ≤ n → n ≤ judged_lines → Known ended before → fault_of ended r ≡ None →
+    ((m : ℕ) (after : History) → m ≤ suc n → Known (ended_after ended r) after → first_fault m after h ≡ Ok tt) → first_fault k before (event_of r ++ h) ≡ Ok tt
 unfolding fault_of ended_after event_of
 reading_sound (Bad at) n k ended before h a few kn f next = not_none f
 reading_sound (Good Begin job cell) n k ended before h a few kn f next = next k before (omega arith) kn
@@ -129,18 +128,18 @@ reading_sound (Good (Asks ask) job cell) n k ended before h a few kn f next =
     ∙ next (suc k) (before ++ Does act ∷ []) (omega arith) (known_does ended before kn (Does act) (λ j. marked_does ends_job j act []))
 
 -- the fault of a line that is no line too many is the one that it reads with
-line_reads : (n : ℕ) (ended : List ℕ) (r : Reading) → line_fault n ended r ≡ none → (n ≤ judged_lines) × (fault_of ended r ≡ none)
+line_reads : (n : ℕ) (ended : List ℕ) (r : Reading) → line_fault n ended r ≡ None → (n ≤ judged_lines) × (fault_of ended r ≡ None)
 unfolding line_fault
 line_reads n ended r e = by_test (ltb judged_lines n) (λ t. not_none {x = TooManyLines} (rw t at e)) (λ g. (ltb-false judged_lines n g, rw g at e))
 
 -- where nothing is found the first line has no fault, and those after it have none
-none_first : (o : Option Refusal) (n : ℕ) (later : Option Faulty) → or_later o n later ≡ none → (o ≡ none) × (later ≡ none)
+none_first : (o : Option Refusal) (n : ℕ) (later : Option Faulty) → or_later o n later ≡ None → (o ≡ None) × (later ≡ None)
 unfolding or_later
-none_first none n later e = (refl, e)
-none_first (some why) n later e = not_none e
+none_first None n later e = (refl, e)
+none_first (Some why) n later e = not_none e
 
 -- lines without a faulty one say events without one
-lines_sound : (rs : List Reading) (n k : ℕ) (ended : List ℕ) (before : History) → k ≤ n → Known ended before → first_faulty n ended rs ≡ none → first_fault k before (events_in rs) ≡ Faultless
+lines_sound : (rs : List Reading) (n k : ℕ) (ended : List ℕ) (before : History) → k ≤ n → Known ended before → first_faulty n ended rs ≡ None → first_fault k before (events_in rs) ≡ Ok tt
 unfolding first_faulty events_in first_fault
 lines_sound [] n k ended before a kn e = refl
 lines_sound (r ∷ rs) n k ended before a kn e =
@@ -150,6 +149,6 @@ lines_sound (r ∷ rs) n k ended before a kn e =
     (λ m after b kn'. lines_sound rs (suc n) m (ended_after ended r) after b kn' o.1)
 
 -- a text without a faulty line says a history without one
-pub text_sound : (rs : List Reading) → first_faulty 1 [] rs ≡ none → first_fault 1 [] (events_in rs) ≡ Faultless
+pub text_sound : (rs : List Reading) → first_faulty 1 [] rs ≡ None → first_fault 1 [] (events_in rs) ≡ Ok tt
 unfolding member
 text_sound rs e = lines_sound rs 1 1 [] [] (omega arith) (λ j. sym (marked_none ends_job j)) e

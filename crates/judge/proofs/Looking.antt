@@ -1,10 +1,10 @@
 -- Looking at one line: it is refused as the paper says, with 11, 9, 12, 2 or 13, or else kept.
 -- Assumes nothing.
+use Rattle.std.specs.Prelude.{Option, None, Some}
 use Prim.Native.Nat.{ℕ, ◌<◌}
 use mathlib.Core.Path.{◌≡◌, refl, sym, ap, ◌∙◌}
 use mathlib.Core.Bool.{Bool, false, ◌&&◌}
 use mathlib.Core.List.{List}
-use mathlib.Core.Option.{Option, none, some}
 use native.Mathlib.Omega.{arith}
 use borrow.Author.Tests.{ltb-false}
 use lib.Dec.{eqb, ltb, leb}
@@ -36,8 +36,8 @@ look_bad flags x y r at e g h = rw (← e, g) h
 
 -- why a line is refused, if it is
 refusal_of : Looked → Option Refusal
-refusal_of (Kept code job cell) = none
-refusal_of (Refused why) = some why
+refusal_of (Kept code job cell) = None
+refusal_of (Refused why) = Some why
 
 -- a line without a cell has a cell that is not above
 cell_test : (l : Letter) (cell : ℕ) → (has_cell l ≡ false → cell ≡ 0) → (has_cell l && leb cells cell) ≡ leb cells cell
@@ -70,11 +70,11 @@ line_fault_lem n flags ended line a =
     by_test (ltb judged_lines n) (λ t. rw t) (λ f. rw f (read_fault flags ended line (read_line of_histories line) refl a))
 
 -- a line that is refused has that fault
-pub refused_fault : (n : ℕ) (flags : List Bool) (ended line : List ℕ) (why : Refusal) → Flagged flags ended → looked_at n flags (read_line of_histories line) ≡ Refused why → line_fault n ended (read_line of_histories line) ≡ some why
+pub refused_fault : (n : ℕ) (flags : List Bool) (ended line : List ℕ) (why : Refusal) → Flagged flags ended → looked_at n flags (read_line of_histories line) ≡ Refused why → line_fault n ended (read_line of_histories line) ≡ Some why
 unfolding refusal_of
 refused_fault n flags ended line why a e = line_fault_lem n flags ended line a ∙ ap refusal_of e
 
 -- a line that is kept has no fault
-pub kept_fault : (n : ℕ) (flags : List Bool) (ended line : List ℕ) (code job cell : ℕ) → Flagged flags ended → looked_at n flags (read_line of_histories line) ≡ Kept code job cell → line_fault n ended (read_line of_histories line) ≡ none
+pub kept_fault : (n : ℕ) (flags : List Bool) (ended line : List ℕ) (code job cell : ℕ) → Flagged flags ended → looked_at n flags (read_line of_histories line) ≡ Kept code job cell → line_fault n ended (read_line of_histories line) ≡ None
 unfolding refusal_of
 kept_fault n flags ended line code job cell a e = line_fault_lem n flags ended line a ∙ ap refusal_of e

@@ -1,10 +1,10 @@
 -- Scanning a text line by line: what is left decides as the whole does, and the kept lines stand before what is left.
 -- Assumes nothing.
+use Rattle.std.specs.Prelude.{None, Some}
 use Prim.Native.Nat.{ℕ, ◌+◌, ◌-◌, ◌≤◌, ◌<◌}
 use mathlib.Core.Path.{◌≡◌, refl, sym, ap, ◌∙◌}
 use mathlib.Core.Bool.{Bool, false}
 use mathlib.Core.List.{List, [], ◌∷◌, ◌++◌, append_assoc, append-nil}
-use mathlib.Core.Option.{none, some}
 use native.Mathlib.Numerals.{add-one}
 use native.Mathlib.Omega.{arith}
 use lib.ListN.{length, get_or, set, drop, replicate, length-set, length-drop, get_or-replicate, length-replicate, drop_of_length-le}
@@ -63,14 +63,14 @@ scanning_starts text codes jobs cells h g k =
     }
 
 -- a line without a fault leaves the deciding to the lines after it
-past_line : (n : ℕ) (ended : List ℕ) (l : Reading) (ls : List Reading) → line_fault n ended l ≡ none →
+past_line : (n : ℕ) (ended : List ℕ) (l : Reading) (ls : List Reading) → line_fault n ended l ≡ None →
     first_faulty (n + 1) (ended_after ended l) ls ≡ first_faulty n ended (l ∷ ls)
 unfolding first_faulty or_later
 past_line n ended l ls e = rw (e, add-one)
 
 -- a line with a fault decides
-at_line : (n : ℕ) (ended : List ℕ) (l : Reading) (ls : List Reading) (why : Refusal) → line_fault n ended l ≡ some why →
-    first_faulty n ended (l ∷ ls) ≡ some (record { number = n; why = why })
+at_line : (n : ℕ) (ended : List ℕ) (l : Reading) (ls : List Reading) (why : Refusal) → line_fault n ended l ≡ Some why →
+    first_faulty n ended (l ∷ ls) ≡ Some (record { number = n; why = why })
 unfolding first_faulty or_later
 at_line n ended l ls why e = rw e
 

@@ -1,10 +1,10 @@
 -- The judge's verdict has small numbers: no order or knot is longer than the history, and no line number is above 4,097.
 -- Assumes nothing.
+use Rattle.std.specs.Prelude.{Option, None, Some}
 use Prim.Native.Nat.{ℕ, suc, ◌≤◌}
 use mathlib.Core.Path.{◌≡◌, refl, sym, ◌∙◌}
 use mathlib.Core.Bool.{Bool, true, false}
 use mathlib.Core.List.{List, [], ◌∷◌}
-use mathlib.Core.Option.{Option, none, some}
 use native.Mathlib.Omega.{arith}
 use lib.Dec.{ltb, eqb}
 use lib.ListN.{length}
@@ -76,15 +76,15 @@ finding_small buffer h few =
 -- and so has what is said of it
 history_small : (buffer : List ℕ) (h : History) (o : Option ReadOf) → length h ≤ judged_lines → Small (say_history buffer h o).said
 unfolding say_history
-history_small buffer h none few = finding_small buffer h few
-history_small buffer h (some d) few = tt
+history_small buffer h None few = finding_small buffer h few
+history_small buffer h (Some d) few = tt
 
 -- and what is said of lines
 lines_small : (buffer text : List ℕ) (o : Option Faulty) → first_faulty 1 [] (readings_of text) ≡ o → Small (say_lines buffer text o).said
 unfolding say_lines
-lines_small buffer text none e =
+lines_small buffer text None e =
     history_small buffer (events_in (readings_of text)) (dirty_of (events_in (readings_of text))) (omega (arith, events_few (readings_of text), lines_few 1 [] (readings_of text) (omega arith) e))
-lines_small buffer text (some f) e = omega (arith, number_few 1 [] (readings_of text) f (omega arith) e)
+lines_small buffer text (Some f) e = omega (arith, number_few 1 [] (readings_of text) f (omega arith) e)
 
 -- every verdict of the judge has small numbers
 pub judgement_small : (text buffer : List ℕ) → Small (judgement_of text buffer).said

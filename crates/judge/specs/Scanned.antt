@@ -1,6 +1,5 @@
 -- What scanning a history text tells: the history as three arrays keep it, or the first faulty line (01, Refusals by number).
-use Rattle.std.specs.Prelude.{ℕ, ◌-◌, ◌≤◌, ◌<◌, ◌≡◌, List, [], eqb, length, get_or}
-use Rattle.std.proofs.Math.Option.{none, some}
+use Rattle.std.specs.Prelude.{ℕ, ◌-◌, ◌≤◌, ◌<◌, ◌≡◌, List, [], eqb, length, get_or, None, Some}
 use Rattle.laws.specs.Choice.{pick}
 use Rattle.terms.specs.declared.refusals.Refusal.{Refusal}
 use Rattle.terms.specs.Words.{newline}
@@ -18,14 +17,14 @@ bare_end text to = pick (eqb (get_or text (to - 1) 0) newline) (to - 1) to
 
 -- no line is faulty, and the arrays keep what the lines say
 pub record Clean (text codes jobs cells : List ℕ) (n : ℕ) : Type 0 where
-  pub faultless : first_faulty 1 [] (readings_of text) ≡ none
+  pub faultless : first_faulty 1 [] (readings_of text) ≡ None
   pub within : n ≤ judged_lines
   pub says : history_by codes jobs cells n ≡ events_in (readings_of text)
   pub named : (p : ℕ) → p < n → get_or jobs p 0 ≡ 0 → ⊥
 
 -- the first faulty line, with its place in the text
 pub record Spoilt (text : List ℕ) (number : ℕ) (why : Refusal) (from to : ℕ) : Type 0 where
-  pub first : first_faulty 1 [] (readings_of text) ≡ some (record { number = number; why = why })
+  pub first : first_faulty 1 [] (readings_of text) ≡ Some (record { number = number; why = why })
   pub ordered : from ≤ to
   pub within : to ≤ length text
   pub place : part text from to ≡ bare (line_at (lines_of text) number)

@@ -7,7 +7,7 @@ use crate::scan::{Scanned, scan};
 use judge_core::kept::judge_kept;
 use judge_rules::verdict::Verdict;
 use terms::limits::{JUDGED_JOBS, JUDGED_LINES};
-use terms::refusals::{Refusal, field_of, number_of};
+use terms::refusals::{Refusal, field_of};
 
 // What is said, and where in the text the line handed back stands: at the text's start and empty, if there is none.
 #[derive(Clone, Copy)]
@@ -73,7 +73,7 @@ fn in_numbers(said: Verdict) -> [u32; 4]
         Verdict::Orderly(n) => [0, n as u32, 0, 0],
         Verdict::Knot(n) => [1, n as u32, 0, 0],
         Verdict::Dirty { reader, writer } => [3, reader as u32, writer as u32, 0],
-        Verdict::No { line, why } => [2, number_of(why) as u32, line as u32, field_of(why) as u32],
+        Verdict::No { line, why } => [2, u8::from(why) as u32, line as u32, field_of(why) as u32],
     }
 }
 

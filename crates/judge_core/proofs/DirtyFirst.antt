@@ -13,7 +13,7 @@ use Rattle.laws.proofs.Parts.{and_first, and_second}
 use Rattle.conflict.specs.Dirty.{IsDirty, FirstDirty, dirty_of}
 use Rattle.conflict.proofs.DirtyFound.{dirty_exactly, clean_exactly}
 use Rattle.judge_rules.specs.Arrays.{history_by}
-use Rattle.judge_core.specs.declared.dirty.Dirt.TheVariants.{Clean, Read}
+use Rattle.std.specs.Prelude.{None, Some}
 use Rattle.judge_core.specs.RunEnds.{RunEnds, changing, later_end, latest_end, reads_dirt, dirty_at, spoils_at, FirstRead, LastWrite, dirt_of}
 use Rattle.judge_core.proofs.DirtyLines.{Placed, dirty_placed, placed_dirty}
 
@@ -108,19 +108,20 @@ module _ (codes cells ends : List ℕ) where
         )
 
     -- where no line is a dirty read, the history is clean
-    pub none_dirty : (p : ℕ) → FirstRead codes cells ends n p → p ≡ n → Clean ≡ dirt_of (dirty_of (history_by codes jobs cells n))
+    pub none_dirty : FirstRead codes cells ends n n → None ≡ dirt_of (dirty_of (history_by codes jobs cells n))
     unfolding dirt_of
-    none_dirty p f e =
+    none_dirty f =
         let clean' : IsDirty (history_by codes jobs cells n) → ⊥ = λ d.
         let x = (dirty_placed codes jobs cells n d.read_at d.write_at d.reader d.writer d.dirty_read).0 in
-        not_both (placed_tested d.read_at d.write_at x).0 (f.clean d.read_at (omega (arith, x.within))) in
+        not_both (placed_tested d.read_at d.write_at x).0 (f.clean d.read_at x.within) in
         rw ((clean_exactly (history_by codes jobs cells n)).0 clean')
 
     -- else reader and writer of the first that is and of the last that makes it so are told
-    pub first_dirty : (p q : ℕ) → FirstRead codes cells ends n p → (p ≡ n → ⊥) → LastWrite codes cells ends p q → Read (get_or jobs p 0) (get_or jobs q 0) ≡ dirt_of (dirty_of (history_by codes jobs cells n))
+    pub first_dirty : (p q : ℕ) → (p < n) × FirstRead codes cells ends n p → LastWrite codes cells ends p q → Some (record { reader = get_or jobs p 0; writer = get_or jobs q 0 }) ≡ dirt_of (dirty_of (history_by codes jobs cells n))
     unfolding dirt_of
-    first_dirty p q f m g =
-        let w : p < n = omega (arith, f.within, m) in
+    first_dirty p q a g =
+        let w = a.0 in
+        let f = a.1 in
         let s = spoilt p (f.dirty w) in
         let l : q < p = (g.later s.at s.ahead s.spoils).1 in
         let found : FirstDirty (history_by codes jobs cells n) (get_or jobs p 0) (get_or jobs q 0) = record {

@@ -2,36 +2,18 @@
 -- Assumes nothing.
 use Prim.Native.Nat.{ℕ, suc, ◌+◌, ◌-◌, ◌≤◌, ◌<◌}
 use mathlib.Core.Path.{◌≡◌, refl, sym, ap, ◌∙◌}
-use mathlib.Core.Bool.{Bool, true, false, ◌&&◌}
+use mathlib.Core.Bool.{Bool, true, false}
 use mathlib.Core.List.{List}
 use native.Mathlib.Numerals.{add-one}
 use native.Mathlib.Omega.{arith}
-use lib.Dec.{eqb, ltb}
+use lib.Dec.{eqb}
 use lib.ListN.{length, get_or, set, replicate, length-set, length-replicate}
 use lib.Seq.{get_or-set_same, get_or-set_other}
 use borrow.Author.Tests.{eqb-true, eqb-false, eq-eqb, ne_eqb}
 use Rattle.laws.specs.Choice.{by_test, not_both}
 use Rattle.judge_core.specs.Lists.{values_of}
-use Rattle.judge_core.specs.RunEnds.{end_by, run_end, end_at, RunEnds, changing, later_end, latest_end, reads_dirt, dirty_at, spoils_at, LastWrite}
+use Rattle.judge_core.specs.RunEnds.{end_by, run_end, end_at, RunEnds, later_end, latest_end, reads_dirt, dirty_at, spoils_at, LastWrite}
 use Rattle.judge_core.proofs.Tabled.{tab_at, tab_all, tab_set}
-
--- 1 is a write, and of the others 2 an increment
-pub change_write : (code : ℕ) → code ≡ 1 → true ≡ changing code
-unfolding changing
-change_write code e = rw e
-
-pub change_increment : (code : ℕ) → (code ≡ 1 → ⊥) → eqb code 2 ≡ changing code
-unfolding changing
-change_increment code n = rw (ne_eqb code 1 n)
-
--- a test with another, where the first holds and where it does not
-pub and_on : (b y r : Bool) → b ≡ true → r ≡ y → r ≡ (b && y)
-and_on b y r e h = rw e h
-
-pub and_off : (b y : Bool) → b ≡ false → false ≡ (b && y)
-and_off b y e = rw e
-
-pub ruleset both = (and_on, and_off)
 
 -- the ends are there of the lines from p on
 pub record EndsFrom (codes jobs : List ℕ) (n p : ℕ) (ends : List ℕ) : Type 0 where
@@ -108,22 +90,6 @@ module _ (codes cells ends : List ℕ) where
         (λ x a o. rw (ne_eqb (get_or cells p 0) x (λ r. o (sym r ∙ sym s)))))
 
   module _ (p : ℕ) where
-    -- a line on another cell makes no read on line p dirty
-    pub spoils_apart : (q : ℕ) → (get_or cells q 0 ≡ get_or cells p 0 → ⊥) → false ≡ spoils_at codes cells ends p q
-    unfolding spoils_at
-    spoils_apart q n = rw (ne_eqb (get_or cells q 0) (get_or cells p 0) n)
-
-    module _ (q : ℕ) (b : Bool) (e : get_or cells q 0 ≡ get_or cells p 0) (c : b ≡ changing (get_or codes q 0)) where
-      -- one on its cell that changes it does where the end of its run stands behind
-      pub spoils_by : b ≡ true → ltb p (get_or ends q 0) ≡ spoils_at codes cells ends p q
-      unfolding spoils_at
-      spoils_by t = rw (eq-eqb (get_or cells q 0) (get_or cells p 0) e, ← c, t)
-
-      -- and one that does not change it does not
-      pub spoils_not : b ≡ false → false ≡ spoils_at codes cells ends p q
-      unfolding spoils_at
-      spoils_not f = rw (eq-eqb (get_or cells q 0) (get_or cells p 0) e, ← c, f)
-
     -- no line from q on makes a read on line p dirty
     unfoldable pub NoneFrom : ℕ → Type 0
     NoneFrom q = (x : ℕ) → x < p → spoils_at codes cells ends p x ≡ true → x < q

@@ -4,7 +4,7 @@ use Prim.Native.Nat.{ℕ, zero, suc, ◌+◌, ◌-◌, ◌≤◌, ◌<◌}
 use mathlib.Core.Path.{◌≡◌, refl, sym, ap, ◌∙◌, subst}
 use mathlib.Core.Bool.{Bool, true, false, not, ◌&&◌, ◌||◌}
 use mathlib.Core.List.{List, [], ◌∷◌, ◌++◌}
-use mathlib.Core.Option.{Option, none, some}
+use Rattle.std.specs.Prelude.{None, Some, Ok, Err, Option}
 use native.Mathlib.Numerals.{add-one}
 use native.Mathlib.Omega.{arith}
 use lib.Dec.{eqb, ltb, leb}
@@ -18,16 +18,12 @@ use Rattle.terms.specs.Limits.{judged_jobs, judged_lines}
 use Rattle.conflict.specs.declared.action.Event.{Event}
 use Rattle.conflict.specs.History.{History, marked}
 use Rattle.judge_rules.specs.Arrays.{event_by, history_by}
-use Rattle.judge_core.specs.declared.kept.Found.{Found}
-use Rattle.judge_core.specs.declared.kept.Found.TheVariants.{Faultless, Faulty}
-use Rattle.judge_core.specs.declared.kept.Fault.{Fault}
-use Rattle.judge_core.specs.declared.kept.Fault.TheVariants.{Nothing, Due}
-use Rattle.judge_core.specs.Kept.{job_of, above, ends_job, event_fault, or_later, first_fault, event_at, due_of, Flagged}
+use Rattle.judge_core.specs.Kept.{job_of, above, ends_job, event_fault, Found, or_later, first_fault, event_at, Flagged}
 use Rattle.judge_core.proofs.Events.{events_from, history_events}
-use Rattle.judge_core.proofs.KeptFaults.{job_of_lem, above_of, due_some, due_none, flags_more}
+use Rattle.judge_core.proofs.KeptFaults.{job_of_lem, above_of, flags_more}
 
 -- none of the tests in a row holds where nothing is picked
-picked_none : {A : Type 0} (a b c d : Bool) (w x y z : A) → pick a (some w) (pick b (some x) (pick c (some y) (pick d (some z) none))) ≡ none → (a ≡ false) × (b ≡ false) × (c ≡ false) × (d ≡ false)
+picked_none : {A : Type 0} (a b c d : Bool) (w x y z : A) → pick a (Some w) (pick b (Some x) (pick c (Some y) (pick d (Some z) None))) ≡ None → (a ≡ false) × (b ≡ false) × (c ≡ false) × (d ≡ false)
 picked_none true b c d w x y z e = absurd (let q : ◌≡◌ {A = ℕ} 0 1 = cc in omega arith)
 picked_none false true c d w x y z e = absurd (let q : ◌≡◌ {A = ℕ} 0 1 = cc in omega arith)
 picked_none false false true d w x y z e = absurd (let q : ◌≡◌ {A = ℕ} 0 1 = cc in omega arith)
@@ -43,7 +39,7 @@ pub record Sound (n : ℕ) (before : History) (e : Event) : Type 0 where
   pub open' : marked ends_job (job_of e) before ≡ false
 
 -- a line without a fault is sound
-pub faultless_sound : (n : ℕ) (before : History) (e : Event) → event_fault n before e ≡ none → Sound n before e
+pub faultless_sound : (n : ℕ) (before : History) (e : Event) → event_fault n before e ≡ None → Sound n before e
 unfolding event_fault
 faultless_sound n before e h =
     let t = picked_none (ltb judged_lines n) (not (leb 1 (job_of e) && leb (job_of e) judged_jobs)) (above e) (marked ends_job (job_of e) before) TooManyLines JobOutside CellAbove Ended h in
@@ -62,19 +58,19 @@ unfolding first_fault events_from
 one_line_lem codes jobs cells n p m before = refl
 
 -- a fault decides, and without one the lines after decide
-found_here : (o : Option Refusal) (n : ℕ) (later : Found) (why : Refusal) → o ≡ some why → Faulty n why ≡ or_later o n later
+found_here : (o : Option Refusal) (n : ℕ) (later : Found) (why : Refusal) → o ≡ Some why → Err (record { line = n; why = why }) ≡ or_later o n later
 unfolding or_later
 found_here o n later why e = rw e
 
-found_later : (o : Option Refusal) (n : ℕ) (later : Found) → o ≡ none → or_later o n later ≡ later
+found_later : (o : Option Refusal) (n : ℕ) (later : Found) → o ≡ None → or_later o n later ≡ later
 unfolding or_later
 found_later o n later e = rw e
 
 -- where nothing is found this line has no fault
-none_here : (o : Option Refusal) (n : ℕ) (later : Found) → or_later o n later ≡ Faultless → o ≡ none
+none_here : (o : Option Refusal) (n : ℕ) (later : Found) → or_later o n later ≡ Ok tt → o ≡ None
 unfolding or_later
-none_here none n later e = refl
-none_here (some why) n later e = absurd (let q : ◌≡◌ {A = ℕ} 0 1 = cc in omega arith)
+none_here None n later e = refl
+none_here (Some why) n later e = absurd (let q : ◌≡◌ {A = ℕ} 0 1 = cc in omega arith)
 
 module _ (codes jobs cells : List ℕ) where
   -- the line and the history with it
@@ -97,20 +93,20 @@ module _ (codes jobs cells : List ℕ) where
         ∙ rw (snoc p, add-one (p + 1), add-one p)
 
     -- a line without a fault is passed
-    pub at_more : (p : ℕ) → p < n → none ≡ event_fault (p + 1) (history_by codes jobs cells p) (event_at codes jobs cells p) → At p → At (p + 1)
+    at_more : (p : ℕ) → p < n → None ≡ event_fault (p + 1) (history_by codes jobs cells p) (event_at codes jobs cells p) → At p → At (p + 1)
     unfolding At
     at_more p h f a =
         next_line p h a
         ∙ found_later (event_fault (p + 1) (history_by codes jobs cells p) (event_at codes jobs cells p)) (p + 1) (first_fault (p + 1 + 1) (history_by codes jobs cells (p + 1)) (events_from codes jobs cells (p + 1) (n - (p + 1)))) (sym f)
 
     -- a faulty one is found
-    pub at_found : (p : ℕ) (why : Refusal) → p < n → some why ≡ event_fault (p + 1) (history_by codes jobs cells p) (event_at codes jobs cells p) → At p → Faulty (p + 1) why ≡ all
+    pub at_found : (p : ℕ) (why : Refusal) → p < n → Some why ≡ event_fault (p + 1) (history_by codes jobs cells p) (event_at codes jobs cells p) → At p → Err (record { line = p + 1; why = why }) ≡ all
     at_found p why h f a =
         found_here (event_fault (p + 1) (history_by codes jobs cells p) (event_at codes jobs cells p)) (p + 1) (first_fault (p + 1 + 1) (history_by codes jobs cells (p + 1)) (events_from codes jobs cells (p + 1) (n - (p + 1)))) why (sym f)
         ∙ sym (next_line p h a)
 
     -- when all are passed none is
-    pub at_end : (p : ℕ) → n ≤ p → At p → Faultless ≡ all
+    pub at_end : (p : ℕ) → n ≤ p → At p → Ok tt ≡ all
     unfolding At first_fault events_from
     at_end p h a =
         let z : n - p ≡ 0 = omega arith in
@@ -124,7 +120,7 @@ module _ (codes jobs cells : List ℕ) where
       rw same' (ap (first_fault 1 []) (history_events codes jobs cells n))
 
   -- where none of the lines from p on is faulty each is sound
-  sound_from : (m p n : ℕ) → p + m ≡ n → first_fault (suc p) (history_by codes jobs cells p) (events_from codes jobs cells p m) ≡ Faultless → (q : ℕ) → p ≤ q → q < n → Sound (suc q) (history_by codes jobs cells q) (event_at codes jobs cells q)
+  sound_from : (m p n : ℕ) → p + m ≡ n → first_fault (suc p) (history_by codes jobs cells p) (events_from codes jobs cells p m) ≡ Ok tt → (q : ℕ) → p ≤ q → q < n → Sound (suc q) (history_by codes jobs cells q) (event_at codes jobs cells q)
   sound_from zero p n e g q a b = absurd (omega arith)
   sound_from (suc m) p n e g q a b =
       let line = sym (one_line_lem codes jobs cells (suc p) p m (history_by codes jobs cells p)) ∙ g in
@@ -132,13 +128,13 @@ module _ (codes jobs cells : List ℕ) where
       by_test (eqb p q)
       (λ t. subst (λ i. Sound (suc i) (history_by codes jobs cells i) (event_at codes jobs cells i)) (eqb-true p q t) (faultless_sound (suc p) (history_by codes jobs cells p) (event_at codes jobs cells p) good))
       (λ f.
-      let later' : first_fault (suc (suc p)) (history_by codes jobs cells (suc p)) (events_from codes jobs cells (suc p) m) ≡ Faultless =
+      let later' : first_fault (suc (suc p)) (history_by codes jobs cells (suc p)) (events_from codes jobs cells (suc p) m) ≡ Ok tt =
       ap (λ h. first_fault (suc (suc p)) h (events_from codes jobs cells (suc p) m)) (sym (snoc p))
       ∙ sym (found_later (event_fault (suc p) (history_by codes jobs cells p) (event_at codes jobs cells p)) (suc p) (first_fault (suc (suc p)) (history_by codes jobs cells p ++ event_at codes jobs cells p ∷ []) (events_from codes jobs cells (suc p) m)) good)
       ∙ line in
       sound_from m (suc p) n (omega arith) later' q (omega (arith, eqb-false p q f)) b)
 
-  module _ (n : ℕ) (g : Faultless ≡ first_fault 1 [] (history_by codes jobs cells n)) where
+  module _ (n : ℕ) (g : Ok tt ≡ first_fault 1 [] (history_by codes jobs cells n)) where
     -- each of the lines is sound
     pub line_sound : (q : ℕ) → q < n → Sound (suc q) (history_by codes jobs cells q) (event_at codes jobs cells q)
     unfolding history_by
@@ -161,20 +157,15 @@ module _ (codes jobs cells : List ℕ) where
         (sym (ap (λ t. t && leb 64 (get_or cells p 0)) (lt-ltb (get_or codes p 0) 3 h)) ∙ sym (above_of (get_or codes p 0) (get_or jobs p 0) (get_or cells p 0)) ∙ (line_sound p b).low)
 
 -- the job of a line without a fault had not ended
-pub open_line : (codes jobs cells : List ℕ) (p : ℕ) → none ≡ event_fault (p + 1) (history_by codes jobs cells p) (event_at codes jobs cells p) → marked ends_job (get_or jobs p 0) (history_by codes jobs cells p) ≡ false
+pub open_line : (codes jobs cells : List ℕ) (p : ℕ) → None ≡ event_fault (p + 1) (history_by codes jobs cells p) (event_at codes jobs cells p) → marked ends_job (get_or jobs p 0) (history_by codes jobs cells p) ≡ false
 unfolding event_at
 open_line codes jobs cells p g =
     subst (λ j. marked ends_job j (history_by codes jobs cells p) ≡ false) (job_of_lem (get_or codes p 0) (get_or jobs p 0) (get_or cells p 0))
     (faultless_sound (p + 1) (history_by codes jobs cells p) (event_by (get_or codes p 0) (get_or jobs p 0) (get_or cells p 0)) (sym g)).open'
 
 -- a faultless line, passed with the flags of the ended jobs
-pub line_passed : (codes jobs cells : List ℕ) (n : ℕ) (all : Found) (p : ℕ) (r : Fault) (flags : List Bool) (j : ℕ) (b : Bool) → r ≡ Nothing → due_of r ≡ event_fault (p + 1) (history_by codes jobs cells p) (event_at codes jobs cells p) → p < n → p < 4096 →
+pub line_passed : (codes jobs cells : List ℕ) (n : ℕ) (all : Found) (p : ℕ) (flags : List Bool) (j : ℕ) (b : Bool) → None ≡ event_fault (p + 1) (history_by codes jobs cells p) (event_at codes jobs cells p) → p < n →
     Flagged flags (history_by codes jobs cells p) → At codes jobs cells n all p → j ≡ get_or jobs p 0 → j < 256 → b ≡ (eqb (get_or codes p 0) 3 || eqb (get_or codes p 0) 4) →
-    (p + 1 ≤ n) × (p + 1 ≤ 4096) × Flagged (set flags j b) (history_by codes jobs cells (p + 1)) × At codes jobs cells n all (p + 1)
-line_passed codes jobs cells n all p r flags j b e o h k f a q small w =
-    let none' = due_none r (event_fault (p + 1) (history_by codes jobs cells p) (event_at codes jobs cells p)) e o in
-    (omega arith, omega arith, flags_more codes jobs cells p j flags b f q small (open_line codes jobs cells p none') w, at_more codes jobs cells n all p h none' a)
-
--- a line whose fault is due is found
-pub line_due : (codes jobs cells : List ℕ) (n : ℕ) (all : Found) (p : ℕ) (r : Fault) (why : Refusal) → At codes jobs cells n all p → p < n → r ≡ Due why → due_of r ≡ event_fault (p + 1) (history_by codes jobs cells p) (event_at codes jobs cells p) → Faulty (p + 1) why ≡ all
-line_due codes jobs cells n all p r why a h e o = at_found codes jobs cells n all p why h (due_some r (event_fault (p + 1) (history_by codes jobs cells p) (event_at codes jobs cells p)) why e o) a
+    Flagged (set flags j b) (history_by codes jobs cells (p + 1)) × At codes jobs cells n all (p + 1)
+line_passed codes jobs cells n all p flags j b o h f a q small w =
+    (flags_more codes jobs cells p j flags b f q small (open_line codes jobs cells p o) w, at_more codes jobs cells n all p h o a)

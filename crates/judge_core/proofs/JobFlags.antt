@@ -18,11 +18,11 @@ use Rattle.judge_core.specs.Lists.{values_of}
 use Rattle.judge_core.specs.Counted.{has_commit, ByteJobs}
 use Rattle.judge_core.specs.Left.{left_of}
 use Rattle.judge_core.specs.Preceding.{Known}
+use Rattle.judge_core.specs.Taking.{Took}
 use Rattle.judge_core.proofs.Tabled.{tab_at}
 use Rattle.judge_core.proofs.Listing.{listed_is, listed_has, listed_ascending, listed_fewer}
 use Rattle.judge_core.proofs.Marked.{has_commit_lem}
 use Rattle.judge_core.proofs.PartEdges.{commit_job}
-use Rattle.judge_core.proofs.Said.{Took}
 
 module _ (codes jobs cells : List ℕ) (n : ℕ) (b : ByteJobs jobs n) (done : List Bool) (d : done ≡ values_of (has_commit codes jobs n) 256) where
   -- a flag says whether its job has a c

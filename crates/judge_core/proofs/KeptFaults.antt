@@ -4,7 +4,7 @@ use Prim.Native.Nat.{ℕ, suc, ◌+◌, ◌≤◌, ◌<◌}
 use mathlib.Core.Path.{◌≡◌, refl, sym, ap, ◌∙◌}
 use mathlib.Core.Bool.{Bool, true, false, not, ◌&&◌, ◌||◌, or-false}
 use mathlib.Core.List.{List, [], ◌∷◌}
-use mathlib.Core.Option.{Option, none, some}
+use Rattle.std.specs.Prelude.{None, Some}
 use native.Mathlib.Numerals.{add-one}
 use native.Mathlib.Omega.{arith}
 use lib.Dec.{eqb, ltb, leb}
@@ -12,16 +12,13 @@ use lib.ListN.{get_or, set, replicate, length-set, length-replicate, get_or-repl
 use lib.Seq.{get_or-set_same, get_or-set_other}
 use borrow.Author.Tests.{eqb-true, eqb-false, eq-eqb, ne_eqb, lt-ltb, le-ltb, ltb-true, ltb-false, le-leb, lt-leb}
 use Rattle.laws.specs.Choice.{pick, by_test}
-use Rattle.terms.specs.declared.refusals.Refusal.{Refusal}
 use Rattle.terms.specs.declared.refusals.Refusal.TheVariants.{CellAbove, TooManyLines, JobOutside, Ended}
 use Rattle.conflict.specs.History.{History, marked}
 use Rattle.conflict.proofs.Appended.{marked_append}
 use Rattle.conflict.proofs.OneEvent.{marked_none, marked_does, marked_ends, commit_not_back, give_up_not_back, back_is_back}
 use Rattle.judge_rules.specs.Arrays.{event_by, history_by}
 use Rattle.judge_core.specs.Meeting.{action_by}
-use Rattle.judge_core.specs.declared.kept.Fault.{Fault}
-use Rattle.judge_core.specs.declared.kept.Fault.TheVariants.{Nothing, Due}
-use Rattle.judge_core.specs.Kept.{job_of, above, ends_job, event_fault, event_at, due_of, Flagged}
+use Rattle.judge_core.specs.Kept.{job_of, above, ends_job, event_fault, event_at, Flagged}
 use Rattle.judge_core.proofs.Codes.{mark_by, act_event, end_event}
 
 module _ (c job cell : ℕ) where
@@ -70,13 +67,13 @@ module _ (codes jobs cells : List ℕ) (p : ℕ) where
       (ends_line (get_or codes p 0) (get_or jobs p 0) (get_or cells p 0) j [] ∙ rw (marked_none ends_job j) (or-false (eqb (get_or jobs p 0) j && (eqb (get_or codes p 0) 3 || eqb (get_or codes p 0) 4))))
 
   -- a line too many is refused whatever it is
-  pub fault_many : (before : History) → 4096 ≤ p → some TooManyLines ≡ event_fault (p + 1) before (event_at codes jobs cells p)
+  pub fault_many : (before : History) → 4096 ≤ p → Some TooManyLines ≡ event_fault (p + 1) before (event_at codes jobs cells p)
   unfolding event_fault
   fault_many before h = rw (lt-ltb 4096 (p + 1) (omega arith))
 
   module _ (before : History) (h : p < 4096) (j : ℕ) (q : j ≡ get_or jobs p 0) (small : j < 256) where
     -- the tests that are left of any other
-    fault_is : event_fault (p + 1) before (event_at codes jobs cells p) ≡ pick (eqb j 0) (some JobOutside) (pick (ltb (get_or codes p 0) 3 && leb 64 (get_or cells p 0)) (some CellAbove) (pick (marked ends_job j before) (some Ended) none))
+    fault_is : event_fault (p + 1) before (event_at codes jobs cells p) ≡ pick (eqb j 0) (Some JobOutside) (pick (ltb (get_or codes p 0) 3 && leb 64 (get_or cells p 0)) (Some CellAbove) (pick (marked ends_job j before) (Some Ended) None))
     unfolding event_fault event_at
     fault_is =
         rw (le-ltb 4096 (p + 1) (omega arith), job_of_lem (get_or codes p 0) (get_or jobs p 0) (get_or cells p 0), above_of (get_or codes p 0) (get_or jobs p 0) (get_or cells p 0), ← q, le-leb j 255 (omega arith))
@@ -85,23 +82,23 @@ module _ (codes jobs cells : List ℕ) (p : ℕ) where
         (λ f. rw (f, le-leb 1 j (omega (arith, eqb-false j 0 f)))))
 
     -- 12
-    pub fault_outside : j ≡ 0 → some JobOutside ≡ event_fault (p + 1) before (event_at codes jobs cells p)
-    fault_outside z = sym (fault_is ∙ rw (eq-eqb j 0 z))
+    pub fault_outside : j ≡ 0 → Some JobOutside ≡ event_fault (p + 1) before (event_at codes jobs cells p)
+    fault_outside z = rw (fault_is, eq-eqb j 0 z)
 
     module _ (z : j ≡ 0 → ⊥) where
       module _ (b : Bool) (e : b ≡ (ltb (get_or codes p 0) 3 && leb 64 (get_or cells p 0))) where
         -- 2
-        pub fault_above : b ≡ true → some CellAbove ≡ event_fault (p + 1) before (event_at codes jobs cells p)
-        fault_above t = sym (fault_is ∙ rw (ne_eqb j 0 z, sym e ∙ t))
+        pub fault_above : b ≡ true → Some CellAbove ≡ event_fault (p + 1) before (event_at codes jobs cells p)
+        fault_above t = rw (fault_is, ne_eqb j 0 z, sym e ∙ t)
 
         module _ (low : b ≡ false) (flags : List Bool) (f : Flagged flags before) where
           -- 13
-          pub fault_ended : get_or flags j false ≡ true → some Ended ≡ event_fault (p + 1) before (event_at codes jobs cells p)
-          fault_ended t = sym (fault_is ∙ rw (ne_eqb j 0 z, sym e ∙ low, sym (f.says j small) ∙ t))
+          pub fault_ended : get_or flags j false ≡ true → Some Ended ≡ event_fault (p + 1) before (event_at codes jobs cells p)
+          fault_ended t = rw (fault_is, ne_eqb j 0 z, sym e ∙ low, sym (f.says j small) ∙ t)
 
           -- or none
-          pub fault_none : get_or flags j false ≡ false → none ≡ event_fault (p + 1) before (event_at codes jobs cells p)
-          fault_none t = sym (fault_is ∙ rw (ne_eqb j 0 z, sym e ∙ low, sym (f.says j small) ∙ t))
+          pub fault_none : get_or flags j false ≡ false → None ≡ event_fault (p + 1) before (event_at codes jobs cells p)
+          fault_none t = rw (fault_is, ne_eqb j 0 z, sym e ∙ low, sym (f.says j small) ∙ t)
 
 -- before the first line nobody has ended
 pub flags_none : (codes jobs cells : List ℕ) → Flagged (replicate 256 false) (history_by codes jobs cells 0)
@@ -121,24 +118,3 @@ flags_more codes jobs cells p j flags b f q small over e =
           (λ g. rw g
           (get_or-set_other flags j i b false (λ r. eqb-false j i g (sym r)) ∙ f.says i l ∙ sym (or-false (marked ends_job i (history_by codes jobs cells p))))));
     }
-
--- a fault that is due, and none
-pub due_some : (r : Fault) (o : Option Refusal) (why : Refusal) → r ≡ Due why → due_of r ≡ o → some why ≡ o
-due_some r o why e h = ap due_of (sym e) ∙ h
-
-pub due_none : (r : Fault) (o : Option Refusal) → r ≡ Nothing → due_of r ≡ o → none ≡ o
-due_none r o e h = ap due_of (sym e) ∙ h
-
--- a line that is no action has no cell, and one that is has the one that is looked at
-pub no_cell : (code cell : ℕ) → 3 ≤ code → false ≡ (ltb code 3 && leb 64 cell)
-no_cell code cell h = rw (le-ltb code 3 h)
-
-pub its_cell : (code cell r : ℕ) → code < 3 → r ≡ cell → leb 64 r ≡ (ltb code 3 && leb 64 cell)
-its_cell code cell r h e = rw (lt-ltb code 3 h, e)
-
--- 3 ends a job, and of the others 4
-pub ends_by_commit : (code : ℕ) → code ≡ 3 → true ≡ (eqb code 3 || eqb code 4)
-ends_by_commit code e = rw (eq-eqb code 3 e)
-
-pub ends_by_give_up : (code : ℕ) → (code ≡ 3 → ⊥) → eqb code 4 ≡ (eqb code 3 || eqb code 4)
-ends_by_give_up code n = rw (ne_eqb code 3 n)

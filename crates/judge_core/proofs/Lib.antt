@@ -21,7 +21,6 @@ pub mod SameEdges
 pub mod TakingAway
 pub mod Trail
 pub mod Turning
-pub mod Putting
 pub mod Assembled
 pub mod Workings
 pub mod Said

@@ -14,11 +14,12 @@ use Rattle.judge_rules.specs.Order.{Edges, first, preceded, ready}
 use Rattle.judge_rules.specs.Knot.{predecessor}
 use Rattle.judge_rules.proofs.Firsts.{by_one, first_is, first_none, first_least}
 use Rattle.judge_rules.proofs.Preceded.{preceded_by, precedes}
+use Rattle.std.specs.Prelude.{None, Some}
 use Rattle.judge_core.specs.Left.{left_of, left_from, or_nobody}
 use Rattle.judge_core.specs.Preceding.{predecessor_from, Preceding, Known}
 use Rattle.judge_core.proofs.Listing.{listed_ascending}
 use Rattle.judge_core.proofs.Counting.{zero_everywhere}
-use Rattle.judge_core.proofs.Seeking.{seek_start, seek_gone, seek_past, seek_found, seek_none, seek_behind, left_small, left_has, found_left, none_left}
+use Rattle.judge_core.proofs.Seeking.{seek_start, seek_gone, seek_past, seek_some, seek_nobody, seek_behind, left_small, left_has, found_left, none_left}
 
 -- a job found is one of 256, and nobody is one more
 found_low : (left : List Bool) (test : ℕ → Bool) → or_nobody (first test (left_of left)) ≤ 256
@@ -185,11 +186,11 @@ module _ (e : Edges) (left : List Bool) (predecessors : List ℕ) where
           }
 
       -- one that has none is ready
-      pub passed_ready : r ≡ 256 → (j ≡ or_nobody (ready e (left_of left))) × (Preceding e left (set predecessors j r) × Known e left (set predecessors j r) j)
+      pub passed_ready : r ≡ 256 → (Some j ≡ ready e (left_of left)) × Preceding e left (set predecessors j r)
       passed_ready n =
-          (seek_found left (λ k. not (preceded e (left_of left) k)) j (ready e (left_of left)) b l (none_known e left j r found n) s.next, (preceding_more e left predecessors s.kept j r b l looked, λ k c o. known_more e left predecessors s.kept j r b l looked s.known k (omega arith) o))
+          (sym (seek_some left (λ k. not (preceded e (left_of left) k)) j (ready e (left_of left)) b l (none_known e left j r found n) s.next), preceding_more e left predecessors s.kept j r b l looked)
 
   -- when all are passed nobody is ready
-  pub passed_all : (j : ℕ) → 256 ≤ j → Passed e left predecessors j → (256 ≡ or_nobody (ready e (left_of left))) × (Preceding e left predecessors × Known e left predecessors 256)
+  pub passed_all : (j : ℕ) → 256 ≤ j → Passed e left predecessors j → (None ≡ ready e (left_of left)) × (Preceding e left predecessors × Known e left predecessors 256)
   passed_all j h s =
-      (seek_none left (λ k. not (preceded e (left_of left) k)) j (ready e (left_of left)) h s.next, (s.kept, λ k c o. s.known k (omega arith) o))
+      (sym (seek_nobody left (λ k. not (preceded e (left_of left) k)) j (ready e (left_of left)) h s.next), (s.kept, λ k c o. s.known k (omega arith) o))

@@ -4,8 +4,8 @@ use Prim.Native.Nat.{ℕ, zero, suc}
 use mathlib.Core.Path.{◌≡◌, refl, ap, ap₂}
 use mathlib.Core.Bool.{Bool, true, not, ◌||◌}
 use mathlib.Core.List.{List, [], ◌∷◌}
-use mathlib.Core.Option.{some}
 use lib.ListN.{length}
+use Rattle.std.specs.Prelude.{Some}
 use Rattle.laws.specs.Choice.{pick}
 use Rattle.laws.specs.Lists.{member}
 use Rattle.laws.proofs.Lists.{member_first, member_more}
@@ -19,7 +19,7 @@ first_same : (f g : ℕ → Bool) (js : List ℕ) → ((j : ℕ) → member j js
 unfolding first
 first_same f g [] h = refl
 first_same f g (j ∷ js) h =
-    ap₂ (λ b o. pick b (some j) o) (h j (member_first j js)) (first_same f g js (λ k m. h k (member_more j js k m)))
+    ap₂ (λ b o. pick b (Some j) o) (h j (member_first j js)) (first_same f g js (λ k m. h k (member_more j js k m)))
 
 module _ (e f : Edges) where
   -- the edges say the same of the jobs

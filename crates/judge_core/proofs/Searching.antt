@@ -24,6 +24,9 @@ member_at [] k h = absurd (omega arith)
 member_at (y ∷ ys) zero h = or_first (eqb y y) (member y ys) (same_refl y)
 member_at (y ∷ ys) (suc k) h = or_second (eqb y (get_or ys k 0)) (member (get_or ys k 0) ys) (member_at ys k (omega arith))
 
+pub at_member : (ys : List ℕ) (k y : ℕ) → k < length ys → y ≡ get_or ys k 0 → member y ys ≡ true
+at_member ys k y h e = rw e (member_at ys k h)
+
 -- in ascending order nothing before a place is larger than what stands there
 pub up_to : (ys : List ℕ) (k : ℕ) → ascending ys ≡ true → k < length ys → (y : ℕ) → member y (take (suc k) ys) ≡ true → y ≤ get_or ys k 0
 unfolding member ascending
@@ -63,12 +66,12 @@ module _ (clash : ℕ → ℕ → Bool) (ys : List ℕ) where
           ∙ meets_append (take (i - 1) xs) (get_or xs (i - 1) 0 ∷ [])
 
       -- a line that meets none is passed
-      pub meets_past : 0 < i → i ≤ length xs → meets_later clash (get_or xs (i - 1) 0) ys ≡ false → meetings clash xs ys ≡ meetings clash (take i xs) ys → meetings clash xs ys ≡ meetings clash (take (i - 1) xs) ys
-      meets_past p h f e = e ∙ meets_last p h ∙ rw f (or-false (meetings clash (take (i - 1) xs) ys))
+      pub meets_past : (x : ℕ) → 0 < i → i ≤ length xs → x ≡ get_or xs (i - 1) 0 → meets_later clash x ys ≡ false → meetings clash xs ys ≡ meetings clash (take i xs) ys → meetings clash xs ys ≡ meetings clash (take (i - 1) xs) ys
+      meets_past x p h q f e = e ∙ meets_last p h ∙ rw (← q, f) (or-false (meetings clash (take (i - 1) xs) ys))
 
       -- a line that meets one decides
-      pub meets_found : 0 < i → i ≤ length xs → meets_later clash (get_or xs (i - 1) 0) ys ≡ true → meetings clash xs ys ≡ meetings clash (take i xs) ys → true ≡ meetings clash xs ys
-      meets_found p h t e = sym (e ∙ meets_last p h ∙ rw t (or-true (meetings clash (take (i - 1) xs) ys)))
+      pub meets_found : (x : ℕ) → 0 < i → i ≤ length xs → x ≡ get_or xs (i - 1) 0 → meets_later clash x ys ≡ true → meetings clash xs ys ≡ meetings clash (take i xs) ys → true ≡ meetings clash xs ys
+      meets_found x p h q t e = sym (e ∙ meets_last p h ∙ rw (← q, t) (or-true (meetings clash (take (i - 1) xs) ys)))
 
       -- when all lines are passed, none meets one
       pub meets_end : i ≡ 0 → meetings clash xs ys ≡ meetings clash (take i xs) ys → false ≡ meetings clash xs ys

@@ -4,7 +4,6 @@ use Prim.Native.Nat.{ℕ, suc, ◌+◌, ◌≤◌, ◌<◌}
 use mathlib.Core.Path.{◌≡◌, refl, sym, ap, ◌∙◌}
 use mathlib.Core.Bool.{Bool, false, not}
 use mathlib.Core.List.{List, [], ◌∷◌, ◌++◌, append_assoc, append-nil}
-use mathlib.Core.Option.{none, some}
 use native.Mathlib.Numerals.{add-one}
 use native.Mathlib.Omega.{arith}
 use lib.Dec.{eqb}
@@ -16,9 +15,10 @@ use Rattle.judge_rules.specs.Order.{Edges, ready, preceded, without, ends, leads
 use Rattle.judge_rules.proofs.Without.{stays, left_other, left_before, shorter, ascending_left}
 use Rattle.judge_rules.proofs.Preceded.{ready_is}
 use Rattle.judge_rules.proofs.Taking.{times_enough}
-use Rattle.judge_core.specs.Left.{left_of, or_nobody}
+use Rattle.std.specs.Prelude.{None, Some}
+use Rattle.judge_core.specs.Left.{left_of}
 use Rattle.judge_core.proofs.Listing.{listed_is, listed_has, listed_few, listed_only, listed_ascending}
-use Rattle.judge_core.proofs.Seeking.{found_left, none_left}
+use Rattle.judge_core.proofs.Seeking.{found_small}
 
 -- a flag struck takes its job away
 left_without : (left : List Bool) (j : ℕ) → length left ≡ 256 → j < 256 → left_of (set left j false) ≡ without j (left_of left)
@@ -62,43 +62,43 @@ module _ (e : Edges) where
   taken_again jobs = times_enough e (length jobs) (suc (length jobs)) jobs (omega arith) (omega arith)
 
   -- the job that is ready is taken, and then the others
-  taken_next : (jobs : List ℕ) (j : ℕ) → ready e jobs ≡ some j → taken e (length jobs) jobs ≡ leads j (taken e (length (without j jobs)) (without j jobs))
+  taken_next : (jobs : List ℕ) (j : ℕ) → ready e jobs ≡ Some j → taken e (length jobs) jobs ≡ leads j (taken e (length (without j jobs)) (without j jobs))
   unfolding taken
   taken_next jobs j h =
       let less : length (without j jobs) < length jobs = shorter j jobs (ready_is e jobs j h).0 in
       taken_again jobs ∙ rw h (ap (leads j) (times_enough e (length jobs) (length (without j jobs)) (without j jobs) (omega arith) (omega arith)))
 
   -- where none is ready nothing is taken
-  taken_last : (jobs : List ℕ) → ready e jobs ≡ none → taken e (length jobs) jobs ≡ ends jobs
+  taken_last : (jobs : List ℕ) → ready e jobs ≡ None → taken e (length jobs) jobs ≡ ends jobs
   unfolding taken
   taken_last jobs h = taken_again jobs ∙ rw h
 
   -- the order of the jobs begins with the one that is ready
-  order_next : (jobs : List ℕ) (j : ℕ) → ready e jobs ≡ some j → order_of e jobs ≡ j ∷ order_of e (without j jobs)
+  order_next : (jobs : List ℕ) (j : ℕ) → ready e jobs ≡ Some j → order_of e jobs ≡ j ∷ order_of e (without j jobs)
   unfolding order_of leads
   order_next jobs j h = ap (λ t. t.order) (taken_next jobs j h)
 
   -- and what remains of the others remains
-  stuck_next : (jobs : List ℕ) (j : ℕ) → ready e jobs ≡ some j → stuck e jobs ≡ stuck e (without j jobs)
+  stuck_next : (jobs : List ℕ) (j : ℕ) → ready e jobs ≡ Some j → stuck e jobs ≡ stuck e (without j jobs)
   unfolding stuck leads
   stuck_next jobs j h = ap (λ t. t.remaining) (taken_next jobs j h)
 
   -- where none is ready the order is at its end
-  order_last : (jobs : List ℕ) → ready e jobs ≡ none → order_of e jobs ≡ []
+  order_last : (jobs : List ℕ) → ready e jobs ≡ None → order_of e jobs ≡ []
   unfolding order_of ends
   order_last jobs h = ap (λ t. t.order) (taken_last jobs h)
 
   -- and all remain
-  stuck_last : (jobs : List ℕ) → ready e jobs ≡ none → stuck e jobs ≡ jobs
+  stuck_last : (jobs : List ℕ) → ready e jobs ≡ None → stuck e jobs ≡ jobs
   unfolding stuck ends
   stuck_last jobs h = ap (λ t. t.remaining) (taken_last jobs h)
 
-  module _ (jobs : List ℕ) (left : List Bool) (placed : List ℕ) (k j : ℕ) (found : j ≡ or_nobody (ready e (left_of left))) (g : Going e jobs left placed k) where
-    module _ (n : j ≡ 256 → ⊥) where
+  module _ (jobs : List ℕ) (left : List Bool) (placed : List ℕ) (k : ℕ) (g : Going e jobs left placed k) where
+    module _ (j : ℕ) (found : Some j ≡ ready e (left_of left)) where
       -- the job found is ready, and is one of 256
-      found_ready : (ready e (left_of left) ≡ some j) × (j < 256)
+      found_ready : (ready e (left_of left) ≡ Some j) × (j < 256)
       unfolding ready
-      found_ready = found_left left (λ i. not (preceded e (left_of left) i)) j found n
+      found_ready = (sym found, found_small left (λ i. not (preceded e (left_of left) i)) j (sym found))
 
       -- without it fewer are left
       pub going_fewer : length (left_of (set left j false)) < length (left_of left)
@@ -123,11 +123,10 @@ module _ (e : Edges) where
                 ∙ ap (λ l. take (k + 1) (set placed k j) ++ order_of e l) (sym (left_without left j g.flags found_ready.1));
           }
 
-    module _ (n : j ≡ 256) where
+    module _ (found : None ≡ ready e (left_of left)) where
       -- where nobody is found none is ready
-      found_none : ready e (left_of left) ≡ none
-      unfolding ready
-      found_none = none_left left (λ i. not (preceded e (left_of left) i)) j found n
+      found_none : ready e (left_of left) ≡ None
+      found_none = sym found
 
       -- what is left is what remains
       pub going_rest : left_of left ≡ stuck e jobs

@@ -4,13 +4,15 @@ use Prim.Native.Nat.{ℕ, zero, suc, ◌+◌, ◌-◌, ◌≤◌, ◌<◌}
 use mathlib.Core.Path.{◌≡◌, refl, sym, ap, ◌∙◌, subst}
 use mathlib.Core.Bool.{Bool, true, false}
 use mathlib.Core.List.{List, [], ◌∷◌}
-use native.Mathlib.Nat.{add-zero}
 use native.Mathlib.Numerals.{add-one}
 use native.Mathlib.Omega.{arith}
 use lib.ListN.{length, get_or, set, take, drop, length-set, length-drop, drop_of_length-le}
-use lib.Seq.{drop-cons, drop-set-lt, get_or-set_same}
-use borrow.Author.Tests.{eq-eqb, ne_eqb, lt-ltb, le-ltb}
-use lib.Dec.{eqb}
+use lib.Seq.{take_all, drop-cons, drop-set-lt, get_or-set_same}
+use borrow.Author.Tests.{lt-ltb, le-ltb, ltb-true, ltb-false}
+use lib.Dec.{eqb, ltb}
+use Rattle.std.specs.Prelude.{Option, None, Some, ◌==◌}
+use Rattle.std.specs.List.{position, position_or_len}
+use Rattle.std.proofs.lemmas.List.Recursion.{is_position_or_len}
 use Rattle.laws.specs.Choice.{pick, by_test}
 use Rattle.laws.specs.Lists.{member, pos}
 use Rattle.laws.proofs.Lists.{pos_later}
@@ -22,20 +24,26 @@ use Rattle.judge_core.specs.Preceding.{Known, walk_by}
 use Rattle.judge_core.specs.Rounds.{RoundAt}
 use Rattle.judge_core.proofs.Seeking.{left_small, left_is}
 
--- at a job's place it is found
-pub place_here : (trail : List ℕ) (p j : ℕ) → p < length trail → get_or trail p 0 ≡ j → p ≡ p + pos (drop p trail) j
+-- as many elements stand before the first that is job j as before the first that passes the test for it
+pos_is : (j : ℕ) (ks : List ℕ) → pos ks j ≡ position_or_len (λ n. n == j) ks
 unfolding pos
-place_here trail p j h e = rw (drop-cons trail p 0 h, eq-eqb (get_or trail p 0) j e) (sym (add-zero p))
+pos_is j ks =
+    is_position_or_len (λ l. pos l j) (λ n. n == j) refl (λ k l. by_test (eqb k j) (λ t. rw t) (λ f. rw f (omega arith))) ks
 
--- any other job is passed
-pub place_past : (trail : List ℕ) (p j : ℕ) → p < length trail → (get_or trail p 0 ≡ j → ⊥) → p + 1 + pos (drop (p + 1) trail) j ≡ p + pos (drop p trail) j
-unfolding pos
-place_past trail p j h e = rw (drop-cons trail p 0 h, ne_eqb (get_or trail p 0) j e, add-one p) (omega arith)
+-- where a job is found, and where it is not
+place_found : (j p : ℕ) (ks : List ℕ) → Some p ≡ position (λ n. n == j) ks → (p ≡ pos ks j) × (pos ks j < length ks)
+place_found j p ks e =
+    rw (pos_is j ks)
+    (by_test (ltb (position_or_len (λ n. n == j) ks) (length ks))
+    (λ t. let q : Some p ≡ Some (position_or_len (λ n. n == j) ks) = rw t at e in (cc, ltb-true (position_or_len (λ n. n == j) ks) (length ks) t))
+    (λ f. let q : Some p ≡ None = rw f at e in absurd (let z : ◌≡◌ {A = ℕ} 0 1 = cc in omega arith)))
 
--- at the end there is none
-pub place_end : (trail : List ℕ) (p j : ℕ) → length trail ≤ p → p ≡ p + pos (drop p trail) j
-unfolding pos
-place_end trail p j h = rw (drop_of_length-le trail h) (sym (add-zero p))
+place_none : (j : ℕ) (ks : List ℕ) → None ≡ position (λ n. n == j) ks → length ks ≤ pos ks j
+place_none j ks e =
+    rw (pos_is j ks)
+    (by_test (ltb (position_or_len (λ n. n == j) ks) (length ks))
+    (λ t. let q : ◌≡◌ {A = Option ℕ} None (Some (position_or_len (λ n. n == j) ks)) = rw t at e in absurd (let z : ◌≡◌ {A = ℕ} 0 1 = cc in omega arith))
+    (λ f. ltb-false (position_or_len (λ n. n == j) ks) (length ks) f))
 
 -- as many jobs as stand before its first place stand up to it
 take_pos : (j : ℕ) (ks : List ℕ) → take (pos ks j) ks ≡ up_to j ks
@@ -86,70 +94,59 @@ module _ (predecessors : List ℕ) (start : ℕ) (trail : List ℕ) where
       let all : length trail ≤ 257 = omega arith in
       record { wide = w; low = omega arith; small = b; same = rw (drop_of_length-le trail all) }
 
-  module _ (m j p : ℕ) (walked : Walked predecessors start trail (suc m) j) (placed : p ≡ suc m + pos (drop (suc m) trail) j) where
-    -- how many have been seen
-    seen_count : length (drop (suc m) trail) ≡ 256 - m
-    seen_count = rw (length-drop (suc m) trail) (omega (arith, walked.wide))
-
-    -- a job that comes again closes the cycle
-    round_closed : p < 257 → RoundAt (walk_by predecessors 257 [] start) (set trail m j) m p
-    unfolding walk_by
-    round_closed b =
-        let again : member j (drop (suc m) trail) ≡ true = pos_member j (drop (suc m) trail) (omega (arith, seen_count)) in
-        let parts : p - m ≡ suc (pos (drop (suc m) trail) j) = omega arith in
-        record {
-          starting = omega arith;
-          within = rw (length-set trail m j) (omega (arith, walked.wide));
-          listed = rw (parts, put_front trail m j (omega (arith, walked.wide, walked.low)), take_pos j (drop (suc m) trail)) (sym (sym walked.same ∙ rw again));
-        }
-
-    module _ (b : 257 ≤ p) where
-      -- a job that has not been seen goes on
-      fresh : member j (drop (suc m) trail) ≡ false
-      fresh = pos_none j (drop (suc m) trail) (omega (arith, seen_count))
-
-      -- to its smallest predecessor
-      walk_on : get_or predecessors j 0 < 256 → Walked predecessors start (set trail m j) m (get_or predecessors j 0)
-      unfolding walk_by
-      walk_on n =
-          record {
-            wide = length-set trail m j ∙ walked.wide;
-            low = omega (arith, walked.low);
-            small = n;
-            same = rw (put_front trail m j (omega (arith, walked.wide, walked.low))) (sym (sym walked.same ∙ rw (fresh, lt-ltb (get_or predecessors j 0) 256 n)));
-          }
-
-      -- and if it had none there would be no cycle
-      walk_off : 256 ≤ get_or predecessors j 0 → (trail' : List ℕ) → RoundAt (walk_by predecessors 257 [] start) trail' 0 0
-      unfolding walk_by
-      walk_off n trail' =
-          record {
-            starting = omega arith;
-            within = omega arith;
-            listed = sym (sym walked.same ∙ rw (fresh, le-ltb (get_or predecessors j 0) 256 n));
-          }
-
-  module _ (at j p : ℕ) (h : 0 < at) (walked : Walked predecessors start trail at j) (placed : p ≡ at + pos (drop at trail) j) where
+  module _ (at j : ℕ) (h : 0 < at) (walked : Walked predecessors start trail at j) where
     -- the job before the next place
     stepped : Walked predecessors start trail (suc (at - 1)) j
     stepped = let q : at ≡ suc (at - 1) = omega arith in subst (λ k. Walked predecessors start trail k j) q walked
 
-    -- and where it stands
-    standing : p ≡ suc (at - 1) + pos (drop (suc (at - 1)) trail) j
-    standing = let q : at ≡ suc (at - 1) = omega arith in subst (λ k. p ≡ k + pos (drop k trail) j) q placed
+    -- the places behind it
+    behind : take (257 - (at - 1 + 1)) (drop (at - 1 + 1) trail) ≡ drop (suc (at - 1)) trail
+    behind =
+        take_all (257 - (at - 1 + 1)) (drop (at - 1 + 1) trail) (rw (length-drop (at - 1 + 1) trail) (omega (arith, walked.wide)))
+        ∙ ap (λ k. drop k trail) (add-one (at - 1))
+
+    -- how many have been seen
+    seen_count : length (drop (suc (at - 1)) trail) ≡ 257 - at
+    seen_count = rw (length-drop (suc (at - 1)) trail) (omega (arith, walked.wide))
 
     -- a job that comes again closes the cycle
-    pub walked_round : p < 257 → RoundAt (walk_by predecessors 257 [] start) (set trail (at - 1) j) (at - 1) p
-    walked_round b = round_closed (at - 1) j p stepped standing b
+    pub walked_round : (p : ℕ) → Some p ≡ position (λ n. n == j) (take (257 - (at - 1 + 1)) (drop (at - 1 + 1) trail)) → RoundAt (walk_by predecessors 257 [] start) (set trail (at - 1) j) (at - 1) (at - 1 + 1 + p)
+    unfolding walk_by
+    walked_round p again =
+        let seen = drop (suc (at - 1)) trail in
+        let found = place_found j p seen (rw behind at again) in
+        let parts : at - 1 + 1 + p - (at - 1) ≡ suc (pos seen j) = omega (arith, found.0) in
+        record {
+          starting = omega arith;
+          within = rw (length-set trail (at - 1) j) (omega (arith, walked.wide, walked.low, found.0, found.1, seen_count));
+          listed = rw (parts, put_front trail (at - 1) j (omega (arith, walked.wide, walked.low)), take_pos j seen) (sym (sym stepped.same ∙ rw (pos_member j seen found.1)));
+        }
 
-    module _ (b : 257 ≤ p) where
-      -- any other goes on to its smallest predecessor
+    module _ (again : None ≡ position (λ n. n == j) (take (257 - (at - 1 + 1)) (drop (at - 1 + 1) trail))) where
+      -- a job that has not been seen goes on
+      fresh : member j (drop (suc (at - 1)) trail) ≡ false
+      fresh = pos_none j (drop (suc (at - 1)) trail) (place_none j (drop (suc (at - 1)) trail) (rw behind at again))
+
+      -- to its smallest predecessor
       pub walked_more : get_or predecessors j 0 < 256 → Walked predecessors start (set trail (at - 1) j) (at - 1) (get_or predecessors j 0)
-      walked_more n = walk_on (at - 1) j p stepped standing b n
+      unfolding walk_by
+      walked_more n =
+          record {
+            wide = length-set trail (at - 1) j ∙ walked.wide;
+            low = omega (arith, walked.low);
+            small = n;
+            same = rw (put_front trail (at - 1) j (omega (arith, walked.wide, walked.low))) (sym (sym stepped.same ∙ rw (fresh, lt-ltb (get_or predecessors j 0) 256 n)));
+          }
 
       -- and if it had none there would be no cycle
       pub walked_off : 256 ≤ get_or predecessors j 0 → (trail' : List ℕ) → RoundAt (walk_by predecessors 257 [] start) trail' 0 0
-      walked_off n trail' = walk_off (at - 1) j p stepped standing b n trail'
+      unfolding walk_by
+      walked_off n trail' =
+          record {
+            starting = omega arith;
+            within = omega arith;
+            listed = sym (sym stepped.same ∙ rw (fresh, le-ltb (get_or predecessors j 0) 256 n));
+          }
 
   -- when no more jobs may be looked at there is none
   pub walked_out : (at j : ℕ) → at ≡ 0 → Walked predecessors start trail at j → RoundAt (walk_by predecessors 257 [] start) trail 0 0

@@ -6,14 +6,14 @@ use mathlib.Core.Bool.{true, false}
 use mathlib.Core.List.{List, [], ◌∷◌, ◌++◌}
 use native.Mathlib.Omega.{arith}
 use lib.Dec.{eqb}
-use lib.ListN.{length, get_or, take, drop}
+use lib.ListN.{length, get_or, take, drop, length-append}
 use lib.Seq.{drop-cons, split_at}
 use borrow.Author.Tests.{eqb-true, eqb-false, ne_eqb}
 use Rattle.laws.specs.Choice.{by_test, not_both}
-use Rattle.laws.specs.Lists.{member}
+use Rattle.laws.specs.Lists.{member, filled}
 use Rattle.laws.proofs.Parts.{or_either}
-use Rattle.judge_rules.specs.Knot.{least, turn_to, turn}
-use Rattle.judge_rules.proofs.Turns.{up_to_mid, from_mid, least_is, least_low}
+use Rattle.judge_rules.specs.Knot.{least, up_to, from, turn_to, turn}
+use Rattle.judge_rules.proofs.Turns.{cut, up_to_mid, from_mid, least_is, least_low}
 use Rattle.judge_core.proofs.Searching.{member_at}
 
 -- the job at this place is the smallest of the first i, and smaller than each before it
@@ -86,3 +86,18 @@ best_turn (k ∷ ks) best i e b =
           (none_before (k ∷ ks) best (get_or (k ∷ ks) best 0) (λ p l q. omega (arith, b.firstly p l)) (omega arith))
           ∙ ap (λ l. l ++ take best (k ∷ ks)) (sym (drop-cons (k ∷ ks) best 0 inside)),
     )
+
+-- a cycle turned is as long
+pub turn_length : (round : List ℕ) → length (turn round) ≡ length round
+unfolding turn turn_to
+turn_length [] = refl
+turn_length (k ∷ ks) =
+    let m : ℕ = least k ks in
+    let parts : length (k ∷ ks) ≡ length (up_to m (k ∷ ks)) + length (from m (k ∷ ks)) =
+    ap length (cut m (k ∷ ks)) ∙ length-append (up_to m (k ∷ ks)) (from m (k ∷ ks)) in
+    length-append (from m (k ∷ ks)) (up_to m (k ∷ ks)) ∙ omega arith
+
+-- a cycle put into the first places of a buffer, and turned there
+pub turned : (buffer round put first : List ℕ) (m : ℕ) → (m ≤ length round) × (turn round ≡ drop m round ++ take m round) → put ≡ round → first ≡ drop m put ++ take m put → first ++ drop (length round) buffer ≡ filled (turn round) buffer
+unfolding filled
+turned buffer round put first m t p e = rw (e, p, ← t.1, turn_length round)

@@ -1,6 +1,5 @@
 -- The remaining jobs, kept as a flag for each number; and the result of a search among them, which may find none.
-use Rattle.std.specs.Prelude.{ℕ, ◌-◌, Bool, false, List, get_or}
-use Rattle.std.proofs.Math.Option.{Option, none, some}
+use Rattle.std.specs.Prelude.{ℕ, ◌-◌, Bool, false, List, get_or, Option, None, Some}
 use Rattle.judge_core.specs.Lists.{listed}
 use Rattle.judge_core.specs.Sizes.{slots}
 
@@ -14,5 +13,5 @@ left_from left i = listed (λ j. get_or left j false) i (slots - i)
 
 -- the job found, or one above the largest if there is none
 unfoldable pub or_nobody : Option ℕ → ℕ
-or_nobody none = slots
-or_nobody (some j) = j
+or_nobody None = slots
+or_nobody (Some j) = j

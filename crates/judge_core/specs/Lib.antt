@@ -9,3 +9,6 @@ pub mod Preceding
 pub mod Rounds
 pub mod Kept
 pub mod RunEnds
+pub mod Edges
+pub mod Histories
+pub mod Taking

@@ -1,11 +1,9 @@
 -- Where runs end, over the arrays that keep a history; from that, which lines are dirty reads, and which writes and increments make them dirty (02, No. 2).
-use Rattle.std.specs.Prelude.{ℕ, zero, suc, ◌-◌, ◌≤◌, ◌<◌, ◌≡◌, Bool, true, false, ◌&&◌, ◌||◌, List, eqb, ltb, leb, length, get_or}
-use Rattle.std.proofs.Math.Option.{Option, none, some}
+use Rattle.std.specs.Prelude.{ℕ, zero, suc, ◌-◌, ◌≤◌, ◌<◌, ◌≡◌, Bool, true, false, ◌&&◌, ◌||◌, List, eqb, ltb, leb, length, get_or, Option, None, Some}
 use Rattle.laws.specs.Choice.{pick}
 use Rattle.terms.specs.Limits.{judged_lines}
 use Rattle.conflict.specs.Dirty.{ReadOf}
 use Rattle.judge_core.specs.declared.dirty.Dirt.{Dirt}
-use Rattle.judge_core.specs.declared.dirty.Dirt.TheVariants.{Clean, Read}
 
 -- where the run of line p's job ends as seen from p: 0 if the line is a c, p if it is another mark, else the end as seen from the next line
 unfoldable pub end_by : ℕ → ℕ → ℕ → ℕ
@@ -62,7 +60,7 @@ pub record LastWrite (codes cells ends : List ℕ) (p q : ℕ) : Type 0 where
   pub spoils : q < p → spoils_at codes cells ends p q ≡ true
   pub later : (x : ℕ) → x < p → spoils_at codes cells ends p x ≡ true → (x ≤ q) × (q < p)
 
--- clean, or reader and writer of the first dirty read
-unfoldable pub dirt_of : Option ReadOf → Dirt
-dirt_of none = Clean
-dirt_of (some d) = Read d.reader d.writer
+-- reader and writer of the first dirty read, if there is one
+unfoldable pub dirt_of : Option ReadOf → Option Dirt
+dirt_of None = None
+dirt_of (Some d) = Some (record { reader = d.reader; writer = d.writer })

@@ -8,6 +8,7 @@ mod edges;
 mod grouping;
 pub mod kept;
 mod knots;
+mod lines;
 mod order;
 mod sets;
 mod sizes;

@@ -1,46 +1,41 @@
 // The order: the smallest remaining job without a remaining predecessor is taken away, again and again (01, The judge's rules: Orderly).
-ghost use Rattle.std.specs.Prelude.{◌≡◌, true, false, ◌<◌, length, get_or, take};
-ghost use Rattle.judge_rules.specs.Order.{first, ready, order_of, stuck};
-ghost use Rattle.judge_core.specs.Grouped.{edge_by};
-ghost use Rattle.judge_core.specs.Reaching.{Worked};
-ghost use Rattle.judge_core.specs.Left.{left_of, or_nobody};
+ghost use Rattle.std.specs.Prelude.{◌≡◌, true, false, ◌<◌, length, get_or, take, IfNone};
+ghost use Rattle.std.specs.List.{position};
+ghost use Rattle.judge_rules.specs.Order.{ready, order_of, stuck};
+ghost use Rattle.judge_core.specs.Edges.{edges_of};
+ghost use Rattle.judge_core.specs.Left.{left_of};
 ghost use Rattle.judge_core.specs.Preceding.{predecessor_from, Preceding, Known};
 ghost use Rattle.judge_core.specs.Sizes.{slots};
 
-use crate::edges::edge_between;
-use crate::sizes::{KEYS, KIND_SETS, SLOTS, STOPS};
-use terms::limits::JUDGED_LINES;
+use crate::edges::Graph;
+use crate::sizes::SLOTS;
 
-// No job: one above the largest.
+// No job: one above the largest. In a table of predecessors a job's next search begins at its entry, and from here on there is nothing to search.
 pub const NOBODY: usize = SLOTS;
+
+// What is left when no remaining job is ready, the jobs taken away before in order, and the smallest remaining predecessor of each remaining job.
+#[derive(Drop)]
+pub struct Taken {
+    pub left: [bool; SLOTS],
+    pub placed: [u8; SLOTS],
+    pub count: usize,
+    pub predecessors: [usize; SLOTS],
+}
 
 // The smallest remaining job at or above `from` that has an edge to job j. If `from` itself remains, it is known to have an edge, and nothing is searched.
 #[tactic(auto, unfolding(crate::specs::Preceding::predecessor_from), using(crate::proofs::Seeking::left_not_0, crate::proofs::Seeking::seek_found, crate::proofs::Seeking::seek_gone, crate::proofs::Seeking::seek_none, crate::proofs::Seeking::seek_past))]
-fn predecessor_from<'a>(
-    codes: &'a [u8; JUDGED_LINES],
-    jobs: &'a [u8; JUDGED_LINES],
-    cells: &'a [u8; JUDGED_LINES],
-    lines: &'a [u16],
-    starts: &'a [usize; STOPS],
-    lasts: &'a [u16; KEYS],
-    sets: &'a [u64; KIND_SETS],
-    left: &'a [bool; SLOTS],
-    from: usize,
-    j: usize,
-) -> usize
-    requires j_nonzero { (0 < j) × (j < slots) × Worked codes.now jobs.now cells.now lines.now starts.now lasts.now sets.now }
-    requires false_value { (get_or left.now 0 false ≡ false) × (from < slots → get_or left.now from false ≡ true → edge_by codes.now jobs.now cells.now lines.now starts.now from j ≡ true) }
-    ensures { result ≡ predecessor_from (edge_by codes.now jobs.now cells.now lines.now starts.now) left.now from j }
+fn predecessor_from(graph: Graph, left: &[bool; SLOTS], from: usize, j: usize) -> usize
+    requires j_nonzero { (0 < j) × (j < slots) }
+    requires false_value { (get_or left.now 0 false ≡ false) × (from < slots → get_or left.now from false ≡ true → edges_of graph from j ≡ true) }
+    ensures { result ≡ predecessor_from (edges_of graph.entry) left.now from j }
 {
     if from < SLOTS && left[from] {
         return from;
     }
-    let mut i = from;
-    while i < SLOTS {
-        if left[i] && edge_between(codes, jobs, cells, lines, starts, lasts, sets, i, j) {
+    for i in from..SLOTS {
+        if left[i] && graph.edge_between(i, j) {
             return i;
         }
-        i += 1;
     }
     NOBODY
 }
@@ -48,99 +43,49 @@ fn predecessor_from<'a>(
 // The smallest remaining job without a remaining predecessor. A job whose smallest predecessor is gone searches on from there: smaller jobs are gone too, or have no edge to it.
 // So no pair of jobs is searched twice.
 #[tactic(auto, using(crate::proofs::Predecessors::passed_all, crate::proofs::Predecessors::passed_more, crate::proofs::Predecessors::passed_none, crate::proofs::Predecessors::passed_ready, crate::proofs::Predecessors::passed_skip, crate::proofs::Seeking::left_not_0))]
-fn ready_job<'a>(
-    codes: &'a [u8; JUDGED_LINES],
-    jobs: &'a [u8; JUDGED_LINES],
-    cells: &'a [u8; JUDGED_LINES],
-    lines: &'a [u16],
-    starts: &'a [usize; STOPS],
-    lasts: &'a [u16; KEYS],
-    sets: &'a [u64; KIND_SETS],
-    left: &'a [bool; SLOTS],
-    predecessors: &mut [usize; SLOTS],
-) -> usize
-    requires { (get_or left.now 0 false ≡ false) × Preceding (edge_by codes.now jobs.now cells.now lines.now starts.now) left.now predecessors.old × Worked codes.now jobs.now cells.now lines.now starts.now lasts.now sets.now }
-    ensures value { result ≡ or_nobody (ready (edge_by codes.now jobs.now cells.now lines.now starts.now) (left_of left.now)) }
-    ensures preceding { Preceding (edge_by codes.now jobs.now cells.now lines.now starts.now) left.now predecessors.new × Known (edge_by codes.now jobs.now cells.now lines.now starts.now) left.now predecessors.new result }
+fn ready_job(graph: Graph, left: &[bool; SLOTS], predecessors: &mut [usize; SLOTS]) -> Option<usize>
+    requires { (get_or left.now 0 false ≡ false) × Preceding (edges_of graph) left.now predecessors.old }
+    ensures value { result ≡ ready (edges_of graph.entry) (left_of left.now) }
+    ensures preceding { Preceding (edges_of graph.entry) left.now predecessors.new }
+    ensures known { IfNone result (Known (edges_of graph.entry) left.now predecessors.new slots) }
 {
-    let mut j = 0;
-    while j < SLOTS {
+    for j in 0..SLOTS {
         if left[j] {
-            let i = predecessor_from(
-                codes,
-                jobs,
-                cells,
-                lines,
-                starts,
-                lasts,
-                sets,
-                left,
-                predecessors[j],
-                j,
-            );
+            let i = predecessor_from(graph, left, predecessors[j], j);
             predecessors[j] = i;
             if i == NOBODY {
-                return j;
+                return Some(j);
             }
         }
-        j += 1;
     }
-    NOBODY
+    None
 }
 
 // Takes away remaining jobs while one is ready, and puts them in order; tells how many. At the end the smallest predecessor of each remaining job is known.
 #[tactic(auto, using(crate::proofs::Predecessors::never_left, crate::proofs::Predecessors::preceding_less, crate::proofs::Predecessors::preceding_none, crate::proofs::TakingAway::going_count, crate::proofs::TakingAway::going_fewer, crate::proofs::TakingAway::going_fits, crate::proofs::TakingAway::going_more, crate::proofs::TakingAway::going_none, crate::proofs::TakingAway::going_order, crate::proofs::TakingAway::going_rest))]
-pub fn take_away<'a>(
-    codes: &'a [u8; JUDGED_LINES],
-    jobs: &'a [u8; JUDGED_LINES],
-    cells: &'a [u8; JUDGED_LINES],
-    lines: &'a [u16],
-    starts: &'a [usize; STOPS],
-    lasts: &'a [u16; KEYS],
-    sets: &'a [u64; KIND_SETS],
-    left: &mut [bool; SLOTS],
-    placed: &mut [u8; SLOTS],
-    predecessors: &mut [usize; SLOTS],
-) -> usize
-    requires { (length left.old ≡ slots) × (length placed.old ≡ slots) × (get_or left.old 0 false ≡ false) × Worked codes.now jobs.now cells.now lines.now starts.now lasts.now sets.now }
-    ensures left_after { left_of left.new ≡ stuck (edge_by codes.now jobs.now cells.now lines.now starts.now) (left_of left.old) }
-    ensures placed_after { (take result placed.new ≡ order_of (edge_by codes.now jobs.now cells.now lines.now starts.now) (left_of left.old)) × (result ≡ length (order_of (edge_by codes.now jobs.now cells.now lines.now starts.now) (left_of left.old))) }
-    ensures known { Known (edge_by codes.now jobs.now cells.now lines.now starts.now) left.new predecessors.new slots }
+pub fn take_away(graph: Graph, jobs: [bool; SLOTS]) -> Taken
+    requires { get_or jobs 0 false ≡ false }
+    ensures left_after { left_of result.left ≡ stuck (edges_of graph.entry) (left_of jobs) }
+    ensures placed_after { (take result.count result.placed ≡ order_of (edges_of graph.entry) (left_of jobs)) × (result.count ≡ length (order_of (edges_of graph.entry) (left_of jobs))) }
+    ensures known { Known (edges_of graph.entry) result.left result.predecessors slots }
 {
-    *predecessors = [0; SLOTS];
-    let mut k = 0;
-    loop {
-        let j = ready_job(
-            codes,
-            jobs,
-            cells,
-            lines,
-            starts,
-            lasts,
-            sets,
-            left,
-            predecessors,
-        );
-        if j == NOBODY {
-            return k;
-        }
-        placed[k] = j as u8;
-        left[j] = false;
-        k += 1;
+    let mut taken = Taken {
+        left: jobs,
+        placed: [0; SLOTS],
+        count: 0,
+        predecessors: [0; SLOTS],
+    };
+    while let Some(j) = ready_job(graph, &taken.left, &mut taken.predecessors) {
+        taken.placed[taken.count] = j as u8;
+        taken.left[j] = false;
+        taken.count += 1;
     }
+    taken
 }
 
 // The smallest remaining job.
-#[tactic(auto, using(crate::proofs::Seeking::seek_found, crate::proofs::Seeking::seek_gone, crate::proofs::Seeking::seek_none, crate::proofs::Seeking::seek_start))]
-pub fn smallest_left(left: &[bool; SLOTS]) -> usize
-    ensures { result ≡ or_nobody (first (λ j. true) (left_of left.now)) }
+pub fn smallest_left(left: &[bool; SLOTS]) -> Option<usize>
+    ensures { result ≡ position (λ l. l) left.now }
 {
-    let mut j = 0;
-    while j < SLOTS {
-        if left[j] {
-            return j;
-        }
-        j += 1;
-    }
-    NOBODY
+    left.iter().position(|l| *l)
 }

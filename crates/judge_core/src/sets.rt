@@ -1,11 +1,9 @@
 // Quick tests on two jobs: each job's cells by kind of action, and its last action of each kind on each cell (01, The judge's rules).
 ghost use Rattle.std.specs.Prelude.{◌≡◌, ◌≤◌, ◌<◌};
 ghost use Rattle.judge_core.specs.Reaching.{Acting, Covered, Lasts, set_key, touched_at, last_key};
-ghost use Rattle.terms.specs.Limits.{judged_lines};
 ghost use Rattle.judge_core.specs.Sizes.{slots, kind_sets, keys};
 
-use crate::counted::place;
-use crate::edges::wide;
+use crate::lines::{COMMIT, Faultless, INCREMENT, READ, WRITE};
 use crate::sizes::{KEYS, KIND_SETS, SLOTS};
 use conflict::cells::{Touched, with_cell};
 use terms::limits::JUDGED_LINES;
@@ -18,29 +16,22 @@ fn set_key(j: usize, kind: u8) -> usize
     requires { (j < slots) × (kind < 3) }
     ensures { (result ≡ set_key j kind) × (result < kind_sets) }
 {
-    place(kind) * SLOTS + j
+    usize::from(kind) * SLOTS + j
 }
 
-// For each job and kind, the cells of the lines that the job owns among the first n.
-#[tactic(auto, using(crate::proofs::Covering::covered_all, crate::proofs::Covering::covered_keep, crate::proofs::Covering::covered_more, crate::proofs::Covering::covered_none))]
-pub fn cells_of<'a>(
-    codes: &'a [u8; JUDGED_LINES],
-    cells: &'a [u8; JUDGED_LINES],
-    owners: &'a [u8; JUDGED_LINES],
-    n: usize,
-) -> [u64; KIND_SETS]
-    requires { n ≤ judged_lines }
-    ensures { Covered codes.now cells.now owners.now n result }
+// For each job and kind, the cells of the lines that the job owns.
+#[tactic(auto, using(crate::proofs::Covering::covered_keep, crate::proofs::Covering::covered_more, crate::proofs::Covering::covered_none))]
+pub fn cells_of(history: Faultless, owners: &[u8; JUDGED_LINES]) -> [u64; KIND_SETS]
+    ensures { Covered history.entry.kept.codes.now history.entry.kept.cells.now owners.now history.entry.n result }
 {
+    let kept = history.kept;
     let mut sets = [0; KIND_SETS];
-    let mut p = 0;
-    while p < n {
-        let j = place(owners[p]);
-        if codes[p] < 3 {
-            let key = set_key(j, codes[p]);
-            sets[key] = with_cell(sets[key], wide(cells[p]));
+    for p in 0..history.n {
+        let code = kept.codes[p];
+        if code < COMMIT {
+            let key = set_key(usize::from(owners[p]), code);
+            sets[key] = with_cell(sets[key], u32::from(kept.cells[p]));
         }
-        p += 1;
     }
     sets
 }
@@ -51,13 +42,10 @@ pub fn touched(sets: &[u64; KIND_SETS], j: usize) -> Touched
     requires { j < slots }
     ensures { result ≡ touched_at sets.now j }
 {
-    let read = set_key(j, 0);
-    let written = set_key(j, 1);
-    let incremented = set_key(j, 2);
     Touched {
-        reads: sets[read],
-        writes: sets[written],
-        increments: sets[incremented],
+        reads: sets[set_key(j, READ)],
+        writes: sets[set_key(j, WRITE)],
+        increments: sets[set_key(j, INCREMENT)],
     }
 }
 
@@ -66,31 +54,23 @@ pub fn last_key(j: usize, kind: u8, cell: u8) -> usize
     requires { (j < slots) × (kind < 4) × (cell < 64) }
     ensures { (result ≡ last_key j kind cell) × (result < keys) }
 {
-    place(cell) * 1024 + j * 4 + place(kind)
+    (usize::from(cell) * SLOTS + j) * 4 + usize::from(kind)
 }
 
-// One more than each job's last line of each kind (and of any kind) on each cell, among the first n lines; 0 if there is none.
-pub fn last_lines<'a>(
-    codes: &'a [u8; JUDGED_LINES],
-    jobs: &'a [u8; JUDGED_LINES],
-    cells: &'a [u8; JUDGED_LINES],
-    owners: &'a [u8; JUDGED_LINES],
-    n: usize,
-) -> [u16; KEYS]
-    requires { (n ≤ judged_lines) × Acting codes.now jobs.now cells.now owners.now n }
-    ensures { Lasts codes.now cells.now owners.now n result }
+// One more than each job's last line of each kind (and of any kind) on each cell; 0 if there is none.
+pub fn last_lines(history: Faultless, owners: &[u8; JUDGED_LINES]) -> [u16; KEYS]
+    requires { Acting history.kept.codes.now history.kept.jobs.now history.kept.cells.now owners.now history.n }
+    ensures { Lasts history.entry.kept.codes.now history.entry.kept.cells.now owners.now history.entry.n result }
 {
+    let kept = history.kept;
     let mut lasts = [0; KEYS];
-    let mut p = 0;
-    while p < n {
-        let j = place(owners[p]);
+    for p in 0..history.n {
+        let j = usize::from(owners[p]);
         if j != 0 {
-            let any = last_key(j, ANY, cells[p]);
-            lasts[any] = (p + 1) as u16;
-            let key = last_key(j, codes[p], cells[p]);
-            lasts[key] = (p + 1) as u16;
+            let cell = kept.cells[p];
+            lasts[last_key(j, ANY, cell)] = (p + 1) as u16;
+            lasts[last_key(j, kept.codes[p], cell)] = (p + 1) as u16;
         }
-        p += 1;
     }
     lasts
 }

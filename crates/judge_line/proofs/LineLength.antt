@@ -1,10 +1,10 @@
 -- The verdict's line has at most 1,028 bytes: seven of the word, four for each of 255 jobs, and the newline (01, The judge's rules).
 -- Assumes nothing.
+use Rattle.std.specs.Prelude.{Option, None, Some}
 use Prim.Native.Nat.{ℕ, suc, ◌+◌, ◌*◌, ◌≤◌}
 use mathlib.Core.Path.{◌≡◌, refl, sym, ap, ◌∙◌, subst}
 use mathlib.Core.Bool.{true}
 use mathlib.Core.List.{List, [], ◌∷◌}
-use mathlib.Core.Option.{Option, none, some}
 use native.Mathlib.Nat.{zero-add}
 use native.Mathlib.Omega.{arith}
 use borrow.Author.Tests.{le-leb, le-ltb}
@@ -76,7 +76,7 @@ no_at_most n why h =
       given_at_most_2 (field_of why) (omega arith),
     )
 
-module _ (ls : List Reading) (e : first_faulty 1 [] ls ≡ none) (buffer : List ℕ) where
+module _ (ls : List Reading) (e : first_faulty 1 [] ls ≡ None) (buffer : List ℕ) where
   -- no line has a fault
   faultless : AllFaultless ls
   faultless = subst (Tells ls) e (finds_fault ls)
@@ -105,7 +105,7 @@ module _ (ls : List Reading) (e : first_faulty 1 [] ls ≡ none) (buffer : List 
       (λ js v. rw v (rw filled_first (knot_at_most js v)))
 
   -- the line of a dirty read
-  dirty_at_most : (d : ReadOf) → dirty_of (events_in ls) ≡ some d → length (word_line word.TheVariants.Dirty (d.reader ∷ d.writer ∷ [])) ≤ line_limit
+  dirty_at_most : (d : ReadOf) → dirty_of (events_in ls) ≡ Some d → length (word_line word.TheVariants.Dirty (d.reader ∷ d.writer ∷ [])) ≤ line_limit
   unfolding tabbed
   dirty_at_most d v =
       let w = dirty_within ls faultless d.reader d.writer ((dirty_exactly (events_in ls) d.reader d.writer).1 v) in
@@ -119,14 +119,14 @@ module _ (ls : List Reading) (e : first_faulty 1 [] ls ≡ none) (buffer : List 
   -- the line of a verdict on faultless lines
   history_at_most : (o : Option ReadOf) → dirty_of (events_in ls) ≡ o → let j = say_history buffer (events_in ls) o in length (say_line j.said j.order) ≤ line_limit
   unfolding say_history say_line
-  history_at_most none v = said_at_most
-  history_at_most (some d) v = dirty_at_most d v
+  history_at_most None v = said_at_most
+  history_at_most (Some d) v = dirty_at_most d v
 
 -- the line on any lines
 lines_at_most : (buffer text : List ℕ) (o : Option Faulty) → first_faulty 1 [] (readings_of text) ≡ o → let j = say_lines buffer text o in length (say_line j.said j.order) ≤ line_limit
 unfolding say_lines say_line
-lines_at_most buffer text none e = history_at_most (readings_of text) e buffer (dirty_of (events_in (readings_of text))) refl
-lines_at_most buffer text (some f) e = no_at_most f.number f.why (number_few 1 [] (readings_of text) f (omega arith) e)
+lines_at_most buffer text None e = history_at_most (readings_of text) e buffer (dirty_of (events_in (readings_of text))) refl
+lines_at_most buffer text (Some f) e = no_at_most f.number f.why (number_few 1 [] (readings_of text) f (omega arith) e)
 
 -- the line on a text of any length, with an order buffer that is long enough
 buffer_at_most : (text buffer : List ℕ) → judged_jobs ≤ length buffer →

@@ -81,8 +81,7 @@ fn put_jobs(out: &mut [u8], at: usize, jobs: &[u8]) -> usize
 pub fn write_jobs(out: &mut [u8], word: Word, jobs: &[u8]) -> Written
     ensures { (result ≡ told out.old 0 (word_line word jobs.now)) × (out.new ≡ left out.old 0 (word_line word jobs.now)) }
 {
-    let spelling = spelled(word);
-    let len = spelling.len;
+    let len = spelled(word).len();
     let room = out.len();
     if room <= len {
         return Written::Refused(Refusal::NoRoom);

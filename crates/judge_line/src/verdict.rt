@@ -7,7 +7,7 @@ use crate::lines::{write_jobs, write_no};
 use judge::entry::judge_text;
 use judge_rules::verdict::Verdict;
 use terms::limits::{JUDGED_BYTES, JUDGED_JOBS};
-use terms::{Refusal, Word, field_of, number_of};
+use terms::{Refusal, Word, field_of};
 use text_rules::Written;
 
 // The first n places of the order, or all if there are fewer.
@@ -28,7 +28,7 @@ pub fn write_verdict(said: Verdict, order: &[u8], out: &mut [u8]) -> Written
         Verdict::No { line, why } => write_no(
             out,
             line as u64,
-            number_of(why) as u64,
+            u8::from(why) as u64,
             field_of(why) as u64,
         ),
     }
@@ -39,7 +39,7 @@ pub fn verdict_line(text: &[u8], out: &mut [u8]) -> Written
     ensures { (result ≡ told out.old 0 (verdict_of text.now)) × (out.new ≡ left out.old 0 (verdict_of text.now)) }
 {
     if text.len() > JUDGED_BYTES {
-        return write_no(out, 0, number_of(Refusal::TooLong) as u64, 0);
+        return write_no(out, 0, u8::from(Refusal::TooLong) as u64, 0);
     }
     let mut order = [0u8; JUDGED_JOBS];
     let said = judge_text(text, &mut order);

@@ -1,9 +1,9 @@
 -- The judge's answer is one of the paper's: 14, the refusal of the first faulty line, or, for a faultless text, dirty, orderly or a knot (01, Refusals by number; 01, The judge's rules; 02, No. 2).
 -- Assumes nothing.
+use Rattle.std.specs.Prelude.{Option, None, Some}
 use Prim.Native.Nat.{ℕ, ◌≤◌}
 use mathlib.Core.Path.{◌≡◌, refl, sym, ◌∙◌}
 use mathlib.Core.List.{List, [], ◌∷◌}
-use mathlib.Core.Option.{Option, none, some}
 use native.Mathlib.Omega.{arith}
 use lib.Dec.{ltb}
 use lib.ListN.{length}
@@ -78,15 +78,15 @@ module _ (text buffer : List ℕ) (room : judged_jobs ≤ length buffer) (all : 
 -- so is what is said for a faultless text, given its first dirty read
 history_told : (text buffer : List ℕ) → judged_jobs ≤ length buffer → AllFaultless (readings_of text) → (o : Option ReadOf) → dirty_of (events_in (readings_of text)) ≡ o → Answers text buffer (say_history buffer (events_in (readings_of text)) o)
 unfolding say_history
-history_told text buffer room all none e = told text buffer room all ((clean_exactly (events_in (readings_of text))).1 e) (finding_of (events_in (readings_of text))) refl
-history_told text buffer room all (some d) e =
+history_told text buffer room all None e = told text buffer room all ((clean_exactly (events_in (readings_of text))).1 e) (finding_of (events_in (readings_of text))) refl
+history_told text buffer room all (Some d) e =
     in-dirt room all (record { fills = fills (d.reader ∷ d.writer ∷ []) buffer (omega arith); first = (dirty_exactly (events_in (readings_of text)) d.reader d.writer).1 e })
 
 -- what is said of the lines is one of the paper's answers
 lines_told : (text buffer : List ℕ) → judged_jobs ≤ length buffer → (o : Option Faulty) → Tells (readings_of text) o → Answers text buffer (say_lines buffer text o)
 unfolding say_lines
-lines_told text buffer room none t = history_told text buffer room t (dirty_of (events_in (readings_of text))) refl
-lines_told text buffer room (some f) t =
+lines_told text buffer room None t = history_told text buffer room t (dirty_of (events_in (readings_of text))) refl
+lines_told text buffer room (Some f) t =
     faulty room t (bare_stands text f.number t.from t.to)
 
 -- the judge's answer is one of the paper's

@@ -1,10 +1,10 @@
 -- A bad line by the table and in the paper's words: it is refused with 9, at the field at fault, exactly if it is not a good line (01, Lines: all else is refusal 9; 02, No. 5).
 -- Assumes nothing.
+use Rattle.std.specs.Prelude.{Some}
 use Prim.Native.Nat.{ℕ, ◌≤◌}
 use mathlib.Core.Path.{◌≡◌, refl, sym, ◌∙◌}
 use mathlib.Core.Logic.{◌↔◌}
 use mathlib.Core.List.{List}
-use mathlib.Core.Option.{some}
 use native.Mathlib.Omega.{arith}
 use borrow.Author.Tests.{ne_eqb}
 use Rattle.laws.specs.Lists.{first_of}
@@ -27,7 +27,7 @@ use Rattle.judge_rules.proofs.Readings.{reading_at_lem}
 use Rattle.judge_rules.proofs.OverBefore.{good_at, at_good}
 
 -- for a line up to 4,096 that reads as bad, the table says 9, at the field that the reader tells
-pub bad_says : (n : ℕ) (before : List Reading) (at : Field) → n ≤ 4_096 → table_says n before (Bad at) ≡ some (BadLine at)
+pub bad_says : (n : ℕ) (before : List Reading) (at : Field) → n ≤ 4_096 → table_says n before (Bad at) ≡ Some (BadLine at)
 unfolding table_says first_of holds order
 bad_says n before First h = rw (ne_eqb n 4_097 (omega arith))
 bad_says n before Second h = rw (ne_eqb n 4_097 (omega arith))

@@ -1,10 +1,10 @@
 -- A line is faultless by the table exactly if none of the rows holds for it (01, Refusals by number).
 -- Assumes nothing.
+use Rattle.std.specs.Prelude.{Option, None, Some}
 use Prim.Native.Nat.{ℕ}
 use mathlib.Core.Path.{◌≡◌, refl, sym, ◌∙◌}
 use mathlib.Core.Bool.{Bool, true, false}
 use mathlib.Core.List.{List}
-use mathlib.Core.Option.{Option, none, some}
 use native.Mathlib.Omega.{arith}
 use borrow.Author.Tests.{eqb-true}
 use Rattle.laws.specs.Choice.{pick, not_both}
@@ -20,7 +20,7 @@ use Rattle.text_rules.specs.declared.Reading.TheVariants.{Good, Bad}
 use Rattle.judge_rules.specs.LineTable.{too_many, is_bad, outside, above, over_already, holds, order, table_says}
 
 -- if no row from here on holds, this row does not, and no later one does
-pick_none : (b : Bool) (x : Refusal) (rest : Option Refusal) → pick b (some x) rest ≡ none → (b ≡ false) × (rest ≡ none)
+pick_none : (b : Bool) (x : Refusal) (rest : Option Refusal) → pick b (Some x) rest ≡ None → (b ≡ false) × (rest ≡ None)
 pick_none true x rest e = let z : ◌≡◌ {A = ℕ} 0 1 = cc in absurd (omega arith)
 pick_none false x rest e = (refl, e)
 
@@ -48,7 +48,7 @@ pub record Clean (n : ℕ) (before : List Reading) (r : Reading) : Type 0 where
   pub open' : over_already before r ≡ false
 
 -- if the table says nothing, no row holds
-pub clean_line : (n : ℕ) (before : List Reading) (r : Reading) → table_says n before r ≡ none → Clean n before r
+pub clean_line : (n : ℕ) (before : List Reading) (r : Reading) → table_says n before r ≡ None → Clean n before r
 unfolding table_says first_of holds order
 clean_line n before r e =
     let p = pick_none (too_many n) TooManyLines _ e in
@@ -62,11 +62,11 @@ clean_line n before r e =
     record { few = p.0; good = bad_nowhere r q.0 v.0 w.0 x.0; inside = s.0; below = t.0; open' = u.0 }
 
 -- if no row holds, the table says nothing
-pub no_row : (f : Refusal → Bool) → f TooManyLines ≡ false → ((at : Field) → f (BadLine at) ≡ false) → f JobOutside ≡ false → f CellAbove ≡ false → f Ended ≡ false → first_of f order ≡ none
+pub no_row : (f : Refusal → Bool) → f TooManyLines ≡ false → ((at : Field) → f (BadLine at) ≡ false) → f JobOutside ≡ false → f CellAbove ≡ false → f Ended ≡ false → first_of f order ≡ None
 unfolding first_of order
 no_row f a b c d e = rw (a, b First, b Second, b Third, b Fourth, c, d, e)
 
 -- and so for a line for which no row holds
-pub line_clean : (n : ℕ) (before : List Reading) (r : Reading) → Clean n before r → table_says n before r ≡ none
+pub line_clean : (n : ℕ) (before : List Reading) (r : Reading) → Clean n before r → table_says n before r ≡ None
 unfolding table_says holds
 line_clean n before r c = no_row (holds n before r) c.few c.good c.inside c.below c.open'

@@ -1,11 +1,11 @@
 -- The judge's walk along the lines finds the table's first fault: the jobs it keeps as ended are those that the lines before say (01, Refusals by number).
 -- Assumes nothing.
+use Rattle.std.specs.Prelude.{Option, None, Some}
 use Prim.Native.Nat.{ℕ, suc, ◌+◌, ◌-◌, ◌≤◌, ◌<◌}
 use mathlib.Core.Path.{◌≡◌, refl, sym, ap, ap₂, ◌∙◌, subst}
 use mathlib.Core.Logic.{◌≢◌}
 use mathlib.Core.Bool.{not, ◌&&◌, ◌||◌}
 use mathlib.Core.List.{List, [], ◌∷◌, ◌++◌, append-nil, append_assoc}
-use mathlib.Core.Option.{Option, none, some}
 use native.Mathlib.Omega.{arith}
 use lib.Dec.{eqb, ltb, leb}
 use lib.ListN.{length, length-append}
@@ -73,7 +73,7 @@ too_many_is n h =
 
 -- the judge's fault of a line, by how it reads, is the table's
 reading_fault : (n : ℕ) (ended : List ℕ) (before : List Reading) (r : Reading) → n ≤ suc judged_lines → Keeps ended before →
-    pick (ltb judged_lines n) (some TooManyLines) (fault_of ended r) ≡ first_of (holds n before r) order
+    pick (ltb judged_lines n) (Some TooManyLines) (fault_of ended r) ≡ first_of (holds n before r) order
 unfolding fault_of fault_of_good holds first_of order
 reading_fault n ended before (Bad First) h k = rw (too_many_is n h)
 reading_fault n ended before (Bad Second) h k = rw (too_many_is n h)
@@ -87,10 +87,10 @@ unfolding line_fault table_says
 line_fault_lem n ended before r h k = reading_fault n ended before r h k
 
 -- a line past 4,096 has a fault
-pub few_lines : (n : ℕ) (ended : List ℕ) (r : Reading) → line_fault n ended r ≡ none → n ≤ judged_lines
+pub few_lines : (n : ℕ) (ended : List ℕ) (r : Reading) → line_fault n ended r ≡ None → n ≤ judged_lines
 unfolding line_fault
 few_lines n ended r e =
-    by_test (ltb judged_lines n) (λ t. let q : some TooManyLines ≡ none = rw t at e in let z : ◌≡◌ {A = ℕ} 0 1 = cc in absurd (omega arith))
+    by_test (ltb judged_lines n) (λ t. let q : Some TooManyLines ≡ None = rw t at e in let z : ◌≡◌ {A = ℕ} 0 1 = cc in absurd (omega arith))
     (λ f. ltb-false judged_lines n f)
 
 -- the table speaks of line n by the lines before it and by how it reads, whatever follows
@@ -107,16 +107,16 @@ module _ (whole before : List Reading) (l : Reading) (ls : List Reading) (n : �
   fault_at = line_fault_lem n ended before l h k ∙ sym (rw (w, e) (said_of before l ls))
 
   -- if line n has no fault, the lines up to it are faultless
-  good_more : line_fault n ended l ≡ none → (m : ℕ) → 1 ≤ m → m < suc n → Faultless whole m
+  good_more : line_fault n ended l ≡ None → (m : ℕ) → 1 ≤ m → m < suc n → Faultless whole m
   good_more q m a b =
       by_test (eqb m n) (λ t. subst (Faultless whole) (sym (eqb-true m n t)) (sym fault_at ∙ q))
       (λ f. let other' : m ≢ n = eqb-false m n f in good m a (omega arith))
 
   -- line n decides if it has a fault, else the lines after it
-  line_tells : (o : Option Refusal) (later : Option Faulty) → line_fault n ended l ≡ o → (line_fault n ended l ≡ none → Tells whole later) → Tells whole (or_later o n later)
+  line_tells : (o : Option Refusal) (later : Option Faulty) → line_fault n ended l ≡ o → (line_fault n ended l ≡ None → Tells whole later) → Tells whole (or_later o n later)
   unfolding or_later
-  line_tells none later q next = next q
-  line_tells (some why) later q next =
+  line_tells None later q next = next q
+  line_tells (Some why) later q next =
       let size : length whole ≡ length before + suc (length ls) = ap length w ∙ length-append before (l ∷ ls) in
       record { from = omega arith; to = omega arith; before = good; due = sym fault_at ∙ q }
 

@@ -1,10 +1,10 @@
 -- Histories in number order: the judge's order is the committed jobs in ascending numbers, and it never finds a knot (01, The judge's rules; 02, No. 6).
 -- Assumes nothing.
+use Rattle.std.specs.Prelude.{Some}
 use Prim.Native.Nat.{ℕ, ◌≤◌, ◌<◌}
 use mathlib.Core.Path.{◌≡◌, refl, ap, ◌∙◌, subst}
 use mathlib.Core.Bool.{true, false}
 use mathlib.Core.List.{List, [], ◌∷◌, ◌++◌, map}
-use mathlib.Core.Option.{some}
 use native.Mathlib.Omega.{arith}
 use lib.ListN.{length}
 use lib.Dec.{eqb}
@@ -48,7 +48,7 @@ without_first j js f = rw (same_refl j) (without_none j js f)
 
 module _ (e : Edges) (rises : (i j : ℕ) → e i j ≡ true → i < j) where
   -- if edges only rise, the smallest of the jobs left is ready
-  smallest_ready : (j : ℕ) (js : List ℕ) → ascending (j ∷ js) ≡ true → ready e (j ∷ js) ≡ some j
+  smallest_ready : (j : ℕ) (js : List ℕ) → ascending (j ∷ js) ≡ true → ready e (j ∷ js) ≡ Some j
   unfolding ready first
   smallest_ready j js up =
       let free : preceded e (j ∷ js) j ≡ false =

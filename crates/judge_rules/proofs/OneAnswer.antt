@@ -1,10 +1,10 @@
 -- There is no second answer: what the paper asks of the judge's answer fixes the line number, the refusal, the line handed back, the length and the buffer (01, How much a contract says).
 -- Assumes nothing.
+use Rattle.std.specs.Prelude.{Option, None, Some}
 use Prim.Native.Nat.{ℕ, ◌≤◌, ◌<◌}
 use mathlib.Core.Path.{◌≡◌, refl, sym, ap, ap₂, ◌∙◌, subst}
 use mathlib.Core.Logic.{◌↔◌}
 use mathlib.Core.List.{List, [], ◌∷◌}
-use mathlib.Core.Option.{Option, none, some}
 use native.Mathlib.Omega.{arith}
 use lib.Dec.{ltb}
 use lib.ListN.{length}
@@ -34,7 +34,7 @@ use Rattle.judge_rules.proofs.Answering.{answers}
 
 -- a line is not both faultless and refused
 never_both : {P : Type 0} (ls : List Reading) (n : ℕ) (why : Refusal) → Faultless ls n → Due ls n why → P
-never_both ls n why f d = let q : ◌≡◌ {A = Option Refusal} none (some why) = sym f ∙ d in let z : ◌≡◌ {A = ℕ} 0 1 = cc in absurd (omega arith)
+never_both ls n why f d = let q : ◌≡◌ {A = Option Refusal} None (Some why) = sym f ∙ d in let z : ◌≡◌ {A = ℕ} 0 1 = cc in absurd (omega arith)
 
 -- at most one line is the first faulty one, for one reason
 pub one_fault : (ls : List Reading) (m n : ℕ) (x y : Refusal) → FirstFault ls m x → FirstFault ls n y → (m ≡ n) × (x ≡ y)
@@ -46,7 +46,7 @@ one_fault ls m n x y f g =
     let down : m ≤ n = ltb-false n m b in
     let e : m ≡ n = omega arith in
     let d : Due ls n x = rw (← e) f.due in
-    let s : ◌≡◌ {A = Option Refusal} (some x) (some y) = sym d ∙ g.due in
+    let s : ◌≡◌ {A = Option Refusal} (Some x) (Some y) = sym d ∙ g.due in
     (e, cc)))
 
 -- if every line is faultless, none is refused
@@ -73,16 +73,16 @@ module _ (text buffer : List ℕ) where
     fault_by : (n : ℕ) (why : Refusal) → FirstFault (readings_of text) n why → (o : Option Faulty) → Tells (readings_of text) o →
         say_lines buffer text o ≡ record { said = No n why; order = buffer; line = bare (line_at (lines_of text) n) }
     unfolding say_lines
-    fault_by n why f none t = no_fault (readings_of text) n why t f
-    fault_by n why f (some g) t =
+    fault_by n why f None t = no_fault (readings_of text) n why t f
+    fault_by n why f (Some g) t =
         let s = one_fault (readings_of text) g.number n g.why why t f in
         same_answer (ap₂ No s.0 s.1) refl (ap (λ m. bare (line_at (lines_of text) m)) s.0)
 
     -- if every line is faultless, the verdict is the answer
     verdict_by : AllFaultless (readings_of text) → (o : Option Faulty) → Tells (readings_of text) o → say_lines buffer text o ≡ say_history buffer (events_in (readings_of text)) (dirty_of (events_in (readings_of text)))
     unfolding say_lines
-    verdict_by all none t = refl
-    verdict_by all (some g) t = no_fault (readings_of text) g.number g.why all t
+    verdict_by all None t = refl
+    verdict_by all (Some g) t = no_fault (readings_of text) g.number g.why all t
 
     -- so the first faulty line decides
     fault_is : (n : ℕ) (why : Refusal) → FirstFault (readings_of text) n why → judgement_of text buffer ≡ record { said = No n why; order = buffer; line = bare (line_at (lines_of text) n) }

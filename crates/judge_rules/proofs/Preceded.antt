@@ -1,10 +1,10 @@
 -- Whether a job has a predecessor, and which; and which job is ready.
 -- Assumes nothing.
+use Rattle.std.specs.Prelude.{None, Some}
 use Prim.Native.Nat.{ℕ}
 use mathlib.Core.Path.{◌≡◌, refl}
 use mathlib.Core.Bool.{true, false, not}
 use mathlib.Core.List.{List, [], ◌∷◌}
-use mathlib.Core.Option.{none, some}
 use borrow.Author.Tests.{eqb-true, not-true, not-false}
 use lib.Dec.{eqb}
 use Rattle.laws.specs.Choice.{not_both}
@@ -33,16 +33,16 @@ precedes e (k ∷ left) i j m h =
     (λ l. or_second (e k j) (preceded e left j) (precedes e left i j l h))
 
 -- the job that is ready is one of those left, and none of them precedes it
-pub ready_is : (e : Edges) (left : List ℕ) (j : ℕ) → ready e left ≡ some j → (member j left ≡ true) × (preceded e left j ≡ false)
+pub ready_is : (e : Edges) (left : List ℕ) (j : ℕ) → ready e left ≡ Some j → (member j left ≡ true) × (preceded e left j ≡ false)
 unfolding ready
 ready_is e left j h = let r = first_is (λ k. not (preceded e left k)) left j h in (r.0, not-true (preceded e left j) r.1)
 
 -- if no job is ready, each of those left has a predecessor among them
-pub ready_none : (e : Edges) (left : List ℕ) → ready e left ≡ none → (j : ℕ) → member j left ≡ true → preceded e left j ≡ true
+pub ready_none : (e : Edges) (left : List ℕ) → ready e left ≡ None → (j : ℕ) → member j left ≡ true → preceded e left j ≡ true
 unfolding ready
 ready_none e left h j m = not-false (preceded e left j) (first_none (λ k. not (preceded e left k)) left h j m)
 
 -- if the jobs left ascend, the ready one is the smallest without a predecessor among them
-pub ready_smallest : (e : Edges) (left : List ℕ) → ascending left ≡ true → (j : ℕ) → ready e left ≡ some j → Smallest (λ k. not (preceded e left k)) left j
+pub ready_smallest : (e : Edges) (left : List ℕ) → ascending left ≡ true → (j : ℕ) → ready e left ≡ Some j → Smallest (λ k. not (preceded e left k)) left j
 unfolding ready
 ready_smallest e left a j h = first_smallest (λ k. not (preceded e left k)) left a j h

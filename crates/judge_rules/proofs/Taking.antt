@@ -1,10 +1,10 @@
 -- Jobs are taken away until none is left to take; as many times as there are jobs is enough.
 -- Assumes nothing.
+use Rattle.std.specs.Prelude.{None}
 use Prim.Native.Nat.{ℕ, zero, suc, ◌≤◌, ◌<◌}
 use mathlib.Core.Path.{◌≡◌, refl, ap}
 use mathlib.Core.Bool.{true}
 use mathlib.Core.List.{List, [], ◌∷◌}
-use mathlib.Core.Option.{none}
 use native.Mathlib.Omega.{arith}
 use lib.ListN.{length}
 use Rattle.laws.specs.Choice.{not_both}
@@ -39,7 +39,7 @@ unfolding order_of stuck
 order_taken e jobs = taken_takes e (length jobs) jobs (omega arith)
 
 -- without jobs none is ready
-none_ready : (e : Edges) (left : List ℕ) → length left ≤ 0 → ready e left ≡ none
+none_ready : (e : Edges) (left : List ℕ) → length left ≤ 0 → ready e left ≡ None
 none_ready e left h = by_one (ready e left) (λ q. q) (λ j q. absurd (empty_list left h j (ready_is e left j q).0))
 
 -- any two limits that are enough give the same

@@ -1,10 +1,10 @@
 -- The walk along smallest predecessors: its jobs remain, each has an edge to the job it was reached from, and one more than the number of jobs that remain is enough to close a cycle.
 -- Assumes nothing.
+use Rattle.std.specs.Prelude.{Some}
 use Prim.Native.Nat.{ℕ, zero, suc, ◌+◌, ◌≤◌, ◌<◌}
 use mathlib.Core.Path.{◌≡◌, refl, ap}
 use mathlib.Core.Bool.{true, false, not}
 use mathlib.Core.List.{List, [], ◌∷◌}
-use mathlib.Core.Option.{some}
 use native.Mathlib.Omega.{arith}
 use lib.ListN.{length}
 use borrow.Author.Tests.{eqb-true}
@@ -79,7 +79,7 @@ module _ (e : Edges) (left : List ℕ) where
 
   module _ (up : ascending left ≡ true) (each : (j : ℕ) → member j left ≡ true → preceded e left j ≡ true) where
     -- each job that remains has a smallest predecessor that remains
-    goes_back : (j : ℕ) → member j left ≡ true → (i : ℕ) × (predecessor e left j ≡ some i) × Smallest (λ k. e k j) left i
+    goes_back : (j : ℕ) → member j left ≡ true → (i : ℕ) × (predecessor e left j ≡ Some i) × Smallest (λ k. e k j) left i
     unfolding predecessor
     goes_back j m =
         by_one (predecessor e left j)

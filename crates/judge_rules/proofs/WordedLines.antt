@@ -1,11 +1,11 @@
 -- One line by the table and in the paper's words: both call it faultless or neither does, and both give the same refusal (01, Refusals by number).
 -- Assumes nothing.
+use Rattle.std.specs.Prelude.{Option, None, Some}
 use Prim.Native.Nat.{ℕ, ◌≤◌, ◌<◌}
 use mathlib.Core.Path.{◌≡◌, refl, sym, ap, ◌∙◌, subst}
 use mathlib.Core.Logic.{◌≢◌, ◌⊎◌, inl, inr, ⊎_elim}
 use mathlib.Core.Bool.{Bool, true, false, not, ◌&&◌}
 use mathlib.Core.List.{List}
-use mathlib.Core.Option.{Option, none, some}
 use native.Mathlib.Omega.{arith}
 use lib.Dec.{eqb, leb}
 use borrow.Author.Tests.{eqb-true, eqb-false, eq-eqb, ne_eqb, leb-true, leb-false, le-leb, lt-leb}
@@ -59,10 +59,10 @@ high_cell l cell z h = by_test (has_cell l) (λ t. rw (t, le-leb 64 cell (omega 
 
 -- the rows of a line that reads as good, from the second on
 rows_of : Bool → Bool → Bool → Option Refusal
-rows_of a b c = pick a (some JobOutside) (pick b (some CellAbove) (pick c (some Ended) none))
+rows_of a b c = pick a (Some JobOutside) (pick b (Some CellAbove) (pick c (Some Ended) None))
 
 -- the refusal is that of the first row that holds
-by_rows : {P : Type 0} (a b c : Bool) (why : Refusal) → rows_of a b c ≡ some why → (a ≡ true → why ≡ JobOutside → P) → (a ≡ false → b ≡ true → why ≡ CellAbove → P) →
+by_rows : {P : Type 0} (a b c : Bool) (why : Refusal) → rows_of a b c ≡ Some why → (a ≡ true → why ≡ JobOutside → P) → (a ≡ false → b ≡ true → why ≡ CellAbove → P) →
     (a ≡ false → b ≡ false → c ≡ true → why ≡ Ended → P) → P
 unfolding rows_of
 by_rows true b c why e one' two' three' = one' refl cc
@@ -96,7 +96,7 @@ module _ (text : List ℕ) (n : ℕ) where
   pub sound_faultless : n ≤ 4_096 → Sound (lines_of text) n → Faultless (readings_of text) n
   sound_faultless h s =
       let r : reading_at (readings_of text) n ≡ Good s.letter s.job s.cell = at_good text n s.letter s.job s.cell s.good in
-      subst (λ x. table_says n (lines_before (readings_of text) n) x ≡ none) (sym r) (line_clean n (lines_before (readings_of text) n) (Good s.letter s.job s.cell)
+      subst (λ x. table_says n (lines_before (readings_of text) n) x ≡ None) (sym r) (line_clean n (lines_before (readings_of text) n) (Good s.letter s.job s.cell)
       (record {
         few = ne_eqb n 4_097 (omega arith);
         good = λ at. refl;
@@ -107,7 +107,7 @@ module _ (text : List ℕ) (n : ℕ) where
 
   -- what a good line is refused with
   good_refused : n ≤ 4_096 → (l : Letter) (job cell : ℕ) (why : Refusal) → LineIs (lines_of text) n l job cell →
-      rows_of (not (leb 1 job && leb job 255)) (has_cell l && leb 64 cell) (ended_in job (lines_before (readings_of text) n)) ≡ some why →
+      rows_of (not (leb 1 job && leb job 255)) (has_cell l && leb 64 cell) (ended_in job (lines_before (readings_of text) n)) ≡ Some why →
       RefusedAs (lines_of text) n (number_of why) (field_of why)
   good_refused h l job cell why g e =
       by_rows (not (leb 1 job && leb job 255)) (has_cell l && leb 64 cell) (ended_in job (lines_before (readings_of text) n)) why e
@@ -116,11 +116,11 @@ module _ (text : List ℕ) (n : ℕ) where
       (λ a b c q. let j = not_outside job a in rw q (over l job cell h g j.0 j.1 (cell_low l cell g.5 b) (ended_over text n job c)))
 
   -- what a line is refused with, by its reading
-  read_refused : n ≤ 4_096 → (r : Reading) (why : Refusal) → reading_at (readings_of text) n ≡ r → table_says n (lines_before (readings_of text) n) r ≡ some why →
+  read_refused : n ≤ 4_096 → (r : Reading) (why : Refusal) → reading_at (readings_of text) n ≡ r → table_says n (lines_before (readings_of text) n) r ≡ Some why →
       RefusedAs (lines_of text) n (number_of why) (field_of why)
   unfolding table_says first_of holds order
   read_refused h (Bad at) why e d =
-      let q : some (BadLine at) ≡ some why = sym (bad_says n (lines_before (readings_of text) n) at h) ∙ d in
+      let q : Some (BadLine at) ≡ Some why = sym (bad_says n (lines_before (readings_of text) n) at h) ∙ d in
       let w : why ≡ BadLine at = cc in
       rw w (bad h at (bad_at_lem text n at e))
   read_refused h (Good l job cell) why e d =
@@ -132,7 +132,7 @@ module _ (text : List ℕ) (n : ℕ) where
   due_worded h why d =
       by_test (eqb n 4_097)
       (λ t.
-      let q : some TooManyLines ≡ some why = rw t at d in
+      let q : Some TooManyLines ≡ Some why = rw t at d in
       let w : why ≡ TooManyLines = cc in
       rw w (too_many (eqb-true n 4_097 t)))
       (λ f. let other' : n ≢ 4_097 = eqb-false n 4_097 f in read_refused (omega arith) (reading_at (readings_of text) n) why refl d)
@@ -146,11 +146,11 @@ module _ (text : List ℕ) (n : ℕ) where
   -- and the paper's refusal of a line is due for it
   pub worded_due : {k m : ℕ} → RefusedAs (lines_of text) n k m → (why : Refusal) → number_of why ≡ k → field_of why ≡ m → Due (readings_of text) n why
   unfolding table_says first_of holds order rows_of
-  worded_due (too_many e) why q f = rw (eq-eqb n 4_097 e) (ap some (sym (same_number why TooManyLines q f)))
+  worded_due (too_many e) why q f = rw (eq-eqb n 4_097 e) (ap Some (sym (same_number why TooManyLines q f)))
   worded_due (bad h at b) why q f =
-      ap (table_says n (lines_before (readings_of text) n)) (at_bad text n at b) ∙ bad_says n (lines_before (readings_of text) n) at h ∙ ap some (sym (same_number why (BadLine at) q f))
-  worded_due (outside l job cell h g o) why q f = good_says h l job cell g ∙ rw (not_inside job o) (ap some (sym (same_number why JobOutside q f)))
+      ap (table_says n (lines_before (readings_of text) n)) (at_bad text n at b) ∙ bad_says n (lines_before (readings_of text) n) at h ∙ ap Some (sym (same_number why (BadLine at) q f))
+  worded_due (outside l job cell h g o) why q f = good_says h l job cell g ∙ rw (not_inside job o) (ap Some (sym (same_number why JobOutside q f)))
   worded_due (above l job cell h g a b c) why q f =
-      good_says h l job cell g ∙ rw (inside job a b, high_cell l cell g.5 c) (ap some (sym (same_number why CellAbove q f)))
+      good_says h l job cell g ∙ rw (inside job a b, high_cell l cell g.5 c) (ap Some (sym (same_number why CellAbove q f)))
   worded_due (over l job cell h g a b c o) why q f =
-      good_says h l job cell g ∙ rw (inside job a b, low_cell l cell c, over_ended text n job o) (ap some (sym (same_number why Ended q f)))
+      good_says h l job cell g ∙ rw (inside job a b, low_cell l cell c, over_ended text n job o) (ap Some (sym (same_number why Ended q f)))

@@ -1,6 +1,5 @@
 -- A history as text: how its lines read, the first faulty one with its refusal, and the events that faultless lines say (01, Refusals by number; 01, Lines).
-use Rattle.std.specs.Prelude.{ℕ, suc, ◌-◌, ◌&&◌, ◌||◌, List, [], ◌∷◌, ◌++◌, map, eqb, ltb, leb, get_or}
-use Rattle.std.proofs.Math.Option.{Option, none, some}
+use Rattle.std.specs.Prelude.{ℕ, suc, ◌-◌, ◌&&◌, ◌||◌, List, [], ◌∷◌, ◌++◌, map, eqb, ltb, leb, get_or, Option, None, Some}
 use Rattle.laws.specs.Choice.{pick}
 use Rattle.laws.specs.Lists.{member}
 use Rattle.terms.specs.declared.letters.Letter.{Letter}
@@ -31,8 +30,8 @@ line_at ls n = get_or ls (n - 1) []
 -- the fault of a good line, given the jobs that have committed or given up: 12, then 2, then 13 (01, Refusals by number)
 unfoldable pub fault_of_good : List ℕ → Letter → ℕ → ℕ → Option Refusal
 fault_of_good ended l job cell =
-    pick (eqb job 0 || ltb judged_jobs job) (some JobOutside)
-    (pick (has_cell l && leb cells cell) (some CellAbove) (pick (member job ended) (some Ended) none))
+    pick (eqb job 0 || ltb judged_jobs job) (Some JobOutside)
+    (pick (has_cell l && leb cells cell) (Some CellAbove) (pick (member job ended) (Some Ended) None))
 
 -- the fault of a line, given how it reads: 9 if it is bad, at the field that the reader tells (02, No. 5)
 unfoldable pub fault_of : List ℕ → Reading → Option Refusal
@@ -41,7 +40,7 @@ fault_of ended (Good l job cell) = fault_of_good ended l job cell
 
 -- the fault of line n: 11 if it is line 4,097, before anything else on it
 unfoldable pub line_fault : ℕ → List ℕ → Reading → Option Refusal
-line_fault n ended r = pick (ltb judged_lines n) (some TooManyLines) (fault_of ended r)
+line_fault n ended r = pick (ltb judged_lines n) (Some TooManyLines) (fault_of ended r)
 
 -- the jobs that have committed or given up, after one more line
 unfoldable pub ended_after : List ℕ → Reading → List ℕ
@@ -60,12 +59,12 @@ pub record Faulty : Type 0 where
 
 -- the fault of this line if it has one, else what the lines after it say
 unfoldable pub or_later : Option Refusal → ℕ → Option Faulty → Option Faulty
-or_later none n later = later
-or_later (some why) n later = some (record { number = n; why = why })
+or_later None n later = later
+or_later (Some why) n later = Some (record { number = n; why = why })
 
 -- lines in order, and the first faulty line decides (01, Refusals by number)
 unfoldable pub first_faulty : ℕ → List ℕ → List Reading → Option Faulty
-first_faulty n ended [] = none
+first_faulty n ended [] = None
 first_faulty n ended (r ∷ rs) =
     let later = first_faulty (suc n) (ended_after ended r) rs in
     or_later (line_fault n ended r) n later
@@ -92,5 +91,5 @@ bare (b ∷ l) = pick (eqb b newline) [] (b ∷ bare l)
 
 -- what is found agrees with the table: the first faulty line, or that there is none
 abbrev pub Tells : List Reading → Option Faulty → Type 0
-Tells rs none = AllFaultless rs
-Tells rs (some f) = FirstFault rs f.number f.why
+Tells rs None = AllFaultless rs
+Tells rs (Some f) = FirstFault rs f.number f.why

@@ -1,6 +1,5 @@
 -- The whole judge: what it says of a text and an order buffer, and what it leaves in the buffer (01, The judge's rules; 01, Refusals by number).
-use Rattle.std.specs.Prelude.{ℕ, List, [], ◌∷◌, ltb, length}
-use Rattle.std.proofs.Math.Option.{Option, none, some}
+use Rattle.std.specs.Prelude.{ℕ, List, [], ◌∷◌, ltb, length, Option, None, Some}
 use Rattle.laws.specs.Choice.{pick}
 use Rattle.laws.specs.Lists.{filled}
 use Rattle.terms.specs.declared.refusals.Refusal.TheVariants.{ShortOrder}
@@ -28,13 +27,13 @@ say_finding buffer (knotted js) = record { said = Knot (length js); order = fill
 
 -- the verdict on a faultless history: a dirty read, if there is one, is told before orderly or knot, and reader and writer fill the first two places (02, No. 2)
 unfoldable pub say_history : List ℕ → History → Option ReadOf → Judgement
-say_history buffer h none = say_finding buffer (finding_of h)
-say_history buffer h (some d) = record { said = Dirty d.reader d.writer; order = filled (d.reader ∷ d.writer ∷ []) buffer; line = [] }
+say_history buffer h None = say_finding buffer (finding_of h)
+say_history buffer h (Some d) = record { said = Dirty d.reader d.writer; order = filled (d.reader ∷ d.writer ∷ []) buffer; line = [] }
 
 -- a faulty line is handed back without its newline, with its number and refusal, and the buffer stays; otherwise the verdict on the history that the lines say
 unfoldable pub say_lines : List ℕ → List ℕ → Option Faulty → Judgement
-say_lines buffer text none = say_history buffer (events_in (readings_of text)) (dirty_of (events_in (readings_of text)))
-say_lines buffer text (some f) = record { said = No f.number f.why; order = buffer; line = bare (line_at (lines_of text) f.number) }
+say_lines buffer text None = say_history buffer (events_in (readings_of text)) (dirty_of (events_in (readings_of text)))
+say_lines buffer text (Some f) = record { said = No f.number f.why; order = buffer; line = bare (line_at (lines_of text) f.number) }
 
 -- the judge: 14 first, with line number 0; then the lines in order (01, Refusals by number)
 unfoldable pub judgement_of : List ℕ → List ℕ → Judgement

@@ -1,6 +1,5 @@
 -- The judge's knot: the walk from the smallest job that remains, along smallest predecessors, until one comes again (01, The judge's rules: Knot).
-use Rattle.std.specs.Prelude.{ℕ, zero, suc, List, [], ◌∷◌, ◌++◌, length, ltb, eqb}
-use Rattle.std.proofs.Math.Option.{Option}
+use Rattle.std.specs.Prelude.{ℕ, zero, suc, List, [], ◌∷◌, ◌++◌, length, ltb, eqb, Option}
 use Rattle.laws.specs.Choice.{pick}
 use Rattle.laws.specs.Lists.{member}
 use Rattle.judge_rules.specs.Order.{Edges, first, found}

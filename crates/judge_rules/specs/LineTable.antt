@@ -1,6 +1,5 @@
 -- The judge's refusals of a line as the paper's table prints them: each row by itself, then the order in which the rows are tested. A line is what the reader made of it; bytes and the judge are not mentioned here (01, Refusals by number).
-use Rattle.std.specs.Prelude.{ℕ, suc, ◌-◌, ◌≤◌, ◌<◌, ◌≡◌, Bool, false, not, ◌&&◌, ◌||◌, List, [], ◌∷◌, eqb, leb, length, get_or, take}
-use Rattle.std.proofs.Math.Option.{Option, none, some}
+use Rattle.std.specs.Prelude.{ℕ, suc, ◌-◌, ◌≤◌, ◌<◌, ◌≡◌, Bool, false, not, ◌&&◌, ◌||◌, List, [], ◌∷◌, eqb, leb, length, get_or, take, Option, None, Some}
 use Rattle.laws.specs.Lists.{first_of}
 use Rattle.terms.specs.declared.letters.Letter.TheVariants.{Begin, Commit, GiveUp, Retry, Back, Asks}
 use Rattle.terms.specs.declared.refusals.Field.{Field}
@@ -99,11 +98,11 @@ table_says n before r = first_of (holds n before r) order
 
 -- the refusal is due for line n: it is the first whose row holds
 abbrev pub Due : List Reading → ℕ → Refusal → Type 0
-Due rs n why = table_says n (lines_before rs n) (reading_at rs n) ≡ some why
+Due rs n why = table_says n (lines_before rs n) (reading_at rs n) ≡ Some why
 
 -- line n is faultless: no row holds
 abbrev pub Faultless : List Reading → ℕ → Type 0
-Faultless rs n = table_says n (lines_before rs n) (reading_at rs n) ≡ none
+Faultless rs n = table_says n (lines_before rs n) (reading_at rs n) ≡ None
 
 -- lines in order, and the first faulty line decides: there is a line n for which the refusal is due, and the lines before it are faultless
 pub record FirstFault (rs : List Reading) (n : ℕ) (why : Refusal) : Type 0 where

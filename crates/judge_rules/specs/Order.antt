@@ -1,6 +1,5 @@
 -- The judge's order: among the jobs left, the smallest without a predecessor left is taken away, again and again (01, The judge's rules: Orderly, Knot).
-use Rattle.std.specs.Prelude.{ℕ, zero, suc, Bool, false, not, ◌||◌, List, [], ◌∷◌, length, eqb}
-use Rattle.std.proofs.Math.Option.{Option, none, some}
+use Rattle.std.specs.Prelude.{ℕ, zero, suc, Bool, false, not, ◌||◌, List, [], ◌∷◌, length, eqb, Option, None, Some}
 use Rattle.laws.specs.Choice.{pick}
 
 -- a test of which job has an edge to which
@@ -14,8 +13,8 @@ preceded e (i ∷ left) j = e i j || preceded e left j
 
 -- the first job that passes the test, if there is one; if the jobs ascend, it is the smallest such job
 unfoldable pub first : (ℕ → Bool) → List ℕ → Option ℕ
-first f [] = none
-first f (j ∷ js) = pick (f j) (some j) (first f js)
+first f [] = None
+first f (j ∷ js) = pick (f j) (Some j) (first f js)
 
 -- the smallest number among those left whose predecessors all stand already, so that none of them is left (01, The judge's rules: Orderly)
 unfoldable pub ready : Edges → List ℕ → Option ℕ
@@ -28,8 +27,8 @@ without j (k ∷ ks) = pick (eqb k j) (without j ks) (k ∷ without j ks)
 
 -- what is done with a job, if there is one
 abbrev pub found : {A : Type 0} → Option ℕ → A → (ℕ → A) → A
-found none x f = x
-found (some j) x f = f j
+found None x f = x
+found (Some j) x f = f j
 
 -- the jobs taken away, each after those taken before it, and the jobs that remain
 pub record Taken : Type 0 where

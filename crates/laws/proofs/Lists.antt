@@ -1,10 +1,10 @@
 -- Laws of lists of numbers, such as jobs: membership, no repeats, positions, and one more in front.
 -- Assumes nothing.
+use Rattle.std.specs.Prelude.{Some}
 use Prim.Native.Nat.{ℕ, zero, suc, ◌<◌}
 use mathlib.Core.Path.{◌≡◌, refl, sym, ap, subst, ◌∙◌}
 use mathlib.Core.Bool.{Bool, true, false, not, ◌&&◌, ◌||◌, and-true, and-false}
 use mathlib.Core.List.{List, [], ◌∷◌}
-use mathlib.Core.Option.{some}
 use native.Mathlib.Omega.{arith}
 use borrow.Author.Tests.{eqb-true, eqb-false, eq-eqb, ne_eqb, not-true}
 use lib.Dec.{eqb}
@@ -109,13 +109,13 @@ put_ahead true k order i j d p q h = pos_both k order i j (member_other k i orde
 put_ahead false k order i j d p q h = h
 
 -- the first of a list of which a test holds is one of which it holds
-pub first_holds : {A : Type 0} (f : A → Bool) (xs : List A) (x : A) → first_of f xs ≡ some x → f x ≡ true
+pub first_holds : {A : Type 0} (f : A → Bool) (xs : List A) (x : A) → first_of f xs ≡ Some x → f x ≡ true
 unfolding first_of
 first_holds f [] x e = let z : ◌≡◌ {A = ℕ} 0 1 = cc in absurd (omega arith)
 first_holds f (y ∷ ys) x e =
-    by_test (f y) (λ t. let q : some y ≡ some x = rw t at e in subst (λ z. f z ≡ true) (same_some y x q) t) (λ g. first_holds f ys x (rw g at e))
+    by_test (f y) (λ t. let q : Some y ≡ Some x = rw t at e in subst (λ z. f z ≡ true) (same_some y x q) t) (λ g. first_holds f ys x (rw g at e))
   where
-    same_some : {A : Type 0} (y x : A) → some y ≡ some x → y ≡ x
+    same_some : {A : Type 0} (y x : A) → Some y ≡ Some x → y ≡ x
     same_some y x q = cc
 
 -- within a list any default reads the same

@@ -1,7 +1,6 @@
 -- Lists of numbers, such as jobs: membership, no repeats, positions, one more in front, the first places of a lent list; and the first element that passes a test.
 -- Nothing here comes from the paper; the definitions are open to every crate.
-use Rattle.std.specs.Prelude.{ℕ, suc, ◌≡◌, Bool, true, false, not, ◌&&◌, ◌||◌, List, [], ◌∷◌, ◌++◌, eqb, length, take, drop}
-use Rattle.std.proofs.Math.Option.{Option, none, some}
+use Rattle.std.specs.Prelude.{ℕ, suc, ◌≡◌, Bool, true, false, not, ◌&&◌, ◌||◌, List, [], ◌∷◌, ◌++◌, eqb, length, take, drop, Option, None, Some}
 use Rattle.laws.specs.Choice.{pick}
 
 -- whether the list names the number
@@ -36,5 +35,5 @@ pub record Fills (js before after : List ℕ) : Type 0 where
 
 -- the first element that passes the test, if there is one
 unfoldable pub first_of : {A : Type 0} → (A → Bool) → List A → Option A
-first_of f [] = none
-first_of f (x ∷ xs) = pick (f x) (some x) (first_of f xs)
+first_of f [] = None
+first_of f (x ∷ xs) = pick (f x) (Some x) (first_of f xs)

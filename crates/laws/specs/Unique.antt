@@ -15,6 +15,11 @@ abbrev pub UniqueLent : {n : ℕ} (ps : List (ParamKind n)) (r : ResultKind n) �
 UniqueLent {n} ps r post lent =
     (κs : Lfts n) (a : Dens κs ps) (x y : (res_t r κs).Denot) (e f : AtExit (ended_of n ps r) κs) → post κs a x e → post κs a y f → (x ≡ y) × (lent κs e ≡ lent κs f)
 
+-- the same where the function hands back a reference: what any two of them point at is the same; `held` reads it, as `λ κs x. now x`
+abbrev pub UniqueShown : {n : ℕ} (ps : List (ParamKind n)) (r : ResultKind n) → Out n ps r → {A : Type 0} → ((κs : Lfts n) → (res_t r κs).Denot → A) → Type 0
+UniqueShown {n} ps r post held =
+    (κs : Lfts n) (a : Dens κs ps) (x y : (res_t r κs).Denot) (e f : AtExit (ended_of n ps r) κs) → post κs a x e → post κs a y f → held κs x ≡ held κs y
+
 -- the same where the function hands back a part of an argument and borrows two buffers: any two parts hold the same, and so does each buffer at the exit;
 -- `held` reads a part, as `λ κs x. now x`; `first` and `second` read the buffers
 abbrev pub UniquePart : {n : ℕ} (ps : List (ParamKind n)) (r : ResultKind n) → Out n ps r → {A B C : Type 0} → ((κs : Lfts n) → (res_t r κs).Denot → A) →

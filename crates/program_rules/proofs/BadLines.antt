@@ -1,10 +1,10 @@
 -- The desk programs answer a line with refusal 9 and a field exactly if it is bad at that field, and the desk does not see it (01, refusal 9; 01, Lines; 02, No. 5).
 -- Assumes nothing.
+use Rattle.std.specs.Prelude.{Some}
 use Prim.Native.Nat.{ℕ, ◌+◌}
 use mathlib.Core.Path.{◌≡◌, refl, ap}
 use mathlib.Core.Logic.{◌↔◌}
 use mathlib.Core.List.{List, [], ◌∷◌}
-use mathlib.Core.Option.{some}
 use native.Mathlib.Omega.{arith}
 use lib.Dec.{ltb}
 use borrow.Author.Tests.{ltb-true, ltb-false}
@@ -45,13 +45,13 @@ module _ {S : Type 0} (step : Stepping S) where
 
   module _ (never : (d : S) (r : Request) (at : Field) → (step d r).said ≡ No (BadLine at) → ⊥) where
     -- by what the line says: a step never answers 9
-    answered_exactly : (d : S) (n : ℕ) (r : Reading) (at : Field) → ((answered step d n r).told.said ≡ No (BadLine at)) ↔ (refusal_of r ≡ some (BadLine at))
+    answered_exactly : (d : S) (n : ℕ) (r : Reading) (at : Field) → ((answered step d n r).told.said ≡ No (BadLine at)) ↔ (refusal_of r ≡ Some (BadLine at))
     unfolding answered
-    answered_exactly d n (Bad field) at = (λ e. let q : field ≡ at = cc in ap (λ f. some (BadLine f)) q, λ e. let q : field ≡ at = cc in ap (λ f. No (BadLine f)) q)
+    answered_exactly d n (Bad field) at = (λ e. let q : field ≡ at = cc in ap (λ f. Some (BadLine f)) q, λ e. let q : field ≡ at = cc in ap (λ f. No (BadLine f)) q)
     answered_exactly d n (Good l job cell) at = (λ e. absurd (never d (record { kind = byte_of l; job = job; cell = cell }) at e), λ e. let z : ◌≡◌ {A = ℕ} 0 1 = cc in absurd (omega arith))
 
     -- a line is answered with 9 and a field exactly where it is bad at that field
-    pub line_9_exactly : (d : S) (n : ℕ) (l : List ℕ) (at : Field) → ((line_by step d n l).told.said ≡ No (BadLine at)) ↔ (refusal_of (read_line of_requests l) ≡ some (BadLine at))
+    pub line_9_exactly : (d : S) (n : ℕ) (l : List ℕ) (at : Field) → ((line_by step d n l).told.said ≡ No (BadLine at)) ↔ (refusal_of (read_line of_requests l) ≡ Some (BadLine at))
     unfolding line_by
     line_9_exactly d n l = answered_exactly d n (read_line of_requests l)
 

@@ -1,11 +1,11 @@
 -- Answers and history show the same: each go of a read, write, increment or u, each wake and each back has its record in the history, and vice versa.
 -- Assumes nothing.
+use Rattle.std.specs.Prelude.{Option, None, Some}
 use Prim.Native.Nat.{ℕ}
 use mathlib.Core.Path.{◌≡◌, refl, sym, ap, ap₂, ◌∙◌}
 use mathlib.Core.List.{List, [], ◌∷◌, ◌++◌}
+use Rattle.terms.specs.declared.letters.Letter.{Letter}
 use Rattle.terms.specs.declared.letters.Letter.TheVariants.{Begin, Commit as commit, GiveUp as give-up, Retry, Back as no-request, Asks}
-use Rattle.terms.specs.declared.letters.Lettered.{Lettered}
-use Rattle.terms.specs.declared.letters.Lettered.TheVariants.{Known, Unknown}
 use Rattle.terms.specs.Letters.{letter_of}
 use Rattle.conflict.specs.declared.action.Action.{Action}
 use Rattle.conflict.specs.declared.action.Event.TheVariants.{Does, Ends}
@@ -28,15 +28,15 @@ shows_append (Does a ∷ h) k = ap (λ l. granted a.job ∷ l) (shows_append h k
 shows_append (Ends m j ∷ h) k = ap (λ l. ended m j ∷ l) (shows_append h k)
 
 -- a request that goes
-go_shown : (r : Request) (j : ℕ) (l : Lettered) → history_shows (went_by r j l) ≡ go_shows j l
+go_shown : (r : Request) (j : ℕ) (l : Option Letter) → history_shows (went_by r j l) ≡ go_shows j l
 unfolding history_shows went_by go_shows
-go_shown r j Unknown = refl
-go_shown r j (Known no-request) = refl
-go_shown r j (Known Begin) = refl
-go_shown r j (Known commit) = refl
-go_shown r j (Known give-up) = refl
-go_shown r j (Known Retry) = refl
-go_shown r j (Known (Asks a)) = refl
+go_shown r j None = refl
+go_shown r j (Some no-request) = refl
+go_shown r j (Some Begin) = refl
+go_shown r j (Some commit) = refl
+go_shown r j (Some give-up) = refl
+go_shown r j (Some Retry) = refl
+go_shown r j (Some (Asks a)) = refl
 
 -- any answer
 own_shown : (r : Request) (a : Answer) → history_shows (own_records r a) ≡ answer_shows (letter_of r.kind) a

@@ -1,6 +1,5 @@
 -- What a run tells of the lines of its text, line by line, and the requests in the lines (01, Lines; 01, refusal 9).
-use Rattle.std.specs.Prelude.{ℕ, ◌+◌, ◌<◌, ◌≤◌, ◌≡◌, ◌↔◌, List, [], ◌∷◌, ◌++◌, ltb}
-use Rattle.std.proofs.Math.Option.{some}
+use Rattle.std.specs.Prelude.{ℕ, ◌+◌, ◌<◌, ◌≤◌, ◌≡◌, ◌↔◌, List, [], ◌∷◌, ◌++◌, ltb, Some}
 use Rattle.laws.specs.Choice.{pick}
 use Rattle.terms.specs.declared.refusals.Field.{Field}
 use Rattle.terms.specs.declared.refusals.Refusal.TheVariants.{BadLine}
@@ -18,7 +17,7 @@ pub data LinesTold : ℕ → List (List ℕ) → List Told → Type 0 where
   no_line : {n : ℕ} → LinesTold n [] []
   no_more : {n : ℕ} {ls : List (List ℕ)} → request_lines < n → LinesTold n ls []
   a_line : {n : ℕ} {l : List ℕ} {ls : List (List ℕ)} {t : Told} {ts : List Told} → n ≤ request_lines → t.line ≡ n →
-      ((at : Field) → (t.said ≡ No (BadLine at)) ↔ (refusal_of (read_line of_requests l) ≡ some (BadLine at))) → LinesTold (n + 1) ls ts → LinesTold n (l ∷ ls) (t ∷ ts)
+      ((at : Field) → (t.said ≡ No (BadLine at)) ↔ (refusal_of (read_line of_requests l) ≡ Some (BadLine at))) → LinesTold (n + 1) ls ts → LinesTold n (l ∷ ls) (t ∷ ts)
 
 -- the request in a line; a bad line has none
 unfoldable pub request_of : Reading → List Request

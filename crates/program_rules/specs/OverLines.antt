@@ -1,6 +1,5 @@
 -- The run of a desk over lines of text: one definition, with the answers and the history as its two views (01, Lines).
-use Rattle.std.specs.Prelude.{ℕ, ◌+◌, List, [], ◌∷◌, ◌++◌, ltb}
-use Rattle.std.proofs.Math.Option.{Option, none, some}
+use Rattle.std.specs.Prelude.{ℕ, ◌+◌, List, [], ◌∷◌, ◌++◌, ltb, Option, None, Some}
 use Rattle.laws.specs.Choice.{pick}
 use Rattle.terms.specs.declared.letters.Letter.{Letter}
 use Rattle.terms.specs.declared.words.Word.TheVariants.{Wake}
@@ -51,8 +50,8 @@ told_by n r o = record { line = n; request = r; said = o.said; wakes = o.wakes }
 
 -- a line that the reader refuses is answered with that refusal, and the desk does not see it; any other line is a step
 abbrev pub answered_by : {S : Type 0} → Stepping S → S → ℕ → Request → Option Refusal → Lined S
-answered_by step d n r (some why) = record { desk = d; told = record { line = n; request = r; said = No why; wakes = [] } }
-answered_by step d n r none = let o = step d r in record { desk = o.desk; told = told_by n r o }
+answered_by step d n r (Some why) = record { desk = d; told = record { line = n; request = r; said = No why; wakes = [] } }
+answered_by step d n r None = let o = step d r in record { desk = o.desk; told = told_by n r o }
 
 -- a line is answered by how it reads: refusal 9 with the field at fault if it is bad, else a step
 unfoldable pub answered : {S : Type 0} → Stepping S → S → ℕ → Reading → Lined S

@@ -1,8 +1,7 @@
 -- What a line's answer records show, and what its history records show: grants to jobs, and ends of their runs (01, Lines).
-use Rattle.std.specs.Prelude.{ℕ, List, [], ◌∷◌, ◌++◌}
+use Rattle.std.specs.Prelude.{ℕ, List, [], ◌∷◌, ◌++◌, Option, None, Some}
+use Rattle.terms.specs.declared.letters.Letter.{Letter}
 use Rattle.terms.specs.declared.letters.Letter.TheVariants.{Begin, Commit as commit, GiveUp as give-up, Retry, Back as no-request, Asks}
-use Rattle.terms.specs.declared.letters.Lettered.{Lettered}
-use Rattle.terms.specs.declared.letters.Lettered.TheVariants.{Known, Unknown}
 use Rattle.terms.specs.Letters.{letter_of}
 use Rattle.conflict.specs.declared.action.Action.{Action}
 use Rattle.conflict.specs.declared.action.Mark.{Mark}
@@ -22,17 +21,17 @@ pub data Shown : Type 0 where
   ended : Mark → ℕ → Shown
 
 -- a go shows a grant if the request is a read, write, increment or u, and an end if it is a commit or a give-up
-unfoldable pub go_shows : ℕ → Lettered → List Shown
-go_shows j Unknown = []
-go_shows j (Known no-request) = []
-go_shows j (Known Begin) = []
-go_shows j (Known commit) = ended Commit j ∷ []
-go_shows j (Known give-up) = ended GiveUp j ∷ []
-go_shows j (Known Retry) = []
-go_shows j (Known (Asks a)) = granted j ∷ []
+unfoldable pub go_shows : ℕ → Option Letter → List Shown
+go_shows j None = []
+go_shows j (Some no-request) = []
+go_shows j (Some Begin) = []
+go_shows j (Some commit) = ended Commit j ∷ []
+go_shows j (Some give-up) = ended GiveUp j ∷ []
+go_shows j (Some Retry) = []
+go_shows j (Some (Asks a)) = granted j ∷ []
 
 -- a back shows an end; a wait and a refusal show nothing
-unfoldable pub answer_shows : Lettered → Answer → List Shown
+unfoldable pub answer_shows : Option Letter → Answer → List Shown
 answer_shows l (Go j) = go_shows j l
 answer_shows l (Wait j) = []
 answer_shows l (goes_back j) = ended Back j ∷ []

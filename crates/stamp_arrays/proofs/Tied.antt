@@ -1,5 +1,6 @@
 -- One step over the arrays is the step of the request's desk that they show, letter by letter (02, No. 6).
 -- Assumes nothing.
+use Rattle.std.specs.Prelude.{Option, None, Some}
 use Prim.Native.Nat.{ℕ, ◌<◌}
 use mathlib.Core.Path.{◌≡◌, refl, sym, ap, ◌∙◌, fun_ext}
 use mathlib.Core.Bool.{true, false, not, ◌&&◌}
@@ -16,11 +17,10 @@ use Rattle.laws.specs.Larger.{larger}
 use Rattle.laws.specs.Lists.{member, pos}
 use Rattle.laws.proofs.Functions.{at_all}
 use Rattle.laws.proofs.Parts.{and_second}
+use Rattle.terms.specs.declared.letters.Letter.{Letter}
 use Rattle.terms.specs.declared.letters.Ask.{Ask}
 use Rattle.terms.specs.declared.letters.Ask.TheVariants.{Read, Write, Increment, Update}
 use Rattle.terms.specs.declared.letters.Letter.TheVariants.{Begin as begins, Commit, GiveUp, Retry, Back as no-request, Asks}
-use Rattle.terms.specs.declared.letters.Lettered.{Lettered}
-use Rattle.terms.specs.declared.letters.Lettered.TheVariants.{Known, Unknown}
 use Rattle.terms.specs.declared.refusals.Refusal.{Refusal}
 use Rattle.terms.specs.Limits.{places, cells, last_number}
 use Rattle.desks.specs.Begin.{refused, beginning}
@@ -131,12 +131,12 @@ module _ (d : Stamps) (p : Plain d) where
         gone_tied h = unfold answer_to in rw (act_tied c h a)
 
   -- every request, by its letter
-  pub letter_tied : Once d.number → (r : Request) (l : Lettered) → shown view (told d r.job r.cell (move_for d.next d.number d.reader d.writer r.job r.cell l)) ≡ step_by (view d) r l
+  pub letter_tied : Once d.number → (r : Request) (l : Option Letter) → shown view (told d r.job r.cell (move_for d.next d.number d.reader d.writer r.job r.cell l)) ≡ step_by (view d) r l
   unfolding move_for step_by
-  letter_tied once r Unknown = unfold carried answer_to refused in refl
-  letter_tied once r (Known no-request) = unfold carried answer_to refused in refl
-  letter_tied once r (Known begins) = begin_tied r.job r.cell
-  letter_tied once r (Known Commit) = close_tied r.job once r.cell
-  letter_tied once r (Known GiveUp) = close_tied r.job once r.cell
-  letter_tied once r (Known Retry) = retry_tied r.job r.cell
-  letter_tied once r (Known (Asks a)) = ask_tied r.job once r.cell a
+  letter_tied once r None = unfold carried answer_to refused in refl
+  letter_tied once r (Some no-request) = unfold carried answer_to refused in refl
+  letter_tied once r (Some begins) = begin_tied r.job r.cell
+  letter_tied once r (Some Commit) = close_tied r.job once r.cell
+  letter_tied once r (Some GiveUp) = close_tied r.job once r.cell
+  letter_tied once r (Some Retry) = retry_tied r.job r.cell
+  letter_tied once r (Some (Asks a)) = ask_tied r.job once r.cell a

@@ -3,11 +3,10 @@ use Rattle.std.specs.Prelude.{ℕ, ◌+◌, Bool, List, [], Option, Some, None, 
 use Rattle.laws.specs.Choice.{pick}
 use Rattle.laws.specs.Larger.{larger}
 use Rattle.laws.specs.Lists.{pos}
+use Rattle.terms.specs.declared.letters.Letter.{Letter}
 use Rattle.terms.specs.declared.letters.Ask.{Ask}
 use Rattle.terms.specs.declared.letters.Ask.TheVariants.{Read, Write, Increment, Update}
 use Rattle.terms.specs.declared.letters.Letter.TheVariants.{Begin as begins, Commit, GiveUp, Retry, Back as no-request, Asks}
-use Rattle.terms.specs.declared.letters.Lettered.{Lettered}
-use Rattle.terms.specs.declared.letters.Lettered.TheVariants.{Known, Unknown}
 use Rattle.terms.specs.declared.refusals.Refusal.{Refusal}
 use Rattle.terms.specs.declared.refusals.Refusal.TheVariants.{UnknownKind, CellAbove, NotOpen, StartedAtZero, NoRetry}
 use Rattle.terms.specs.Letters.{letter_of}
@@ -15,7 +14,6 @@ use Rattle.terms.specs.Limits.{places, cells}
 use Rattle.desks.specs.declared.Answer.{Answer}
 use Rattle.desks.specs.declared.Answer.TheVariants.{Go, Back, No}
 use Rattle.desks.specs.declared.finding.Opening.{Opening}
-use Rattle.desks.specs.declared.finding.Opening.TheVariants.{At, Refused as not_opened}
 use Rattle.desks.specs.Opening.{opening_of}
 use Rattle.stamp_rules.specs.Rules.{late}
 use Rattle.stamp_arrays.specs.declared.state.Stamps.{Stamps}
@@ -73,14 +71,14 @@ ask_move reader writer (Some p) job c a = act_move reader writer p job c a
 ask_move reader writer None job c a = Err NotOpen
 
 -- the move of a request, by its letter; refusal 1 if no request has the letter
-unfoldable pub move_for : ℕ → List ℕ → List ℕ → List ℕ → ℕ → ℕ → Lettered → Result Move Refusal
-move_for next number reader writer job c Unknown = Err UnknownKind
-move_for next number reader writer job c (Known no-request) = Err UnknownKind
-move_for next number reader writer job c (Known begins) = begin_move next number
-move_for next number reader writer job c (Known Commit) = close_move (found_at number job)
-move_for next number reader writer job c (Known GiveUp) = close_move (found_at number job)
-move_for next number reader writer job c (Known Retry) = retry_move (found_at number job)
-move_for next number reader writer job c (Known (Asks a)) = ask_move reader writer (found_at number job) job c a
+unfoldable pub move_for : ℕ → List ℕ → List ℕ → List ℕ → ℕ → ℕ → Option Letter → Result Move Refusal
+move_for next number reader writer job c None = Err UnknownKind
+move_for next number reader writer job c (Some no-request) = Err UnknownKind
+move_for next number reader writer job c (Some begins) = begin_move next number
+move_for next number reader writer job c (Some Commit) = close_move (found_at number job)
+move_for next number reader writer job c (Some GiveUp) = close_move (found_at number job)
+move_for next number reader writer job c (Some Retry) = retry_move (found_at number job)
+move_for next number reader writer job c (Some (Asks a)) = ask_move reader writer (found_at number job) job c a
 
 -- the reader numbers after a job has acted on a cell: r, i and u read it (02, No. 6)
 unfoldable pub readers_after : List ℕ → ℕ → ℕ → Ask → List ℕ

@@ -11,8 +11,6 @@ use Rattle.laws.specs.Choice.{by_test}
 use Rattle.laws.specs.Lists.{pos}
 use Rattle.terms.specs.declared.letters.Ask.{Ask}
 use Rattle.terms.specs.declared.letters.Letter.TheVariants.{Begin as begins, Commit, GiveUp, Retry, Back as no-request, Asks}
-use Rattle.terms.specs.declared.letters.Lettered.{Lettered}
-use Rattle.terms.specs.declared.letters.Lettered.TheVariants.{Known, Unknown}
 use Rattle.terms.specs.declared.refusals.Refusal.{Refusal}
 use Rattle.terms.specs.declared.refusals.Refusal.TheVariants.{UnknownKind}
 use Rattle.terms.specs.declared.letters.Letter.{Letter}
@@ -92,5 +90,5 @@ unfolding step_of move_of move_for carried answer_to
 refused_byte d kind job c h = record { desk = rw h; said = rw h }
 
 -- a step by a letter is the step by the byte that is the letter's
-pub by_letter : {d e : Stamps} {kind job c : ℕ} {letter : Letter} {x : Answer} → letter_of kind ≡ Known letter → StepsTo d (byte_of letter) job c e x → StepsTo d kind job c e x
+pub by_letter : {d e : Stamps} {kind job c : ℕ} {letter : Letter} {x : Answer} → letter_of kind ≡ Some letter → StepsTo d (byte_of letter) job c e x → StepsTo d kind job c e x
 by_letter {d} {e} {kind} {job} {c} {letter} {x} h s = subst (λ k. StepsTo d k job c e x) (byte_of_letter kind letter h) s

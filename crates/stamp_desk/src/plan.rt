@@ -1,6 +1,5 @@
 // What a step is to do, decided over lent arrays before anything changes (02, No. 6; 01, Refusals by number).
-ghost use Rattle.std.specs.Prelude.{◌≡◌, ◌||◌, ltb};
-ghost use Rattle.terms.specs.declared.letters.Lettered.TheVariants.{Known};
+ghost use Rattle.std.specs.Prelude.{◌≡◌, ◌||◌, ltb, Some};
 ghost use Rattle.stamp_arrays.specs.Steps.{late_with, begin_move, found_at, close_move, retry_move, ask_move, move_for};
 
 use desks::finding::{Opening, opening_for, place_of};
@@ -99,7 +98,7 @@ impl Board<'_> {
 // The move of a request, by its letter.
 #[tactic(auto, unfolding(stamp_arrays::specs::Steps::move_for))]
 pub fn plan_for(desk: Board, letter: Letter, job: u32, c: u32) -> Result<Move, Refusal>
-    ensures { result ≡ move_for desk.entry.next desk.entry.number.now desk.entry.reader.now desk.entry.writer.now job c (Known letter) }
+    ensures { result ≡ move_for desk.entry.next desk.entry.number.now desk.entry.reader.now desk.entry.writer.now job c (Some letter) }
 {
     match letter {
         Letter::Back => Err(Refusal::UnknownKind),

@@ -10,7 +10,7 @@ use crate::plan::{Board, plan_for};
 use desks::Answer;
 use stamp_arrays::moves::Move;
 use stamp_arrays::state::{ROWS, Stamped, Stamps};
-use terms::letters::{Ask, Letter, Lettered, letter_of};
+use terms::letters::{Ask, Letter, letter_of};
 use terms::limits::PLACES;
 use terms::refusals::Refusal;
 
@@ -123,8 +123,8 @@ pub fn step_on(
     ensures { StepsTo (stamps_of next.old number.old reader.old writer.old) kind job cell (stamps_of next.new number.new reader.new writer.new) result }
 {
     match letter_of(kind) {
-        Lettered::Unknown => Answer::No(Refusal::UnknownKind),
-        Lettered::Known(l) => step_for(next, number, reader, writer, l, job, cell),
+        None => Answer::No(Refusal::UnknownKind),
+        Some(l) => step_for(next, number, reader, writer, l, job, cell),
     }
 }
 
@@ -150,8 +150,8 @@ pub fn step(d: Stamps, kind: u8, job: u32, cell: u32) -> Stamped
 {
     let mut stamps = d;
     let answer = match letter_of(kind) {
-        Lettered::Unknown => Answer::No(Refusal::UnknownKind),
-        Lettered::Known(l) => step_in(&mut stamps, l, job, cell),
+        None => Answer::No(Refusal::UnknownKind),
+        Some(l) => step_in(&mut stamps, l, job, cell),
     };
     Stamped { stamps, answer }
 }

@@ -1,5 +1,6 @@
 -- What begins and ends leave, by the answer: a begin opens one job; a commit, a give-up and a sending back close one; and a closed job stays closed (02, No. 6; 01, Jobs and their numbers).
 -- Assumes nothing.
+use Rattle.std.specs.Prelude.{Option, Some}
 use Prim.Native.Nat.{ℕ, ◌<◌}
 use mathlib.Core.Path.{◌≡◌, refl, ap, ◌∙◌, subst}
 use mathlib.Core.Logic.{inl, inr}
@@ -10,8 +11,6 @@ use Rattle.laws.specs.Choice.{not_both}
 use Rattle.terms.specs.declared.letters.Ask.{Ask}
 use Rattle.terms.specs.declared.letters.Letter.{Letter}
 use Rattle.terms.specs.declared.letters.Letter.TheVariants.{Begin}
-use Rattle.terms.specs.declared.letters.Lettered.{Lettered}
-use Rattle.terms.specs.declared.letters.Lettered.TheVariants.{Known}
 use Rattle.terms.specs.Letters.{letter_of}
 use Rattle.conflict.specs.History.{History}
 use Rattle.desks.specs.declared.Answer.TheVariants.{Go, Back}
@@ -43,7 +42,7 @@ same_back : {i j : ℕ} → Back i ≡ Back j → i ≡ j
 same_back e = cc
 
 -- a request has one letter
-one_letter : {P : Type 0} (f : Letter → Bool) {x : Lettered} {k l : Letter} → x ≡ Known k → x ≡ Known l → f k ≡ true → f l ≡ false → P
+one_letter : {P : Type 0} (f : Letter → Bool) {x : Option Letter} {k l : Letter} → x ≡ Some k → x ≡ Some l → f k ≡ true → f l ≡ false → P
 one_letter f p q t n = not_both (ap (letter_is f) p ∙ t) (ap (letter_is f) q ∙ n)
 
 module _ (d : Desk) where
@@ -63,7 +62,7 @@ module _ (d : Desk) where
 
   module _ {r : Request} (j : ℕ) where
     -- a begin that goes opens a job under the next number, if that is not 0 and the places name the open jobs
-    moved_begins : {o : Outcome} → Seats d → 0 < d.next → letter_of r.kind ≡ Known Begin → Moved d r o → o.said ≡ Go j → Begins d o.desk j
+    moved_begins : {o : Outcome} → Seats d → 0 < d.next → letter_of r.kind ≡ Some Begin → Moved d r o → o.said ≡ Go j → Begins d o.desk j
     unfolding refused
     moved_begins v l b (refuses why _) g = other-answer g refl
     moved_begins v l b (begins _ n m) g =

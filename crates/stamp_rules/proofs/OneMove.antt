@@ -1,9 +1,9 @@
 -- The rules leave no choice: the step is the only move, whatever the desk and the request (02, No. 6; 01, How much a contract says).
 -- Assumes nothing.
+use Rattle.std.specs.Prelude.{Option, None, Some}
 use Prim.Native.Nat.{ℕ}
 use mathlib.Core.Path.{◌≡◌, ap, ◌∙◌}
 use mathlib.Core.Logic.{inl, inr}
-use mathlib.Core.Option.{Option, none, some}
 use native.Mathlib.Omega.{arith}
 use borrow.Author.Tests.{lt-ltb, le-ltb, lt-leb}
 use Rattle.laws.specs.Lists.{first_of}
@@ -21,11 +21,11 @@ use Rattle.stamp_rules.specs.Moves.{Moved, refuses, begins, closes, goes, goes_b
 use Rattle.stamp_rules.proofs.Moved.{step_moved}
 
 -- one refusal is due
-one_due : {o : Option Refusal} {x y : Refusal} → o ≡ some x → o ≡ some y → x ≡ y
+one_due : {o : Option Refusal} {x y : Refusal} → o ≡ Some x → o ≡ Some y → x ≡ y
 one_due p q = cc
 
 -- or none
-not_due : {P : Type 0} {o : Option Refusal} {x : Refusal} → o ≡ none → o ≡ some x → P
+not_due : {P : Type 0} {o : Option Refusal} {x : Refusal} → o ≡ None → o ≡ Some x → P
 not_due p q = let z : ◌≡◌ {A = ℕ} 0 1 = cc in absurd (omega arith)
 
 module _ {d : Desk} {r : Request} where

@@ -1,5 +1,6 @@
 -- Refusals and answers of the timestamp desk: a refusal of its table exactly if it is the first that is due, and then nothing changes; otherwise go or back, with the job; and only 1, 2, 3, 6, 7 and 19 are ever given (02, No. 6; 01, Refusals by number).
 -- Assumes nothing.
+use Rattle.std.specs.Prelude.{Option, None, Some}
 use Prim.Native.Nat.{ℕ}
 use mathlib.Core.Path.{◌≡◌, refl, sym, ap, ap₂, ◌∙◌}
 use mathlib.Core.Bool.{Bool, true}
@@ -7,9 +8,8 @@ use mathlib.Core.List.{[], ◌∷◌}
 use Rattle.laws.specs.Choice.{not_both}
 use Rattle.laws.specs.Lists.{member}
 use Rattle.laws.proofs.Lists.{first_holds}
+use Rattle.terms.specs.declared.letters.Letter.{Letter}
 use Rattle.terms.specs.declared.letters.Letter.TheVariants.{Begin, Commit, GiveUp, Retry, Back, Asks}
-use Rattle.terms.specs.declared.letters.Lettered.{Lettered}
-use Rattle.terms.specs.declared.letters.Lettered.TheVariants.{Known, Unknown}
 use Rattle.terms.specs.declared.refusals.Refusal.{Refusal}
 use Rattle.terms.specs.declared.refusals.Refusal.TheVariants.{UnknownKind, CellAbove, NotOpen, Waiting, SentBack, AllOpen, NoNumberLeft, Running, BadLine, StartedAtZero, TooManyLines, JobOutside, Ended, ShortOrder, NoRoom, TooLong, ShortList, NoRetry}
 use Rattle.terms.specs.Letters.{letter_of}
@@ -41,7 +41,7 @@ abbrev Given : Refusal → Type 0
 Given why = member (number_of why) (1 ∷ 2 ∷ 3 ∷ 6 ∷ 7 ∷ 19 ∷ []) ≡ true
 
 -- no other row holds for a step
-row_number : (l : Lettered) (o : Bool) (c : ℕ) (d : Desk) (why : Refusal) → holds l o c d why ≡ true → Given why
+row_number : (l : Option Letter) (o : Bool) (c : ℕ) (d : Desk) (why : Refusal) → holds l o c d why ≡ true → Given why
 unfolding holds member
 row_number l o c d UnknownKind h = refl
 row_number l o c d CellAbove h = refl
@@ -83,15 +83,15 @@ only_cells d r k = by_move (step_moved d r)
     by_move (moves.goes_back a q t) = not_both k (ap (letter_is asks_no_cell) q.letter)
 
 -- requests that are alike for a letter have the same outcome
-by_alike : (d : Desk) (r s : Request) (l : Lettered) → Alike l r s → step_by d r l ≡ step_by d s l
+by_alike : (d : Desk) (r s : Request) (l : Option Letter) → Alike l r s → step_by d r l ≡ step_by d s l
 unfolding step_by
-by_alike d r s Unknown e = refl
-by_alike d r s (Known Back) e = refl
-by_alike d r s (Known Begin) e = refl
-by_alike d r s (Known Commit) e = ap (step_close d) (e.job refl)
-by_alike d r s (Known GiveUp) e = ap (step_close d) (e.job refl)
-by_alike d r s (Known Retry) e = ap (step_retry d) (e.job refl)
-by_alike d r s (Known (Asks a)) e = ap₂ (λ j c. step_ask d j c a) (e.job refl) (e.cell refl)
+by_alike d r s None e = refl
+by_alike d r s (Some Back) e = refl
+by_alike d r s (Some Begin) e = refl
+by_alike d r s (Some Commit) e = ap (step_close d) (e.job refl)
+by_alike d r s (Some GiveUp) e = ap (step_close d) (e.job refl)
+by_alike d r s (Some Retry) e = ap (step_retry d) (e.job refl)
+by_alike d r s (Some (Asks a)) e = ap₂ (λ j c. step_ask d j c a) (e.job refl) (e.cell refl)
 
 -- requests of one kind that are alike for its letter make the same step
 step_alike : (d : Desk) (r s : Request) → r.kind ≡ s.kind → Alike (letter_of r.kind) r s → step d r ≡ step d s

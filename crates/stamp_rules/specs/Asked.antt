@@ -1,10 +1,9 @@
 -- An open job asks for a cell; and what a step leaves, by its answer, from desk d before it to desk e after it (02, No. 6).
-use Rattle.std.specs.Prelude.{ℕ, suc, ◌<◌, ◌≡◌, ◌≢◌, true, false}
+use Rattle.std.specs.Prelude.{ℕ, suc, ◌<◌, ◌≡◌, ◌≢◌, true, false, Some}
 use Rattle.laws.specs.Larger.{larger}
 use Rattle.laws.specs.Lists.{member}
 use Rattle.terms.specs.declared.letters.Ask.{Ask}
 use Rattle.terms.specs.declared.letters.Letter.TheVariants.{Asks}
-use Rattle.terms.specs.declared.letters.Lettered.TheVariants.{Known}
 use Rattle.terms.specs.Letters.{letter_of}
 use Rattle.terms.specs.Limits.{cells}
 use Rattle.desks.specs.Request.{Request}
@@ -12,7 +11,7 @@ use Rattle.stamp_rules.specs.Desk.{Desk, is_open}
 
 -- an open job asks for a cell from 0 to 63
 pub record Asking (d : Desk) (r : Request) (a : Ask) : Type 0 where
-  pub letter : letter_of r.kind ≡ Known (Asks a)
+  pub letter : letter_of r.kind ≡ Some (Asks a)
   pub open_job : is_open d r.job ≡ true
   pub within : r.cell < cells
 

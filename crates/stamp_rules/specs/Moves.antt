@@ -1,9 +1,8 @@
 -- The request's rules as a relation: one move for each rule, with what the rule tests and what it leaves written out (02, No. 6; 01, Refusals by number).
-use Rattle.std.specs.Prelude.{ℕ, suc, ◌≤◌, ◌≡◌, ◌⊎◌, true, false, List, []}
+use Rattle.std.specs.Prelude.{ℕ, suc, ◌≤◌, ◌≡◌, ◌⊎◌, true, false, List, [], Some}
 use Rattle.laws.specs.Lists.{member}
 use Rattle.terms.specs.declared.letters.Ask.{Ask}
 use Rattle.terms.specs.declared.letters.Letter.TheVariants.{Begin, Commit, GiveUp}
-use Rattle.terms.specs.declared.letters.Lettered.TheVariants.{Known}
 use Rattle.terms.specs.declared.refusals.Refusal.{Refusal}
 use Rattle.terms.specs.Letters.{letter_of}
 use Rattle.terms.specs.Limits.{last_number}
@@ -31,14 +30,14 @@ without d j = placed d d.next (vacated j d.jobs)
 
 -- the request is a commit or a give-up
 abbrev pub EndAsked : Request → Type 0
-EndAsked r = (letter_of r.kind ≡ Known Commit) ⊎ (letter_of r.kind ≡ Known GiveUp)
+EndAsked r = (letter_of r.kind ≡ Some Commit) ⊎ (letter_of r.kind ≡ Some GiveUp)
 
 -- the moves, with what each leaves and tells
 pub data Moved (d : Desk) (r : Request) : Outcome → Type 0 where
   -- a refusal that the table says is due
   refuses : (why : Refusal) → Due d r why → Moved d r (refused d why)
   -- begin gives the next number to a job in a free place
-  begins : letter_of r.kind ≡ Known Begin → d.next ≤ last_number → member 0 d.jobs ≡ true →
+  begins : letter_of r.kind ≡ Some Begin → d.next ≤ last_number → member 0 d.jobs ≡ true →
       Moved d r (telling (placed d (suc d.next) (seated d.next d.jobs)) (Go d.next))
   -- commit and give-up close the job
   closes : EndAsked r → is_open d r.job ≡ true → Moved d r (telling (without d r.job) (Go r.job))

@@ -1,10 +1,9 @@
 -- One step of the timestamp desk: the refusals in their order, then what the request says; and started desks (02, No. 6; 01, Refusals by number).
-use Rattle.std.specs.Prelude.{ℕ, ltb}
+use Rattle.std.specs.Prelude.{ℕ, ltb, Option, None, Some}
 use Rattle.laws.specs.Choice.{pick}
+use Rattle.terms.specs.declared.letters.Letter.{Letter}
 use Rattle.terms.specs.declared.letters.Ask.{Ask}
 use Rattle.terms.specs.declared.letters.Letter.TheVariants.{Begin, Commit, GiveUp, Retry, Back, Asks}
-use Rattle.terms.specs.declared.letters.Lettered.{Lettered}
-use Rattle.terms.specs.declared.letters.Lettered.TheVariants.{Known, Unknown}
 use Rattle.terms.specs.declared.refusals.Refusal.TheVariants.{UnknownKind, CellAbove, NotOpen, NoRetry}
 use Rattle.terms.specs.Letters.{letter_of}
 use Rattle.terms.specs.Limits.{cells}
@@ -33,14 +32,14 @@ unfoldable pub step_ask : Desk → ℕ → ℕ → Ask → Outcome
 step_ask d j c a = pick (is_open d j) (pick (ltb c cells) (ask d j c a) (refused d CellAbove)) (refused d NotOpen)
 
 -- a request by its letter; 1 for k and for any other byte, which are not requests
-unfoldable pub step_by : Desk → Request → Lettered → Outcome
-step_by d r Unknown = refused d UnknownKind
-step_by d r (Known Back) = refused d UnknownKind
-step_by d r (Known Begin) = step_begin d
-step_by d r (Known Commit) = step_close d r.job
-step_by d r (Known GiveUp) = step_close d r.job
-step_by d r (Known Retry) = step_retry d r.job
-step_by d r (Known (Asks a)) = step_ask d r.job r.cell a
+unfoldable pub step_by : Desk → Request → Option Letter → Outcome
+step_by d r None = refused d UnknownKind
+step_by d r (Some Back) = refused d UnknownKind
+step_by d r (Some Begin) = step_begin d
+step_by d r (Some Commit) = step_close d r.job
+step_by d r (Some GiveUp) = step_close d r.job
+step_by d r (Some Retry) = step_retry d r.job
+step_by d r (Some (Asks a)) = step_ask d r.job r.cell a
 
 -- one step of the timestamp desk (02, No. 6)
 unfoldable pub step : Desk → Request → Outcome

@@ -1,5 +1,6 @@
 -- Which bytes are letters, as bytes: a byte is no letter exactly where it is none of the nine that are listed, and no letter of a request exactly where it is none of the eight (01, Lines; 01, refusal 1; 02, No. 1).
 -- The bytes are written out, since the list is the point. Assumes nothing.
+use Rattle.std.specs.Prelude.{Option, None, Some}
 use Prim.Native.Nat.{ℕ}
 use mathlib.Core.Path.{◌≡◌, refl, sym, ap, ◌∙◌}
 use mathlib.Core.Logic.{◌↔◌}
@@ -11,15 +12,13 @@ use Rattle.laws.proofs.SameOn.{same_on}
 use Rattle.terms.specs.declared.letters.Ask.TheVariants.{Read, Write, Increment, Update}
 use Rattle.terms.specs.declared.letters.Letter.{Letter}
 use Rattle.terms.specs.declared.letters.Letter.TheVariants.{Begin, Commit, GiveUp, Retry, Back, Asks}
-use Rattle.terms.specs.declared.letters.Lettered.{Lettered}
-use Rattle.terms.specs.declared.letters.Lettered.TheVariants.{Known, Unknown}
 use Rattle.terms.specs.Letters.{byte_of, letter_of, of_requests}
 use Rattle.terms.proofs.Alphabet.{byte_of_letter}
 
 -- whether what was read is a letter, and one that the test takes
-abbrev is_of : (Letter → Bool) → Lettered → Bool
-is_of f (Known l) = f l
-is_of f Unknown = false
+abbrev is_of : (Letter → Bool) → Option Letter → Bool
+is_of f (Some l) = f l
+is_of f None = false
 
 -- every letter
 abbrev any_letter : Letter → Bool
@@ -29,9 +28,9 @@ any_letter l = true
 listed : (f : Letter → Bool) (bs : List ℕ) → ((l : Letter) → member (byte_of l) bs ≡ f l) → map (λ k. is_of any_letter (letter_of k)) bs ≡ map (λ k. true) bs → (b : ℕ) → member b bs ≡ is_of f (letter_of b)
 listed f bs each known b = by_letter (letter_of b) refl
   where
-    by_letter : (x : Lettered) → letter_of b ≡ x → member b bs ≡ is_of f x
-    by_letter (Known l) e = ap (λ k. member k bs) (sym (byte_of_letter b l e)) ∙ each l
-    by_letter Unknown e = by_test (member b bs) (λ t. not_both (same_on (λ k. is_of any_letter (letter_of k)) (λ k. true) bs known b t) (ap (is_of any_letter) e)) (λ g. g)
+    by_letter : (x : Option Letter) → letter_of b ≡ x → member b bs ≡ is_of f x
+    by_letter (Some l) e = ap (λ k. member k bs) (sym (byte_of_letter b l e)) ∙ each l
+    by_letter None e = by_test (member b bs) (λ t. not_both (same_on (λ k. is_of any_letter (letter_of k)) (λ k. true) bs known b t) (ap (is_of any_letter) e)) (λ g. g)
 
 -- b, c, a, t, r, w, i and u: the letters of requests
 abbrev eight : List ℕ
@@ -64,18 +63,18 @@ of_nine (Asks Increment) = refl
 of_nine (Asks Update) = refl
 
 -- A BYTE IS NO LETTER EXACTLY WHERE IT IS NONE OF THE NINE: b, c, a, t, k, r, w, i and u
-pub no_letter_exactly : (b : ℕ) → (letter_of b ≡ Unknown) ↔ (member b (107 ∷ 98 ∷ 99 ∷ 97 ∷ 116 ∷ 114 ∷ 119 ∷ 105 ∷ 117 ∷ []) ≡ false)
+pub no_letter_exactly : (b : ℕ) → (letter_of b ≡ None) ↔ (member b (107 ∷ 98 ∷ 99 ∷ 97 ∷ 116 ∷ 114 ∷ 119 ∷ 105 ∷ 117 ∷ []) ≡ false)
 no_letter_exactly b = (λ e. listed any_letter (107 ∷ eight) of_nine refl b ∙ ap (is_of any_letter) e, λ f. none_known (letter_of b) (sym (listed any_letter (107 ∷ eight) of_nine refl b) ∙ f))
   where
-    none_known : (x : Lettered) → is_of any_letter x ≡ false → x ≡ Unknown
-    none_known (Known l) f = not_both refl f
-    none_known Unknown f = refl
+    none_known : (x : Option Letter) → is_of any_letter x ≡ false → x ≡ None
+    none_known (Some l) f = not_both refl f
+    none_known None f = refl
 
 -- AND NO LETTER OF A REQUEST EXACTLY WHERE IT IS NONE OF THE EIGHT: b, c, a, t, r, w, i and u
-pub no_request_exactly : (b : ℕ) → ((l : Letter) → letter_of b ≡ Known l → of_requests l ≡ false) ↔ (member b (98 ∷ 99 ∷ 97 ∷ 116 ∷ 114 ∷ 119 ∷ 105 ∷ 117 ∷ []) ≡ false)
+pub no_request_exactly : (b : ℕ) → ((l : Letter) → letter_of b ≡ Some l → of_requests l ≡ false) ↔ (member b (98 ∷ 99 ∷ 97 ∷ 116 ∷ 114 ∷ 119 ∷ 105 ∷ 117 ∷ []) ≡ false)
 no_request_exactly b =
     (λ none_of. listed of_requests eight of_eight refl b ∙ not_asked (letter_of b) none_of, λ f l e. sym (ap (is_of of_requests) e) ∙ sym (listed of_requests eight of_eight refl b) ∙ f)
   where
-    not_asked : (x : Lettered) → ((l : Letter) → x ≡ Known l → of_requests l ≡ false) → is_of of_requests x ≡ false
-    not_asked (Known l) g = g l refl
-    not_asked Unknown g = refl
+    not_asked : (x : Option Letter) → ((l : Letter) → x ≡ Some l → of_requests l ≡ false) → is_of of_requests x ≡ false
+    not_asked (Some l) g = g l refl
+    not_asked None g = refl

@@ -1,9 +1,9 @@
 -- No second result meets the contract of a function of this crate.
 -- Assumes nothing.
 use mathlib.Core.Path.{sym, ◌∙◌}
-use Rattle.laws.specs.Unique.{Unique}
-use Rattle.terms.proofs.letters.byte_of.Reads as byte_of
-use Rattle.terms.proofs.letters.byte_of.Kinds as byte-ofK
+use Rattle.laws.specs.Unique.{Unique, UniqueShown}
+use Rattle.terms.proofs.letters.U8FromLetter.from.Reads as byte_of
+use Rattle.terms.proofs.letters.U8FromLetter.from.Kinds as byte-ofK
 use Rattle.terms.proofs.letters.letter_of.Reads as letter-of
 use Rattle.terms.proofs.letters.letter_of.Kinds as letter-ofK
 use Rattle.terms.proofs.letters.of_requests.Reads as of-requests
@@ -14,10 +14,10 @@ use Rattle.terms.proofs.letters.has_job.Reads as has-job
 use Rattle.terms.proofs.letters.has_job.Kinds as has-jobK
 use Rattle.terms.proofs.letters.has_cell.Reads as has-cell
 use Rattle.terms.proofs.letters.has_cell.Kinds as has-cellK
-use Rattle.terms.proofs.refusals.number_of.Reads as number_of_lem
-use Rattle.terms.proofs.refusals.number_of.Kinds as number-ofK
-use Rattle.terms.proofs.refusals.field_number.Reads as field-number
-use Rattle.terms.proofs.refusals.field_number.Kinds as field-numberK
+use Rattle.terms.proofs.refusals.U8FromRefusal.from.Reads as number_of_lem
+use Rattle.terms.proofs.refusals.U8FromRefusal.from.Kinds as number-ofK
+use Rattle.terms.proofs.refusals.U8FromField.from.Reads as field-number
+use Rattle.terms.proofs.refusals.U8FromField.from.Kinds as field-numberK
 use Rattle.terms.proofs.refusals.field_of.Reads as field_of
 use Rattle.terms.proofs.refusals.field_of.Kinds as field-ofK
 use Rattle.terms.proofs.words.spelled.Reads as spelled
@@ -52,7 +52,7 @@ field_number_unique κs a x y e f p q = p ∙ sym q
 pub field_of_unique : Unique field-ofK.ps field-ofK.r field_of.Post
 field_of_unique κs a x y e f p q = p ∙ sym q
 
-pub spelled_unique : Unique spelledK.ps spelledK.r spelled.Post
+pub spelled_unique : UniqueShown spelledK.ps spelledK.r spelled.Post (λ κs x. x.now)
 spelled_unique κs a x y e f p q = p ∙ sym q
 
 pub all_limits_unique : Unique all-limitsK.ps all-limitsK.r all-limits.Post

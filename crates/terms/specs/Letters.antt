@@ -1,12 +1,10 @@
 -- The letters of request and history lines, with their bytes and fields (01, Lines).
-use Rattle.std.specs.Prelude.{ℕ, Bool, true, false, eqb}
+use Rattle.std.specs.Prelude.{ℕ, Bool, true, false, eqb, Option, None, Some}
 use Rattle.laws.specs.Choice.{pick}
 use Rattle.terms.specs.declared.letters.Ask.{Ask}
 use Rattle.terms.specs.declared.letters.Ask.TheVariants.{Read, Write, Increment, Update}
 use Rattle.terms.specs.declared.letters.Letter.{Letter}
 use Rattle.terms.specs.declared.letters.Letter.TheVariants.{Begin, Commit, GiveUp, Retry, Back, Asks}
-use Rattle.terms.specs.declared.letters.Lettered.{Lettered}
-use Rattle.terms.specs.declared.letters.Lettered.TheVariants.{Known, Unknown}
 
 -- the bytes of r, w, i and u (01, Lines; 02, No. 1)
 abbrev pub ask_byte : Ask → ℕ
@@ -25,11 +23,11 @@ byte_of Back = 107
 byte_of (Asks a) = ask_byte a
 
 -- this letter if the byte is its byte, else what the rest of the alphabet says
-abbrev pub or_else : Letter → ℕ → Lettered → Lettered
-or_else l b rest = pick (eqb b (byte_of l)) (Known l) rest
+abbrev pub or_else : Letter → ℕ → Option Letter → Option Letter
+or_else l b rest = pick (eqb b (byte_of l)) (Some l) rest
 
 -- the letter with this byte, looked up in the one table of bytes
-abbrev pub letter_of : ℕ → Lettered
+abbrev pub letter_of : ℕ → Option Letter
 letter_of b =
     or_else Begin b
     (or_else Commit b
@@ -39,7 +37,7 @@ letter_of b =
     (or_else (Asks Read) b
     (or_else (Asks Write) b
     (or_else (Asks Increment) b
-    (or_else (Asks Update) b Unknown))))))))
+    (or_else (Asks Update) b None))))))))
 
 -- the letters of requests: all but k (01, Lines; 02, No. 1)
 abbrev pub of_requests : Letter → Bool

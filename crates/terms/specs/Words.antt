@@ -1,6 +1,5 @@
 -- The words of answer records and verdict lines, letter by letter; the bytes that separate fields and end lines (01, Lines).
-use Rattle.std.specs.Prelude.{ℕ, ◌-◌, List, [], ◌∷◌, ◌++◌, length, replicate}
-use Rattle.terms.specs.declared.words.Spelling.{Spelling}
+use Rattle.std.specs.Prelude.{ℕ, List, [], ◌∷◌}
 use Rattle.terms.specs.declared.words.Word.{Word}
 use Rattle.terms.specs.declared.words.Word.TheVariants.{Go, Wait, Back, No, Wake, Orderly, Knot, Dirty}
 
@@ -22,7 +21,3 @@ spelt Wake = 119 ∷ 97 ∷ 107 ∷ 101 ∷ []
 spelt Orderly = 111 ∷ 114 ∷ 100 ∷ 101 ∷ 114 ∷ 108 ∷ 121 ∷ []
 spelt Knot = 107 ∷ 110 ∷ 111 ∷ 116 ∷ []
 spelt Dirty = 100 ∷ 105 ∷ 114 ∷ 116 ∷ 121 ∷ []
-
--- a word in seven places, zeros after it, and its length
-abbrev pub spelling_of : Word → Spelling
-spelling_of w = record { bytes = spelt w ++ replicate (7 - length (spelt w)) 0; len = length (spelt w) }

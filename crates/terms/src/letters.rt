@@ -32,15 +32,6 @@ pub enum Letter {
     Asks(Ask),
 }
 
-// A byte read as a letter, or as no letter.
-#[derive(Clone, Copy)]
-pub enum Lettered {
-    // this letter's byte
-    Known(Letter),
-    // the byte of no letter
-    Unknown,
-}
-
 pub const BEGIN: u8 = b'b';
 
 pub const COMMIT: u8 = b'c';
@@ -60,39 +51,39 @@ pub const INCREMENT: u8 = b'i';
 pub const UPDATE: u8 = b'u';
 
 // The byte of a letter.
-pub fn byte_of(l: Letter) -> u8
-    ensures { result ≡ byte_of l }
-{
-    match l {
-        Letter::Begin => BEGIN,
-        Letter::Commit => COMMIT,
-        Letter::GiveUp => GIVE_UP,
-        Letter::Retry => RETRY,
-        Letter::Back => BACK,
-        Letter::Asks(a) => match a {
-            Ask::Read => READ,
-            Ask::Write => WRITE,
-            Ask::Increment => INCREMENT,
-            Ask::Update => UPDATE,
-        },
+impl From<Letter> for u8 {
+    ghost from_gives = { λ l byte. byte ≡ byte_of l };
+
+    fn from(l: Letter) -> u8 {
+        match l {
+            Letter::Begin => BEGIN,
+            Letter::Commit => COMMIT,
+            Letter::GiveUp => GIVE_UP,
+            Letter::Retry => RETRY,
+            Letter::Back => BACK,
+            Letter::Asks(Ask::Read) => READ,
+            Letter::Asks(Ask::Write) => WRITE,
+            Letter::Asks(Ask::Increment) => INCREMENT,
+            Letter::Asks(Ask::Update) => UPDATE,
+        }
     }
 }
 
-// The letter of a byte.
-pub fn letter_of(byte: u8) -> Lettered
+// The letter of a byte, or none. It is no `TryFrom`: that wants an error, and each caller has its own, a refusal or a field at fault.
+pub fn letter_of(byte: u8) -> Option<Letter>
     ensures { result ≡ letter_of byte }
 {
     match byte {
-        BEGIN => Lettered::Known(Letter::Begin),
-        COMMIT => Lettered::Known(Letter::Commit),
-        GIVE_UP => Lettered::Known(Letter::GiveUp),
-        RETRY => Lettered::Known(Letter::Retry),
-        BACK => Lettered::Known(Letter::Back),
-        READ => Lettered::Known(Letter::Asks(Ask::Read)),
-        WRITE => Lettered::Known(Letter::Asks(Ask::Write)),
-        INCREMENT => Lettered::Known(Letter::Asks(Ask::Increment)),
-        UPDATE => Lettered::Known(Letter::Asks(Ask::Update)),
-        _ => Lettered::Unknown,
+        BEGIN => Some(Letter::Begin),
+        COMMIT => Some(Letter::Commit),
+        GIVE_UP => Some(Letter::GiveUp),
+        RETRY => Some(Letter::Retry),
+        BACK => Some(Letter::Back),
+        READ => Some(Letter::Asks(Ask::Read)),
+        WRITE => Some(Letter::Asks(Ask::Write)),
+        INCREMENT => Some(Letter::Asks(Ask::Increment)),
+        UPDATE => Some(Letter::Asks(Ask::Update)),
+        _ => None,
     }
 }
 
@@ -100,14 +91,7 @@ pub fn letter_of(byte: u8) -> Lettered
 pub fn of_requests(l: Letter) -> bool
     ensures { result ≡ of_requests l }
 {
-    match l {
-        Letter::Begin => true,
-        Letter::Commit => true,
-        Letter::GiveUp => true,
-        Letter::Retry => true,
-        Letter::Back => false,
-        Letter::Asks(_) => true,
-    }
+    !matches!(l, Letter::Back)
 }
 
 // Whether a history line may begin with the letter.
@@ -133,26 +117,12 @@ pub fn of_histories(l: Letter) -> bool
 pub fn has_job(l: Letter) -> bool
     ensures { result ≡ has_job l }
 {
-    match l {
-        Letter::Begin => false,
-        Letter::Commit => true,
-        Letter::GiveUp => true,
-        Letter::Retry => true,
-        Letter::Back => true,
-        Letter::Asks(_) => true,
-    }
+    !matches!(l, Letter::Begin)
 }
 
 // Whether a cell follows the job.
 pub fn has_cell(l: Letter) -> bool
     ensures { result ≡ has_cell l }
 {
-    match l {
-        Letter::Begin => false,
-        Letter::Commit => false,
-        Letter::GiveUp => false,
-        Letter::Retry => false,
-        Letter::Back => false,
-        Letter::Asks(_) => true,
-    }
+    matches!(l, Letter::Asks(_))
 }

@@ -6,8 +6,6 @@ pub mod limits;
 pub mod refusals;
 pub mod words;
 
-pub use letters::{
-    Ask, Letter, Lettered, byte_of, has_cell, has_job, letter_of, of_histories, of_requests,
-};
-pub use refusals::{Field, Refusal, field_number, field_of, number_of};
+pub use letters::{Ask, Letter, has_cell, has_job, letter_of, of_histories, of_requests};
+pub use refusals::{Field, Refusal, field_of};
 pub use words::{Word, spelled};

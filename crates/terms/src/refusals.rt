@@ -57,40 +57,44 @@ pub enum Refusal {
 }
 
 // The number of a refusal.
-pub fn number_of(r: Refusal) -> u8
-    ensures { result ≡ number_of r }
-{
-    match r {
-        Refusal::UnknownKind => 1,
-        Refusal::CellAbove => 2,
-        Refusal::NotOpen => 3,
-        Refusal::Waiting => 4,
-        Refusal::SentBack => 5,
-        Refusal::AllOpen => 6,
-        Refusal::NoNumberLeft => 7,
-        Refusal::Running => 8,
-        Refusal::BadLine(_) => 9,
-        Refusal::StartedAtZero => 10,
-        Refusal::TooManyLines => 11,
-        Refusal::JobOutside => 12,
-        Refusal::Ended => 13,
-        Refusal::ShortOrder => 14,
-        Refusal::NoRoom => 15,
-        Refusal::TooLong => 16,
-        Refusal::ShortList => 18,
-        Refusal::NoRetry => 19,
+impl From<Refusal> for u8 {
+    ghost from_gives = { λ why n. n ≡ number_of why };
+
+    fn from(why: Refusal) -> u8 {
+        match why {
+            Refusal::UnknownKind => 1,
+            Refusal::CellAbove => 2,
+            Refusal::NotOpen => 3,
+            Refusal::Waiting => 4,
+            Refusal::SentBack => 5,
+            Refusal::AllOpen => 6,
+            Refusal::NoNumberLeft => 7,
+            Refusal::Running => 8,
+            Refusal::BadLine(_) => 9,
+            Refusal::StartedAtZero => 10,
+            Refusal::TooManyLines => 11,
+            Refusal::JobOutside => 12,
+            Refusal::Ended => 13,
+            Refusal::ShortOrder => 14,
+            Refusal::NoRoom => 15,
+            Refusal::TooLong => 16,
+            Refusal::ShortList => 18,
+            Refusal::NoRetry => 19,
+        }
     }
 }
 
 // The number of a field.
-pub fn field_number(f: Field) -> u8
-    ensures { result ≡ field_number f }
-{
-    match f {
-        Field::First => 1,
-        Field::Second => 2,
-        Field::Third => 3,
-        Field::Fourth => 4,
+impl From<Field> for u8 {
+    ghost from_gives = { λ f n. n ≡ field_number f };
+
+    fn from(f: Field) -> u8 {
+        match f {
+            Field::First => 1,
+            Field::Second => 2,
+            Field::Third => 3,
+            Field::Fourth => 4,
+        }
     }
 }
 
@@ -99,23 +103,7 @@ pub fn field_of(r: Refusal) -> u8
     ensures { result ≡ field_of r }
 {
     match r {
-        Refusal::UnknownKind => 0,
-        Refusal::CellAbove => 0,
-        Refusal::NotOpen => 0,
-        Refusal::Waiting => 0,
-        Refusal::SentBack => 0,
-        Refusal::AllOpen => 0,
-        Refusal::NoNumberLeft => 0,
-        Refusal::Running => 0,
-        Refusal::BadLine(f) => field_number(f),
-        Refusal::StartedAtZero => 0,
-        Refusal::TooManyLines => 0,
-        Refusal::JobOutside => 0,
-        Refusal::Ended => 0,
-        Refusal::ShortOrder => 0,
-        Refusal::NoRoom => 0,
-        Refusal::TooLong => 0,
-        Refusal::ShortList => 0,
-        Refusal::NoRetry => 0,
+        Refusal::BadLine(f) => u8::from(f),
+        _ => 0,
     }
 }

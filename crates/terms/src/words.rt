@@ -1,6 +1,6 @@
 // The words of answer records and verdict lines, the tab and the newline (01, Lines; 01, The judge's rules).
 ghost use Rattle.std.specs.Prelude.{◌≡◌};
-ghost use Rattle.terms.specs.Words.{spelling_of};
+ghost use Rattle.terms.specs.Words.{spelt};
 
 // The words of records and lines.
 #[derive(Clone, Copy)]
@@ -29,49 +29,18 @@ pub const TAB: u8 = b'\t';
 // A line ends in a newline.
 pub const NEWLINE: u8 = b'\n';
 
-// A word's bytes, from the first place on, and how many there are.
-#[derive(Clone, Copy)]
-pub struct Spelling {
-    pub bytes: [u8; 7],
-    pub len: usize,
-}
-
 // How a word is spelled.
-pub fn spelled(w: Word) -> Spelling
-    ensures { result ≡ spelling_of w }
+pub fn spelled(w: Word) -> &'static [u8]
+    ensures { result.now ≡ spelt w }
 {
     match w {
-        Word::Go => Spelling {
-            bytes: [b'g', b'o', 0, 0, 0, 0, 0],
-            len: 2,
-        },
-        Word::Wait => Spelling {
-            bytes: [b'w', b'a', b'i', b't', 0, 0, 0],
-            len: 4,
-        },
-        Word::Back => Spelling {
-            bytes: [b'b', b'a', b'c', b'k', 0, 0, 0],
-            len: 4,
-        },
-        Word::No => Spelling {
-            bytes: [b'n', b'o', 0, 0, 0, 0, 0],
-            len: 2,
-        },
-        Word::Wake => Spelling {
-            bytes: [b'w', b'a', b'k', b'e', 0, 0, 0],
-            len: 4,
-        },
-        Word::Orderly => Spelling {
-            bytes: [b'o', b'r', b'd', b'e', b'r', b'l', b'y'],
-            len: 7,
-        },
-        Word::Knot => Spelling {
-            bytes: [b'k', b'n', b'o', b't', 0, 0, 0],
-            len: 4,
-        },
-        Word::Dirty => Spelling {
-            bytes: [b'd', b'i', b'r', b't', b'y', 0, 0],
-            len: 5,
-        },
+        Word::Go => b"go",
+        Word::Wait => b"wait",
+        Word::Back => b"back",
+        Word::No => b"no",
+        Word::Wake => b"wake",
+        Word::Orderly => b"orderly",
+        Word::Knot => b"knot",
+        Word::Dirty => b"dirty",
     }
 }

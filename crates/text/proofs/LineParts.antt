@@ -1,5 +1,6 @@
 -- A line is read part by part, as the code reads it: its first letter, then the job and the cell found at their places.
 -- Assumes nothing.
+use Rattle.std.specs.Prelude.{Option, None, Some}
 use Prim.Native.Nat.{ℕ}
 use mathlib.Core.Path.{◌≡◌, refl, sym, ap, ◌∙◌}
 use mathlib.Core.Bool.{Bool, true, false}
@@ -11,8 +12,6 @@ use Rattle.laws.specs.Choice.{by_test, not_both}
 use Rattle.laws.proofs.Choosing.{pick_then, pick_else}
 use Rattle.terms.specs.Words.{tab, newline}
 use Rattle.terms.specs.declared.letters.Letter.{Letter}
-use Rattle.terms.specs.declared.letters.Lettered.{Lettered}
-use Rattle.terms.specs.declared.letters.Lettered.TheVariants.{Known, Unknown}
 use Rattle.terms.specs.declared.refusals.Field.TheVariants.{First, Second, Third}
 use Rattle.terms.specs.Letters.{letter_of, has_job, has_cell}
 use Rattle.terms.specs.Limits.{last_number}
@@ -58,14 +57,14 @@ unfolding job_part
 job_none l line r h g = rw h g
 
 -- what parts fields is no letter
-part_no_letter : (b : ℕ) → parts b ≡ true → letter_of b ≡ Unknown
+part_no_letter : (b : ℕ) → parts b ≡ true → letter_of b ≡ None
 unfolding parts
 part_no_letter b p =
     by_test (eqb b tab) (λ e. rw (eqb-true b tab e))
     (λ e. by_test (eqb b newline) (λ f. rw (eqb-true b newline f)) (λ f. not_both (rw (e, f) at p) refl))
 
 -- a first field that goes on after its first byte is no letter
-goes_on_no_letter : (b : ℕ) (t : List ℕ) → end_ahead t ≡ false → letter_in (b ∷ field_ahead t) ≡ Unknown
+goes_on_no_letter : (b : ℕ) (t : List ℕ) → end_ahead t ≡ false → letter_in (b ∷ field_ahead t) ≡ None
 unfolding letter_in field_ahead end_ahead
 goes_on_no_letter b [] h = not_both refl h
 goes_on_no_letter b (c ∷ t) h = rw h
@@ -82,18 +81,18 @@ by_letter which (b ∷ t) =
     (λ e. rw (p, e, goes_on_no_letter b t e)))
 
 -- a line of a letter that such lines have
-pub line_read : (which : Letter → Bool) (l : Letter) (line : List ℕ) (n : Lettered) (r : Reading) → n ≡ first_letter line → n ≡ Known l → which l ≡ true → r ≡ job_part l (drop 1 line) → r ≡ read_line which line
+pub line_read : (which : Letter → Bool) (l : Letter) (line : List ℕ) (n : Option Letter) (r : Reading) → n ≡ first_letter line → n ≡ Some l → which l ≡ true → r ≡ job_part l (drop 1 line) → r ≡ read_line which line
 unfolding letter_part
 line_read which l line n r e f w g =
     pick_then (which l) r _ (Bad First) w g ∙ ap (λ x. letter_part which x (drop 1 line)) (sym f ∙ e) ∙ by_letter which line
 
 -- a line of another letter
-pub line_other : (which : Letter → Bool) (l : Letter) (line : List ℕ) (n : Lettered) → n ≡ first_letter line → n ≡ Known l → which l ≡ false → Bad First ≡ read_line which line
+pub line_other : (which : Letter → Bool) (l : Letter) (line : List ℕ) (n : Option Letter) → n ≡ first_letter line → n ≡ Some l → which l ≡ false → Bad First ≡ read_line which line
 unfolding letter_part
 line_other which l line n e f w =
     pick_else (which l) (Bad First) (job_part l (drop 1 line)) (Bad First) w refl ∙ ap (λ x. letter_part which x (drop 1 line)) (sym f ∙ e) ∙ by_letter which line
 
 -- a line of no letter
-pub line_unknown : (which : Letter → Bool) (line : List ℕ) (n : Lettered) → n ≡ first_letter line → n ≡ Unknown → Bad First ≡ read_line which line
+pub line_unknown : (which : Letter → Bool) (line : List ℕ) (n : Option Letter) → n ≡ first_letter line → n ≡ None → Bad First ≡ read_line which line
 unfolding letter_part
 line_unknown which line n e f = ap (λ x. letter_part which x (drop 1 line)) (sym f ∙ e) ∙ by_letter which line

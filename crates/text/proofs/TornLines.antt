@@ -1,5 +1,6 @@
 -- A line without its newline is read part by part, as the code reads it: the field at fault is the first bad part, else the end.
 -- Assumes nothing.
+use Rattle.std.specs.Prelude.{Option, None, Some}
 use Prim.Native.Nat.{ℕ}
 use mathlib.Core.Path.{◌≡◌, refl, sym, ap, ◌∙◌}
 use mathlib.Core.Bool.{Bool, true, false}
@@ -8,8 +9,6 @@ use lib.Dec.{eqb}
 use lib.ListN.{drop}
 use Rattle.laws.specs.Choice.{by_test}
 use Rattle.terms.specs.declared.letters.Letter.{Letter}
-use Rattle.terms.specs.declared.letters.Lettered.{Lettered}
-use Rattle.terms.specs.declared.letters.Lettered.TheVariants.{Known, Unknown}
 use Rattle.terms.specs.declared.refusals.Field.{Field}
 use Rattle.terms.specs.declared.refusals.Field.TheVariants.{First, Second, Third, Fourth}
 use Rattle.terms.specs.Letters.{has_job, has_cell}
@@ -67,15 +66,15 @@ pub job_unasked : (l : Letter) (line : List ℕ) (r : Field) → has_job l ≡ f
 job_unasked l line r h g = g ∙ ap lacking (job_none l line (cell_part l 0 (drop 1 line)) h refl)
 
 -- a line of a letter that such lines have
-pub line_torn : (which : Letter → Bool) (l : Letter) (line : List ℕ) (n : Lettered) (r : Field) → n ≡ first_letter line → n ≡ Known l → which l ≡ true → r ≡ lacking (job_part l (drop 1 line)) → r ≡ lacking (read_line which line)
+pub line_torn : (which : Letter → Bool) (l : Letter) (line : List ℕ) (n : Option Letter) (r : Field) → n ≡ first_letter line → n ≡ Some l → which l ≡ true → r ≡ lacking (job_part l (drop 1 line)) → r ≡ lacking (read_line which line)
 line_torn which l line n r e f w g = g ∙ ap lacking (line_read which l line n (job_part l (drop 1 line)) e f w refl)
 
 -- a line of another letter
-pub other_torn : (which : Letter → Bool) (l : Letter) (line : List ℕ) (n : Lettered) → n ≡ first_letter line → n ≡ Known l → which l ≡ false → First ≡ lacking (read_line which line)
+pub other_torn : (which : Letter → Bool) (l : Letter) (line : List ℕ) (n : Option Letter) → n ≡ first_letter line → n ≡ Some l → which l ≡ false → First ≡ lacking (read_line which line)
 unfolding lacking
 other_torn which l line n e f w = ap lacking (line_other which l line n e f w)
 
 -- a line of no letter
-pub unknown_torn : (which : Letter → Bool) (line : List ℕ) (n : Lettered) → n ≡ first_letter line → n ≡ Unknown → First ≡ lacking (read_line which line)
+pub unknown_torn : (which : Letter → Bool) (line : List ℕ) (n : Option Letter) → n ≡ first_letter line → n ≡ None → First ≡ lacking (read_line which line)
 unfolding lacking
 unknown_torn which line n e f = ap lacking (line_unknown which line n e f)

@@ -6,7 +6,7 @@ ghost use Rattle.text_rules.specs.Fields.{digits_of, digit_ahead, end_ahead, fir
 
 use terms::limits::LAST_NUMBER;
 use terms::words::{NEWLINE, TAB};
-use terms::{Field, Letter, Lettered, has_cell, has_job, letter_of, of_histories, of_requests};
+use terms::{Field, Letter, has_cell, has_job, letter_of, of_histories, of_requests};
 use text_rules::{Numeral, Reading};
 
 // A cell has one or two digits.
@@ -175,7 +175,7 @@ fn job_part(line: &[u8], letter: Letter) -> Reading
 
 // The line's first letter, if its field ends right after it.
 #[tactic(auto, using(text_rules::proofs::Places::letter_placed))]
-fn first_letter(line: &[u8]) -> Lettered
+fn first_letter(line: &[u8]) -> Option<Letter>
     ensures { result ≡ first_letter line.now }
 {
     if 0 < line.len() {
@@ -183,7 +183,7 @@ fn first_letter(line: &[u8]) -> Lettered
             return letter_of(line[0]);
         }
     }
-    Lettered::Unknown
+    None
 }
 
 // What a request line says.
@@ -192,14 +192,14 @@ pub fn read_request(line: &[u8]) -> Reading
     ensures { result ≡ read_line of_requests line.now }
 {
     match first_letter(line) {
-        Lettered::Known(letter) => {
+        Some(letter) => {
             if of_requests(letter) {
                 job_part(line, letter)
             } else {
                 Reading::Bad(Field::First)
             }
         }
-        Lettered::Unknown => Reading::Bad(Field::First),
+        None => Reading::Bad(Field::First),
     }
 }
 
@@ -209,14 +209,14 @@ pub fn read_history(line: &[u8]) -> Reading
     ensures { result ≡ read_line of_histories line.now }
 {
     match first_letter(line) {
-        Lettered::Known(letter) => {
+        Some(letter) => {
             if of_histories(letter) {
                 job_part(line, letter)
             } else {
                 Reading::Bad(Field::First)
             }
         }
-        Lettered::Unknown => Reading::Bad(Field::First),
+        None => Reading::Bad(Field::First),
     }
 }
 
@@ -256,13 +256,13 @@ pub fn torn_request(line: &[u8]) -> Field
     ensures { result ≡ lacking (read_line of_requests line.now) }
 {
     match first_letter(line) {
-        Lettered::Known(letter) => {
+        Some(letter) => {
             if of_requests(letter) {
                 torn_job(line, letter)
             } else {
                 Field::First
             }
         }
-        Lettered::Unknown => Field::First,
+        None => Field::First,
     }
 }

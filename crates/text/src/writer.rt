@@ -8,7 +8,7 @@ ghost use Rattle.text_rules.specs.Wrote.{Wrote};
 ghost use Rattle.text_rules.specs.Records.{field, answer_record, line_record, told, left};
 
 use terms::words::{NEWLINE, TAB};
-use terms::{Letter, Refusal, Word, byte_of, has_cell, has_job, spelled};
+use terms::{Letter, Refusal, Word, has_cell, has_job, spelled};
 use text_rules::Written;
 
 // How many digits a number has in shortest decimal: four at a time, then the few that are left.
@@ -96,14 +96,9 @@ fn put_word(part: &mut [u8], word: Word) -> usize
     ensures { Wrote 0 result (spelt word) part.old part.new }
 {
     let spelling = spelled(word);
-    let bytes = spelling.bytes;
-    let len = spelling.len;
-    let mut i: usize = 0;
-    while i < len {
-        part[i] = bytes[i];
-        i += 1;
-    }
-    i
+    let len = spelling.len();
+    part[..len].copy_from_slice(spelling);
+    len
 }
 
 // Writes a word as a further field: a tab and the word.
@@ -161,13 +156,13 @@ fn put_line(
     requires { (second ≡ length (field (has_job letter) job)) × (third ≡ length (field (has_cell letter) cell)) × (length (line_record letter job cell) ≤ length part.old) }
     ensures { Wrote 0 result (line_record letter job cell) part.old part.new }
 {
-    let a = put_byte(part, byte_of(letter));
+    let a = put_byte(part, u8::from(letter));
     let b = a + put_field(&mut part[a..], has_job(letter), job, second);
     b + put_last(&mut part[b..], has_cell(letter), cell, third)
 }
 
 // Writes an answer record: request line number, word, number, and one field more if the fourth number is not 0.
-#[tactic(auto, using(crate::proofs::WordLaws::spelling_length, crate::proofs::WordLaws::word_at_most_7, text_rules::proofs::DigitLaws::decimal_at_most_20, text_rules::proofs::FieldLaws::field_at_most_21, text_rules::proofs::Length::answer_length, text_rules::proofs::RoomLaws::no_room_for, text_rules::proofs::RoomLaws::refused, text_rules::proofs::RoomLaws::room_for, text_rules::proofs::RoomLaws::written, text_rules::proofs::WroteLaws::lent_fits, text_rules::proofs::WroteLaws::wrote_more, text_rules::proofs::WroteLaws::wrote_none))]
+#[tactic(auto, using(crate::proofs::WordLaws::word_at_most_7, text_rules::proofs::DigitLaws::decimal_at_most_20, text_rules::proofs::FieldLaws::field_at_most_21, text_rules::proofs::Length::answer_length, text_rules::proofs::RoomLaws::no_room_for, text_rules::proofs::RoomLaws::refused, text_rules::proofs::RoomLaws::room_for, text_rules::proofs::RoomLaws::written, text_rules::proofs::WroteLaws::lent_fits, text_rules::proofs::WroteLaws::wrote_more, text_rules::proofs::WroteLaws::wrote_none))]
 pub fn write_answer(
     buf: &mut [u8],
     at: usize,
@@ -178,8 +173,7 @@ pub fn write_answer(
 ) -> Written
     ensures { (result ≡ told buf.old at (answer_record line word number fault)) × (buf.new ≡ left buf.old at (answer_record line word number fault)) }
 {
-    let spelling = spelled(word);
-    let second = spelling.len;
+    let second = spelled(word).len();
     let first = width(line);
     let third = field_width(true, number);
     let fourth = field_width(0 < fault, fault);
@@ -221,8 +215,7 @@ pub fn write_line(buf: &mut [u8], at: usize, letter: Letter, job: u64, cell: u64
 pub fn write_word(buf: &mut [u8], at: usize, word: Word) -> Written
     ensures { (result ≡ told buf.old at (spelt word)) × (buf.new ≡ left buf.old at (spelt word)) }
 {
-    let spelling = spelled(word);
-    let len = spelling.len;
+    let len = spelled(word).len();
     let room = buf.len();
     if has_room(room, at, len) {
         let n = put_word(&mut buf[at..], word);

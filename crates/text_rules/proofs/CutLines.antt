@@ -1,5 +1,6 @@
 -- A line cut off: a fixed number of its first bytes decides how it reads, whatever follows; sixteen for a line, counted field by field (01, Lines; 02, No. 5).
 -- Assumes nothing.
+use Rattle.std.specs.Prelude.{Option, None, Some}
 use Prim.Native.Nat.{ℕ, suc, ◌+◌, ◌^◌, ◌≤◌, ◌<◌}
 use mathlib.Core.Path.{◌≡◌, refl, sym, ap}
 use mathlib.Core.Bool.{Bool, true, false}
@@ -10,8 +11,6 @@ use borrow.Author.Tests.{eqb-true}
 use lib.ListN.{length, length-append}
 use Rattle.laws.specs.Choice.{by_test, not_both}
 use Rattle.terms.specs.declared.letters.Letter.{Letter}
-use Rattle.terms.specs.declared.letters.Lettered.{Lettered}
-use Rattle.terms.specs.declared.letters.Lettered.TheVariants.{Known, Unknown}
 use Rattle.terms.specs.declared.refusals.Field.{Field}
 use Rattle.terms.specs.declared.refusals.Field.TheVariants.{Second, Third}
 use Rattle.terms.specs.Letters.{has_job, has_cell}
@@ -131,14 +130,14 @@ job_decided l t q h g =
     (λ e. rw e (cell_decided l 0 t q h (omega arith)))
 
 -- a field of two bytes is not a letter
-long_no_letter : (f : List ℕ) → 2 ≤ length f → letter_in f ≡ Unknown
+long_no_letter : (f : List ℕ) → 2 ≤ length f → letter_in f ≡ None
 unfolding letter_in
 long_no_letter [] h = refl
 long_no_letter (b ∷ []) h = absurd (omega arith)
 long_no_letter (b ∷ c ∷ f) h = refl
 
 -- a letter has one byte
-letter_one : (f : List ℕ) (l : Letter) → letter_in f ≡ Known l → length f ≤ 1
+letter_one : (f : List ℕ) (l : Letter) → letter_in f ≡ Some l → length f ≤ 1
 unfolding letter_in
 letter_one [] l e = omega arith
 letter_one (b ∷ []) l e = omega arith
@@ -149,9 +148,9 @@ pub line_decided : (which : Letter → Bool) → Decided 16 (read_line which)
 unfolding read_line letter_part
 line_decided which t q h g = go (after_field t) refl
   where
-    by_letter : (n : Lettered) (x : ℕ) (v : List ℕ) → after_field t ≡ x ∷ v → letter_in (field_ahead t) ≡ n → letter_part which n ((x ∷ v) ++ q) ≡ letter_part which n (x ∷ v)
-    by_letter Unknown x v e k = refl
-    by_letter (Known l) x v e k =
+    by_letter : (n : Option Letter) (x : ℕ) (v : List ℕ) → after_field t ≡ x ∷ v → letter_in (field_ahead t) ≡ n → letter_part which n ((x ∷ v) ++ q) ≡ letter_part which n (x ∷ v)
+    by_letter None x v e k = refl
+    by_letter (Some l) x v e k =
         let long : 15 ≤ length (x ∷ v) = omega (arith, parts_length t, ap length e, letter_one (field_ahead t) l k) in
         by_test (which l) (λ w. rw w (job_decided l (x ∷ v) q (rw e at (plain_after t h)) long)) (λ w. rw w)
 

@@ -1,9 +1,9 @@
 -- The fields of a line one after another: the first is the field that the line begins with, and the others come after the tab that ends it.
 -- Assumes nothing.
+use Rattle.std.specs.Prelude.{Some}
 use Prim.Native.Nat.{ℕ}
 use mathlib.Core.Path.{◌≡◌, refl}
 use mathlib.Core.List.{List, [], ◌∷◌}
-use mathlib.Core.Option.{some}
 use lib.Dec.{eqb}
 use borrow.Author.Tests.{eqb-true}
 use Rattle.laws.specs.Choice.{pick, by_test}
@@ -26,7 +26,7 @@ fields_are (b ∷ t) =
     (λ n. by_test (eqb b tab) (λ e. rw (eqb-true b tab e)) (λ e. rw (n, e, fields_are t)))
 
 -- the first field is the field that the line begins with
-pub first_is : (t : List ℕ) → field_at 1 (fields_of t) ≡ some (field_ahead t)
+pub first_is : (t : List ℕ) → field_at 1 (fields_of t) ≡ Some (field_ahead t)
 unfolding field_at
 first_is t = rw (fields_are t)
 

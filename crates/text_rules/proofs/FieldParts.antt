@@ -1,5 +1,6 @@
 -- A text split at its first tab or newline: the field before it and what follows; and written fields are split as they were written.
 -- Assumes nothing.
+use Rattle.std.specs.Prelude.{Some}
 use Prim.Native.Nat.{ℕ}
 use mathlib.Core.Path.{◌≡◌, refl, sym, ap}
 use mathlib.Core.Bool.{true, false}
@@ -11,7 +12,6 @@ use Rattle.laws.specs.Choice.{by_test, not_both}
 use Rattle.terms.specs.declared.letters.Ask.TheVariants.{Read, Write, Increment, Update}
 use Rattle.terms.specs.declared.letters.Letter.{Letter}
 use Rattle.terms.specs.declared.letters.Letter.TheVariants.{Begin, Commit, GiveUp, Retry, Back, Asks}
-use Rattle.terms.specs.declared.letters.Lettered.TheVariants.{Known}
 use Rattle.terms.specs.Letters.{byte_of}
 use Rattle.terms.specs.Words.{tab, newline}
 use Rattle.text_rules.specs.Lines.{parts, field_ahead, after_field, is_digit, digits_only, letter_in}
@@ -58,7 +58,7 @@ letter_before l t h =
     (rw (letter_no_part l) (ap (λ u. byte_of l ∷ u) e.0), rw (letter_no_part l) e.1)
 
 -- a first field that is a letter is its byte
-pub letter_field : (f : List ℕ) (l : Letter) → letter_in f ≡ Known l → f ≡ byte_of l ∷ []
+pub letter_field : (f : List ℕ) (l : Letter) → letter_in f ≡ Some l → f ≡ byte_of l ∷ []
 unfolding letter_in
 letter_field [] l e = let z : ◌≡◌ {A = ℕ} 0 1 = cc in absurd (omega arith)
 letter_field (b ∷ []) l e = ap (λ x. x ∷ []) (sym (byte_of_letter b l e))

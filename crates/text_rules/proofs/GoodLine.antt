@@ -1,16 +1,14 @@
 -- A line is good only if it is the record of its letter and fields: what is read was written that way, and all else is bad.
 -- Assumes nothing.
+use Rattle.std.specs.Prelude.{Option, None, Some}
 use Prim.Native.Nat.{ℕ, ◌≤◌}
 use mathlib.Core.Path.{◌≡◌, ap, ap₂, refl, sym, ◌∙◌}
 use mathlib.Core.Bool.{Bool, true, false}
 use mathlib.Core.Logic.{◌↔◌}
 use mathlib.Core.List.{List, [], ◌∷◌, ◌++◌}
-use mathlib.Core.Option.{some}
 use native.Mathlib.Omega.{arith}
 use Rattle.laws.specs.Choice.{by_test, not_both}
 use Rattle.terms.specs.declared.letters.Letter.{Letter}
-use Rattle.terms.specs.declared.letters.Lettered.{Lettered}
-use Rattle.terms.specs.declared.letters.Lettered.TheVariants.{Known, Unknown}
 use Rattle.terms.specs.declared.refusals.Field.{Field}
 use Rattle.terms.specs.declared.refusals.Field.TheVariants.{Second, Third}
 use Rattle.terms.specs.declared.refusals.Refusal.TheVariants.{BadLine}
@@ -113,10 +111,10 @@ fields_written l m job cell t e =
     (λ h. job_not_there l m job cell t h (cell_written l m 0 job cell t (rw h at e)))
 
 -- the letter of a good line
-letter_written : (which : Letter → Bool) (bytes : List ℕ) (n : Lettered) (m : Letter) (job cell : ℕ) → letter_in (field_ahead bytes) ≡ n → letter_part which n (after_field bytes) ≡ Good m job cell → GoodLine which bytes m job cell
+letter_written : (which : Letter → Bool) (bytes : List ℕ) (n : Option Letter) (m : Letter) (job cell : ℕ) → letter_in (field_ahead bytes) ≡ n → letter_part which n (after_field bytes) ≡ Good m job cell → GoodLine which bytes m job cell
 unfolding letter_part
-letter_written which bytes Unknown m job cell k e = not_bad e
-letter_written which bytes (Known l) m job cell k e =
+letter_written which bytes None m job cell k e = not_bad e
+letter_written which bytes (Some l) m job cell k e =
     by_test (which l)
     (λ w.
     let f = fields_written l m job cell (after_field bytes) (rw w at e) in
@@ -154,12 +152,12 @@ pub bad_no_good : (which : Letter → Bool) (bytes : List ℕ) (at : Field) → 
 bad_no_good which bytes at e l job cell g = not_bad (sym e ∙ (good_exactly which bytes l job cell).1 g)
 
 -- only a refusal 9 has a field at fault
-pub nine_field : (r : Reading) (at : Field) → refusal_of r ≡ some (BadLine at) → r ≡ Bad at
+pub nine_field : (r : Reading) (at : Field) → refusal_of r ≡ Some (BadLine at) → r ≡ Bad at
 nine_field (Good l job cell) at e = let z : ◌≡◌ {A = ℕ} 0 1 = cc in absurd (omega arith)
 nine_field (Bad field) at e = cc
 
 -- ALL ELSE IS REFUSAL 9: a line is refused with 9, at some field, exactly if it is not a good line
-pub nine_exactly : (which : Letter → Bool) (bytes : List ℕ) → ((at : Field) × (refusal_of (read_line which bytes) ≡ some (BadLine at))) ↔ ((l : Letter) (job cell : ℕ) → GoodLine which bytes l job cell → ⊥)
+pub nine_exactly : (which : Letter → Bool) (bytes : List ℕ) → ((at : Field) × (refusal_of (read_line which bytes) ≡ Some (BadLine at))) ↔ ((l : Letter) (job cell : ℕ) → GoodLine which bytes l job cell → ⊥)
 nine_exactly which bytes = (
   λ p. bad_no_good which bytes p.0 (nine_field (read_line which bytes) p.0 p.1),
   λ other. let b = all_else_bad which bytes other in (b.0, ap refusal_of b.1),

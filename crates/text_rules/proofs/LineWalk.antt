@@ -1,17 +1,15 @@
 -- The reader's way along a line: what it reads if the fields are right up to one that is not, and if all of them are.
 -- Assumes nothing.
+use Rattle.std.specs.Prelude.{Option, None, Some}
 use Prim.Native.Nat.{ℕ, ◌+◌, ◌≤◌}
 use mathlib.Core.Path.{◌≡◌, refl, sym, ap, ◌∙◌}
 use mathlib.Core.Bool.{Bool, true}
 use mathlib.Core.List.{List, [], ◌∷◌}
-use mathlib.Core.Option.{some}
 use native.Mathlib.Omega.{arith}
 use lib.ListN.{length}
 use Rattle.laws.specs.Choice.{pick, by_test, not_both}
 use Rattle.terms.specs.declared.letters.Letter.{Letter}
 use Rattle.terms.specs.declared.letters.Letter.TheVariants.{Begin, Commit, GiveUp, Retry, Back, Asks}
-use Rattle.terms.specs.declared.letters.Lettered.{Lettered}
-use Rattle.terms.specs.declared.letters.Lettered.TheVariants.{Known, Unknown}
 use Rattle.terms.specs.declared.refusals.Field.TheVariants.{First, Second, Third, Fourth}
 use Rattle.terms.specs.Letters.{byte_of, has_job, has_cell}
 use Rattle.terms.specs.Limits.{last_number}
@@ -25,7 +23,7 @@ use Rattle.text_rules.proofs.FieldSteps.{Past, past, not_past, ending_right, end
 use Rattle.text_rules.proofs.NumberWords.{same_field}
 
 -- a first field that is right is read as its letter
-letter_known : (which : Letter → Bool) (bytes : List ℕ) (l : Letter) → LetterRight which bytes l → letter_in (field_ahead bytes) ≡ Known l
+letter_known : (which : Letter → Bool) (bytes : List ℕ) (l : Letter) → LetterRight which bytes l → letter_in (field_ahead bytes) ≡ Some l
 unfolding letter_in
 letter_known which bytes l r =
     rw (same_field (field_ahead bytes) (byte_of l ∷ []) (sym (first_is bytes) ∙ r.1)) (letter_of_byte l)
@@ -40,11 +38,11 @@ pub by_letter : {P : Type 0} (which : Letter → Bool) (bytes : List ℕ) → ((
 unfolding read_line letter_part
 by_letter {P} which bytes right wrong = go (letter_in (field_ahead bytes)) refl
   where
-    go : (n : Lettered) → letter_in (field_ahead bytes) ≡ n → P
-    go Unknown e =
+    go : (n : Option Letter) → letter_in (field_ahead bytes) ≡ n → P
+    go None e =
         wrong (λ l r. let k = sym (letter_known which bytes l r) ∙ e in let z : ◌≡◌ {A = ℕ} 0 1 = cc in omega arith) (rw e)
-    go (Known l) e =
-        by_test (which l) (λ w. right l (w, first_is bytes ∙ ap some (letter_field (field_ahead bytes) l e)))
+    go (Some l) e =
+        by_test (which l) (λ w. right l (w, first_is bytes ∙ ap Some (letter_field (field_ahead bytes) l e)))
         (λ w. wrong (λ m r. let s : l ≡ m = cc (sym e ∙ letter_known which bytes m r) in not_both r.0 (rw (← s) w)) (rw (e, w)))
 
 -- a letter that has a cell has a job

@@ -1,11 +1,11 @@
 -- A field that is a number, in the paper's words: digits only, no leading zero except the single 0, and not too large; a cell has one or two digits (01, Lines).
 -- Assumes nothing.
+use Rattle.std.specs.Prelude.{Option, None, Some}
 use Prim.Native.Nat.{ℕ, ◌≤◌}
 use mathlib.Core.Path.{◌≡◌, sym, ap}
 use mathlib.Core.Bool.{true}
 use mathlib.Core.Logic.{◌↔◌}
 use mathlib.Core.List.{List, [], ◌∷◌}
-use mathlib.Core.Option.{Option, none, some}
 use native.Mathlib.Omega.{arith}
 use lib.ListN.{length}
 use Rattle.laws.specs.Choice.{by_test, not_both}
@@ -18,31 +18,31 @@ use Rattle.text_rules.proofs.Digits.{digit_bounds}
 use Rattle.text_rules.proofs.WrittenFields.{number_is, is_number_lem}
 
 -- equal fields that are there have equal bytes
-pub same_field : (f g : List ℕ) → some f ≡ some g → f ≡ g
+pub same_field : (f g : List ℕ) → Some f ≡ Some g → f ≡ g
 same_field f g e = cc
 
 -- a field is a number as written exactly if the reader takes it for one
-pub number_test : (most : ℕ) (f : List ℕ) → Number most (some f) ↔ (is_number most f ≡ true)
+pub number_test : (most : ℕ) (f : List ℕ) → Number most (Some f) ↔ (is_number most f ≡ true)
 number_test most f = (
   λ k. rw (same_field f (decimal k.0) k.2) (number_is most k.0 k.1),
-  λ h. let i = is_number_lem most f h in (value_from 0 f, i.1, ap some i.0),
+  λ h. let i = is_number_lem most f h in (value_from 0 f, i.1, ap Some i.0),
 )
 
 -- a field that is not there is not a number
-pub none_no_number : (most : ℕ) → Number most none → ⊥
+pub none_no_number : (most : ℕ) → Number most None → ⊥
 none_no_number most k = let e = k.2 in let z : ◌≡◌ {A = ℕ} 0 1 = cc in omega arith
 
 -- a field is a number, or it is not
 pub by_number_lem : {P : Type 0} (most : ℕ) (field : Option (List ℕ)) → (Number most field → P) → ((Number most field → ⊥) → P) → P
-by_number_lem most none right wrong = wrong (none_no_number most)
-by_number_lem most (some f) right wrong =
+by_number_lem most None right wrong = wrong (none_no_number most)
+by_number_lem most (Some f) right wrong =
     by_test (is_number most f) (λ h. right ((number_test most f).1 h)) (λ h. wrong (λ k. not_both ((number_test most f).0 k) h))
 
 -- A NUMBER: digits only, no sign and no blank, no leading zero except the single 0, and not above the limit
-pub number_worded : (most : ℕ) (f : List ℕ) → Number most (some f) ↔ ((digits_only f ≡ true) × (shortest f ≡ true) × (value_from 0 f ≤ most))
+pub number_worded : (most : ℕ) (f : List ℕ) → Number most (Some f) ↔ ((digits_only f ≡ true) × (shortest f ≡ true) × (value_from 0 f ≤ most))
 number_worded most f = (
   λ k. rw (same_field f (decimal k.0) k.2, decimal_value k.0) (decimal_digits k.0, decimal_shortest k.0, k.1),
-  λ w. (value_from 0 f, w.2, ap some (sym (decimal_unique f w.0 w.1))),
+  λ w. (value_from 0 f, w.2, ap Some (sym (decimal_unique f w.0 w.1))),
 )
 
 -- one or two digits stand for at most 99
@@ -60,7 +60,7 @@ two_small (a ∷ b ∷ []) o h =
 two_small (a ∷ b ∷ c ∷ f) o h = absurd (omega arith)
 
 -- A CELL HAS ONE OR TWO DIGITS
-pub cell_worded : (f : List ℕ) → Number 99 (some f) ↔ ((digits_only f ≡ true) × (shortest f ≡ true) × (length f ≤ 2))
+pub cell_worded : (f : List ℕ) → Number 99 (Some f) ↔ ((digits_only f ≡ true) × (shortest f ≡ true) × (length f ≤ 2))
 cell_worded f = (
   λ k.
       let w = (number_worded 99 f).0 k in

@@ -1,5 +1,6 @@
 -- A line from a place on: it begins with the byte at that place, or nothing is left of it. So each definition can go by the byte at a place, as the code does.
 -- Assumes nothing.
+use Rattle.std.specs.Prelude.{Option, None}
 use Prim.Native.Nat.{ℕ, ◌+◌, ◌<◌}
 use mathlib.Core.Path.{◌≡◌, sym, ap, ◌∙◌}
 use mathlib.Core.Bool.{Bool, true, false, not}
@@ -16,9 +17,8 @@ use Rattle.text_rules.specs.declared.Numeral.{Numeral}
 use Rattle.text_rules.specs.declared.Numeral.TheVariants.{Missing}
 use Rattle.text_rules.specs.Lines.{parts, is_digit, shortest, ending}
 use Rattle.text_rules.specs.Fields.{digits_of, digit_ahead, end_ahead, first_letter, digits_at, number_at}
+use Rattle.terms.specs.declared.letters.Letter.{Letter}
 use Rattle.terms.specs.Words.{tab, newline}
-use Rattle.terms.specs.declared.letters.Lettered.{Lettered}
-use Rattle.terms.specs.declared.letters.Lettered.TheVariants.{Unknown}
 use Rattle.terms.specs.declared.refusals.Field.TheVariants.{Fourth}
 use Rattle.terms.specs.Letters.{letter_of}
 
@@ -74,6 +74,6 @@ ending_placed line at good r e =
     ∙ ap (λ x. pick (ltb at (length line)) x (Bad Fourth)) (by_place (λ t. ending (get_or line at 0 ∷ t) good) line (at + 1)))
 
 -- the letter that a line begins with, if its field ends after it
-pub letter_placed : (line : List ℕ) (r : Lettered) → r ≡ pick (ltb 0 (length line)) (pick (end_ahead (drop 1 line)) (letter_of (get_or line 0 0)) Unknown) Unknown → r ≡ first_letter line
+pub letter_placed : (line : List ℕ) (r : Option Letter) → r ≡ pick (ltb 0 (length line)) (pick (end_ahead (drop 1 line)) (letter_of (get_or line 0 0)) None) None → r ≡ first_letter line
 unfolding first_letter
 letter_placed line r e = e ∙ sym (by_place first_letter line 0)

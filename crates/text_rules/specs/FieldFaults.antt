@@ -1,7 +1,6 @@
 -- Which field of a line is at fault, with no way to read it: when each field is right, and the lowest one that is not (02, No. 5; 01, Lines).
 -- The numbers are written out, since these are the words of a promise.
-use Rattle.std.specs.Prelude.{ℕ, zero, suc, ◌+◌, ◌≤◌, ◌≡◌, Bool, true, false, List, [], ◌∷◌, eqb, length}
-use Rattle.std.proofs.Math.Option.{Option, none, some}
+use Rattle.std.specs.Prelude.{ℕ, zero, suc, ◌+◌, ◌≤◌, ◌≡◌, Bool, true, false, List, [], ◌∷◌, eqb, length, Option, None, Some}
 use Rattle.laws.specs.Choice.{pick}
 use Rattle.terms.specs.declared.letters.Letter.{Letter}
 use Rattle.terms.specs.declared.refusals.Field.{Field}
@@ -24,18 +23,18 @@ ended (b ∷ c ∷ t) = pick (eqb b newline) false (ended (c ∷ t))
 
 -- a field by its number from 1, if the line has that many
 unfoldable pub field_at : ℕ → List (List ℕ) → Option (List ℕ)
-field_at n [] = none
-field_at zero (f ∷ fs) = none
-field_at (suc zero) (f ∷ fs) = some f
+field_at n [] = None
+field_at zero (f ∷ fs) = None
+field_at (suc zero) (f ∷ fs) = Some f
 field_at (suc (suc n)) (f ∷ fs) = field_at (suc n) fs
 
 -- the field is there, and is a number in decimal with no leading zero except the single 0, not above the limit given
 abbrev pub Number : ℕ → Option (List ℕ) → Type 0
-Number most field = (n : ℕ) × (n ≤ most) × (field ≡ some (decimal n))
+Number most field = (n : ℕ) × (n ≤ most) × (field ≡ Some (decimal n))
 
 -- the first field is right: it is this letter, one of those that such lines may begin with
 abbrev pub LetterRight : (Letter → Bool) → List ℕ → Letter → Type 0
-LetterRight which bytes l = (which l ≡ true) × (field_at 1 (fields_of bytes) ≡ some (byte_of l ∷ []))
+LetterRight which bytes l = (which l ≡ true) × (field_at 1 (fields_of bytes) ≡ Some (byte_of l ∷ []))
 
 -- the second field is right for a letter: a job of at most 4,294,967,295, if the letter has one
 abbrev pub JobRight : List ℕ → Letter → Type 0

@@ -1,8 +1,7 @@
 -- A field as the code finds it at a place of a line: a number and the place after it, or none (01, Lines).
-use Rattle.std.specs.Prelude.{ℕ, ◌+◌, Bool, true, false, ◌&&◌, List, [], ◌∷◌, eqb, leb, length}
+use Rattle.std.specs.Prelude.{ℕ, ◌+◌, Bool, true, false, ◌&&◌, List, [], ◌∷◌, eqb, leb, length, Option, None}
 use Rattle.laws.specs.Choice.{pick}
-use Rattle.terms.specs.declared.letters.Lettered.{Lettered}
-use Rattle.terms.specs.declared.letters.Lettered.TheVariants.{Unknown}
+use Rattle.terms.specs.declared.letters.Letter.{Letter}
 use Rattle.terms.specs.declared.refusals.Field.{Field}
 use Rattle.terms.specs.declared.refusals.Field.TheVariants.{Fourth}
 use Rattle.terms.specs.Letters.{letter_of}
@@ -34,9 +33,9 @@ end_ahead [] = true
 end_ahead (b ∷ t) = parts b
 
 -- the letter that a line begins with, if its first field ends after it
-unfoldable pub first_letter : List ℕ → Lettered
-first_letter [] = Unknown
-first_letter (b ∷ t) = pick (end_ahead t) (letter_of b) Unknown
+unfoldable pub first_letter : List ℕ → Option Letter
+first_letter [] = None
+first_letter (b ∷ t) = pick (end_ahead t) (letter_of b) None
 
 -- the digits that a text begins with, read on from v: their number and the place after them, or none if the number is too large or the field goes on
 unfoldable pub digits_at : ℕ → ℕ → ℕ → List ℕ → Numeral

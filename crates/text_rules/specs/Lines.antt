@@ -1,10 +1,7 @@
 -- What a line says: the line reader's answer for every string of bytes, field by field (01, Lines; 02, No. 5).
-use Rattle.std.specs.Prelude.{ℕ, ◌+◌, ◌*◌, ◌-◌, Bool, true, false, ◌&&◌, ◌||◌, not, List, [], ◌∷◌, eqb, leb}
-use Rattle.std.proofs.Math.Option.{Option, none, some}
+use Rattle.std.specs.Prelude.{ℕ, ◌+◌, ◌*◌, ◌-◌, Bool, true, false, ◌&&◌, ◌||◌, not, List, [], ◌∷◌, eqb, leb, Option, None, Some}
 use Rattle.laws.specs.Choice.{pick}
 use Rattle.terms.specs.declared.letters.Letter.{Letter}
-use Rattle.terms.specs.declared.letters.Lettered.{Lettered}
-use Rattle.terms.specs.declared.letters.Lettered.TheVariants.{Known, Unknown}
 use Rattle.terms.specs.declared.refusals.Field.{Field}
 use Rattle.terms.specs.declared.refusals.Field.TheVariants.{First, Second, Third, Fourth}
 use Rattle.terms.specs.declared.refusals.Refusal.{Refusal}
@@ -17,8 +14,8 @@ use Rattle.text_rules.specs.declared.Reading.TheVariants.{Good, Bad}
 
 -- the refusal of a line, by how it reads: a bad line is refusal 9, with the field at fault, and a good one is not refused (01, Lines: all else is refusal 9; 02, No. 5)
 abbrev pub refusal_of : Reading → Option Refusal
-refusal_of (Good l job cell) = none
-refusal_of (Bad field) = some (BadLine field)
+refusal_of (Good l job cell) = None
+refusal_of (Bad field) = Some (BadLine field)
 
 -- the largest cell that can be read: a cell has one or two digits (01, Lines)
 abbrev pub last_cell : ℕ
@@ -84,15 +81,15 @@ unfoldable pub job_part : Letter → List ℕ → Reading
 job_part l t = pick (has_job l) (number_then last_number Second t (cell_part l)) (cell_part l 0 t)
 
 -- the letter of a first field: the field is one byte, a letter's
-unfoldable pub letter_in : List ℕ → Lettered
-letter_in [] = Unknown
+unfoldable pub letter_in : List ℕ → Option Letter
+letter_in [] = None
 letter_in (b ∷ []) = letter_of b
-letter_in (b ∷ c ∷ t) = Unknown
+letter_in (b ∷ c ∷ t) = None
 
 -- the first field: a letter, one of those that such lines may begin with
-unfoldable pub letter_part : (Letter → Bool) → Lettered → List ℕ → Reading
-letter_part which (Known l) t = pick (which l) (job_part l t) (Bad First)
-letter_part which Unknown t = Bad First
+unfoldable pub letter_part : (Letter → Bool) → Option Letter → List ℕ → Reading
+letter_part which (Some l) t = pick (which l) (job_part l t) (Bad First)
+letter_part which None t = Bad First
 
 -- what a line of requests or of a history says, given the letters that it may begin with; the lowest field at fault counts (01, Lines: all else is refusal 9; 02, No. 5)
 unfoldable pub read_line : (Letter → Bool) → List ℕ → Reading

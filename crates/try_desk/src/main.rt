@@ -14,7 +14,7 @@ use desks::Answer;
 use stamp_arrays::state::Stamps;
 use terms::letters::{INCREMENT, READ, WRITE};
 use terms::limits::{LAST_NUMBER, PLACES};
-use terms::refusals::{Refusal, number_of};
+use terms::refusals::Refusal;
 use terms::words::{NEWLINE, TAB, Word, spelled};
 
 // A number of the input, and the byte after it.
@@ -144,10 +144,7 @@ fn put_end(rt: &HostRuntime) -> bool {
 }
 
 fn put_word(rt: &HostRuntime, w: Word) {
-    let s = spelled(w);
-    let bytes = s.bytes;
-    let n = s.len;
-    let _ = streams::write_all(rt, &bytes[0..n]);
+    let _ = streams::write_all(rt, spelled(w));
 }
 
 fn put_number(rt: &HostRuntime, n: u32) {
@@ -158,7 +155,7 @@ fn put_number(rt: &HostRuntime, n: u32) {
 // Writes `no` and the refusal's number.
 fn put_refused(rt: &HostRuntime, why: Refusal) {
     put_word(rt, Word::No);
-    put_number(rt, wide(number_of(why)));
+    put_number(rt, wide(u8::from(why)));
 }
 
 // Writes an answer's word and number.

@@ -8,7 +8,7 @@ use judge::entry::{judge, judge_text};
 use judge_line::verdict::write_verdict;
 use judge_rules::verdict::Verdict;
 use terms::limits::JUDGED_BYTES;
-use terms::refusals::{Refusal, field_of, number_of};
+use terms::refusals::{Refusal, field_of};
 use terms::words::NEWLINE;
 use text_rules::Written;
 
@@ -115,7 +115,7 @@ fn same_verdict(said: Verdict, numbers: Numbers) -> bool {
         }
         Verdict::No { line, why } => {
             numbers.case == 2
-                && numbers.second == number_of(why) as u32
+                && numbers.second == u8::from(why) as u32
                 && numbers.third as usize == line
                 && numbers.fourth == field_of(why) as u32
         }

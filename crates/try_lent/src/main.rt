@@ -8,9 +8,8 @@ use desk_arrays::state::{Desk, Said};
 use desks::Answer;
 use lent::night::{Requests, all_night};
 use stamp_arrays::state::Stamps;
-use terms::letters::byte_of;
 use terms::limits::REQUEST_LINES;
-use terms::refusals::{Refusal, field_of, number_of};
+use terms::refusals::{Refusal, field_of};
 use terms::words::Word;
 use text::held::{read_held, torn_held};
 use text::writer::write_answer;
@@ -97,7 +96,7 @@ fn put_no(rt: &HostRuntime, line: u64, why: Refusal) -> bool {
         rt,
         line,
         Word::No,
-        u64::from(number_of(why)),
+        u64::from(u8::from(why)),
         u64::from(field_of(why)),
     )
 }
@@ -179,7 +178,7 @@ fn next_request(rt: &HostRuntime, before: Splitter, lines: u64) -> Asked<'_>
                 return Asked {
                     rt,
                     left: lines - done,
-                    kind: byte_of(letter),
+                    kind: u8::from(letter),
                     job,
                     cell,
                     splitter,

@@ -4,7 +4,7 @@
 ghost use Rattle.std.specs.Prelude.{◌≤◌, length};
 ghost use Rattle.text_rules.specs.Split.{Sized};
 
-use terms::{Field, Letter, Refusal, Word, byte_of, field_number, has_cell, has_job, number_of};
+use terms::{Field, Letter, Refusal, Word, has_cell, has_job};
 use text::{read_history, read_request, write_answer, write_line};
 use text_rules::{Reading, Splitter, Written};
 
@@ -49,8 +49,8 @@ fn bad(out: &mut [u8], at: usize, line: u64, word: Word, field: Field) -> usize
     requires { at ≤ length out.old }
     ensures { result ≤ length out.new }
 {
-    let number = number_of(Refusal::BadLine(field)) as u64;
-    let fault = field_number(field) as u64;
+    let number = u8::from(Refusal::BadLine(field)) as u64;
+    let fault = u8::from(field) as u64;
     answer(out, at, true, line, word, number, fault)
 }
 
@@ -59,7 +59,7 @@ fn good_request(out: &mut [u8], at: usize, line: u64, letter: Letter, job: u32, 
     requires { at ≤ length out.old }
     ensures { result ≤ length out.new }
 {
-    let byte = byte_of(letter) as u64;
+    let byte = u8::from(letter) as u64;
     let a = answer(out, at, true, line, Word::Go, byte, 0);
     let b = answer(out, a, has_job(letter), line, Word::Wait, job as u64, 0);
     answer(out, b, has_cell(letter), line, Word::Back, cell as u64, 0)

@@ -1,5 +1,6 @@
 -- The numbers that callers get tell the cases apart: a desk's answers, and what a line says. The number of an answer's word is the one that the record writer takes for it.
 -- Assumes nothing.
+use Rattle.std.specs.Prelude.{Option, None, Some}
 use Prim.Native.Nat.{ℕ}
 use mathlib.Core.Path.{◌≡◌, refl, sym, ap, ◌∙◌}
 use mathlib.Core.List.{[], ◌∷◌}
@@ -8,8 +9,6 @@ use Rattle.terms.specs.declared.words.Word.{Word}
 use Rattle.terms.specs.declared.words.Word.TheVariants.{Go, Wait, Back, No, Wake, Orderly, Knot, Dirty}
 use Rattle.terms.specs.declared.letters.Letter.{Letter}
 use Rattle.terms.specs.declared.letters.Letter.TheVariants.{Begin}
-use Rattle.terms.specs.declared.letters.Lettered.{Lettered}
-use Rattle.terms.specs.declared.letters.Lettered.TheVariants.{Known as a-letter, Unknown}
 use Rattle.terms.specs.declared.refusals.Field.TheVariants.{First, Second, Third, Fourth}
 use Rattle.terms.specs.Letters.{letter_of}
 use Rattle.terms.proofs.Alphabet.{letter_of_byte}
@@ -20,7 +19,6 @@ use Rattle.desks.specs.declared.Answer.TheVariants.{Go as goes, Wait as waits, B
 use Rattle.desks.specs.AnswerWords.{word_of, field_beside}
 use Rattle.desks.proofs.AnswerNumbers.{same_answer}
 use Rattle.tuyenlomac.specs.declared.answers.Answered.{Answered}
-use Rattle.tuyenlomac.specs.declared.lines.Worded.TheVariants.{Known}
 use Rattle.tuyenlomac.specs.declared.lines.Line.{Line}
 use Rattle.tuyenlomac.specs.Numbers.{word_number, word_at, in_three}
 use Rattle.tuyenlomac.specs.Texts.{line_in}
@@ -46,7 +44,7 @@ same_told a b n m f e =
     (same_answer a b (sym (at_word (word_of a)) ∙ ap (λ (t : Answered). word_by t.word) e ∙ at_word (word_of b)) (ap (λ (t : Answered). t.number) e) f, ap (λ (t : Answered). t.wakes) e)
 
 -- the word's number, handed to the record writer, is that word
-pub word_again : (a : Answer) (n : ℕ) → word_at (in_three a n).word ≡ Known (word_of a)
+pub word_again : (a : Answer) (n : ℕ) → word_at (in_three a n).word ≡ Some (word_of a)
 unfolding in_three word_of
 word_again (goes j) n = refl
 word_again (waits j) n = refl
@@ -54,9 +52,9 @@ word_again (back j) n = refl
 word_again (refuses why) n = refl
 
 -- the reading of a line from its numbers
-abbrev letter_by : Lettered → Letter
-letter_by (a-letter l) = l
-letter_by Unknown = Begin
+abbrev letter_by : Option Letter → Letter
+letter_by (Some l) = l
+letter_by None = Begin
 
 abbrev reading_by : Line → Reading
 reading_by l = get_or (Good (letter_by (letter_of l.kind)) l.job l.cell ∷ Bad First ∷ Bad Second ∷ Bad Third ∷ []) l.field (Bad Fourth)

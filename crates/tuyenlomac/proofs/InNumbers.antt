@@ -1,9 +1,9 @@
 -- The cases of an enum in numbers, each from what is known of the case: lines read, records written, and chains.
 -- Assumes nothing.
+use Rattle.std.specs.Prelude.{Option, None, Some}
 use Prim.Native.Nat.{ℕ}
 use mathlib.Core.Path.{◌≡◌, sym, ap, ◌∙◌}
 use mathlib.Core.List.{List, [], ◌∷◌}
-use mathlib.Core.Option.{Option, none, some}
 use Rattle.terms.specs.declared.letters.Letter.{Letter}
 use Rattle.terms.specs.declared.refusals.Field.{Field}
 use Rattle.terms.specs.declared.refusals.Refusal.{Refusal}
@@ -51,11 +51,11 @@ no_told why e h g = rw (e, h, g)
 
 -- bytes that exist are written like any record; if there are none, nothing is written
 module _ (buffer : List ℕ) (at : ℕ) where
-  pub written_some : {bytes : Option (List ℕ)} (bs : List ℕ) {after ns : List ℕ} {w : Written} → bytes ≡ some bs → (w ≡ told buffer at bs) × (after ≡ left buffer at bs) → ns ≡ written_numbers w →
+  pub written_some : {bytes : Option (List ℕ)} (bs : List ℕ) {after ns : List ℕ} {w : Written} → bytes ≡ Some bs → (w ≡ told buffer at bs) × (after ≡ left buffer at bs) → ns ≡ written_numbers w →
       (ns ≡ written_numbers (told_of buffer at bytes)) × (after ≡ left_of buffer at bytes)
   unfolding told_of left_of
   written_some bs e (h, g) n = (n ∙ ap written_numbers h ∙ ap (λ b. written_numbers (told_of buffer at b)) (sym e), g ∙ ap (left_of buffer at) (sym e))
 
-  pub written_none : {bytes : Option (List ℕ)} {ns : List ℕ} → bytes ≡ none → ns ≡ written_numbers (Refused UnknownKind) → (ns ≡ written_numbers (told_of buffer at bytes)) × (buffer ≡ left_of buffer at bytes)
+  pub written_none : {bytes : Option (List ℕ)} {ns : List ℕ} → bytes ≡ None → ns ≡ written_numbers (Refused UnknownKind) → (ns ≡ written_numbers (told_of buffer at bytes)) × (buffer ≡ left_of buffer at bytes)
   unfolding told_of left_of
   written_none e n = (n ∙ ap (λ b. written_numbers (told_of buffer at b)) (sym e), ap (left_of buffer at) (sym e))

@@ -1,9 +1,9 @@
 -- What callers are told and what they pass in, as literal numbers and bytes: wakes, answers, words, lines and records, each shown on an example that any other reading of the numbers makes false (01, Lines; 01, rule 4; 02, No. 5).
 -- Assumes nothing.
+use Rattle.std.specs.Prelude.{None, Some}
 use Prim.Native.Nat.{ℕ}
 use mathlib.Core.Path.{◌≡◌, refl}
 use mathlib.Core.List.{List, [], ◌∷◌, map}
-use mathlib.Core.Option.{none, some}
 use Rattle.laws.specs.Lists.{filled}
 use Rattle.terms.specs.declared.words.Word.TheVariants.{Go, Wait, Back, No, Wake}
 use Rattle.terms.specs.declared.refusals.Refusal.TheVariants.{NotOpen, NoRoom}
@@ -17,7 +17,6 @@ use Rattle.text_rules.specs.Quoted.{bytes}
 use Rattle.text_rules.specs.Records.{tabbed, word_line, given, answer_record, field, line_record, fits, told, left}
 use Rattle.desks.specs.declared.Answer.TheVariants.{Go as goes, Wait as waits, Back as back, No as refuses}
 use Rattle.desks.specs.AnswerWords.{word_of, number_beside}
-use Rattle.tuyenlomac.specs.declared.lines.Worded.TheVariants.{Known, Unknown}
 use Rattle.tuyenlomac.specs.Desks.{lists_of, kind_byte, wakes_in}
 use Rattle.tuyenlomac.specs.Numbers.{word_at, in_three}
 use Rattle.tuyenlomac.specs.Texts.{line_in, written_numbers, answer_bytes, line_bytes, told_of, left_of}
@@ -38,7 +37,7 @@ unfolding in_three word_of number_beside
 answers_are = refl
 
 -- words that a record may have: 0 to 4, the last being wake; 5, the first of the judge's words, is not one
-pub words_are : map word_at (0 ∷ 1 ∷ 2 ∷ 3 ∷ 4 ∷ 5 ∷ []) ≡ Known Go ∷ Known Wait ∷ Known Back ∷ Known No ∷ Known Wake ∷ Unknown ∷ []
+pub words_are : map word_at (0 ∷ 1 ∷ 2 ∷ 3 ∷ 4 ∷ 5 ∷ []) ≡ Some Go ∷ Some Wait ∷ Some Back ∷ Some No ∷ Some Wake ∷ None ∷ []
 words_are = refl
 
 -- what lines say: a write of job 7 at cell 5; a commit of job 7; a begin; the field at fault of a line that lacks its cell
@@ -51,14 +50,14 @@ lines_are = refl
 -- answer records: the line's number, the word, the number, and the field at fault if it is not 0; a number that stands for no word has no record
 pub answer_bytes_are :
     answer_bytes 12 (word_at 1) 7 0 ∷ answer_bytes 8 (word_at 4) 2 0 ∷ answer_bytes 3 (word_at 3) 9 2 ∷ answer_bytes 12 (word_at 5) 7 0 ∷ []
-    ≡ some (bytes "12\twait\t7\n") ∷ some (bytes "8\twake\t2\n") ∷ some (bytes "3\tno\t9\t2\n") ∷ none ∷ []
+    ≡ Some (bytes "12\twait\t7\n") ∷ Some (bytes "8\twake\t2\n") ∷ Some (bytes "3\tno\t9\t2\n") ∷ None ∷ []
 unfolding answer_bytes answer_record word_line tabbed given decimal digits_in bytes
 answer_bytes_are = refl
 
 -- lines of letters, with the job and the cell that the letter has; a byte that is not a letter's has no line
 pub line_bytes_are :
     line_bytes (letter_of 119) 7 5 ∷ line_bytes (letter_of 107) 7 5 ∷ line_bytes (letter_of 98) 7 5 ∷ line_bytes (letter_of 120) 7 5 ∷ []
-    ≡ some (bytes "w\t7\t5\n") ∷ some (bytes "k\t7\n") ∷ some (bytes "b\n") ∷ none ∷ []
+    ≡ Some (bytes "w\t7\t5\n") ∷ Some (bytes "k\t7\n") ∷ Some (bytes "b\n") ∷ None ∷ []
 unfolding line_bytes line_record field decimal digits_in bytes
 line_bytes_are = refl
 
@@ -67,7 +66,7 @@ pub written_are : map written_numbers (Next 9 ∷ Refused NoRoom ∷ []) ≡ (0 
 unfolding written_numbers
 written_are = refl
 
-pub none_such : (buffer : List ℕ) (at : ℕ) → (written_numbers (told_of buffer at none) ≡ 1 ∷ 0 ∷ []) × (left_of buffer at none ≡ buffer)
+pub none_such : (buffer : List ℕ) (at : ℕ) → (written_numbers (told_of buffer at None) ≡ 1 ∷ 0 ∷ []) × (left_of buffer at None ≡ buffer)
 unfolding written_numbers told_of left_of
 none_such buffer at = (refl, refl)
 

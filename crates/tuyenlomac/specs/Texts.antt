@@ -1,8 +1,6 @@
 -- Lines and records in numbers: what a line says, and what writing a record tells and leaves, also for a number that stands for no word or letter (01, Lines; 02, No. 5).
-use Rattle.std.specs.Prelude.{ℕ, List, [], ◌∷◌}
-use Rattle.std.proofs.Math.Option.{Option, none, some}
-use Rattle.terms.specs.declared.letters.Lettered.{Lettered}
-use Rattle.terms.specs.declared.letters.Lettered.TheVariants.{Known, Unknown}
+use Rattle.std.specs.Prelude.{ℕ, List, [], ◌∷◌, Option, None, Some}
+use Rattle.terms.specs.declared.letters.Letter.{Letter}
 use Rattle.terms.specs.declared.refusals.Refusal.TheVariants.{UnknownKind}
 use Rattle.terms.specs.Letters.{byte_of}
 use Rattle.terms.specs.Refusals.{number_of, field_number}
@@ -12,8 +10,7 @@ use Rattle.text_rules.specs.declared.Written.{Written}
 use Rattle.text_rules.specs.declared.Written.TheVariants.{Next, Refused}
 use Rattle.text_rules.specs.Records.{answer_record, line_record, told, left}
 use Rattle.tuyenlomac.specs.declared.lines.Line.{Line}
-use Rattle.tuyenlomac.specs.declared.lines.Worded.{Worded}
-use Rattle.tuyenlomac.specs.declared.lines.Worded.TheVariants.{Known as a_word, Unknown as no_word}
+use Rattle.terms.specs.declared.words.Word.{Word}
 
 -- what a line says: for a good line its letter's byte, job and cell, and 0; for a bad line the field at fault (02, No. 5)
 unfoldable pub line_in : Reading → Line
@@ -26,21 +23,21 @@ written_numbers (Next place) = 0 ∷ place ∷ []
 written_numbers (Refused why) = number_of why ∷ 0 ∷ []
 
 -- the bytes of an answer record, if there is such a word
-unfoldable pub answer_bytes : ℕ → Worded → ℕ → ℕ → Option (List ℕ)
-answer_bytes line (a_word w) number fault = some (answer_record line w number fault)
-answer_bytes line no_word number fault = none
+unfoldable pub answer_bytes : ℕ → Option Word → ℕ → ℕ → Option (List ℕ)
+answer_bytes line (Some w) number fault = Some (answer_record line w number fault)
+answer_bytes line None number fault = None
 
 -- the bytes of the line of a letter, if there is such a letter
-unfoldable pub line_bytes : Lettered → ℕ → ℕ → Option (List ℕ)
-line_bytes (Known l) job cell = some (line_record l job cell)
-line_bytes Unknown job cell = none
+unfoldable pub line_bytes : Option Letter → ℕ → ℕ → Option (List ℕ)
+line_bytes (Some l) job cell = Some (line_record l job cell)
+line_bytes None job cell = None
 
 -- what writing tells: the same as for any record, and 1 if there is none
 unfoldable pub told_of : List ℕ → ℕ → Option (List ℕ) → Written
-told_of buffer at none = Refused UnknownKind
-told_of buffer at (some bytes) = told buffer at bytes
+told_of buffer at None = Refused UnknownKind
+told_of buffer at (Some bytes) = told buffer at bytes
 
 -- and what the buffer then holds: all as it was if there is none
 unfoldable pub left_of : List ℕ → ℕ → Option (List ℕ) → List ℕ
-left_of buffer at none = buffer
-left_of buffer at (some bytes) = left buffer at bytes
+left_of buffer at None = buffer
+left_of buffer at (Some bytes) = left buffer at bytes

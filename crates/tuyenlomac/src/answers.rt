@@ -4,7 +4,6 @@ ghost use Rattle.desks.specs.AnswerWords.{word_of, number_beside};
 ghost use Rattle.tuyenlomac.specs.Numbers.{word_number, in_three};
 
 use desks::Answer;
-use terms::refusals::number_of;
 
 // An answer: the word's number; the job, or the refusal's number; and the number of wakes.
 #[repr(C)]
@@ -37,7 +36,7 @@ fn number_beside(a: Answer) -> u32
         Answer::Go(j) => j,
         Answer::Wait(j) => j,
         Answer::Back(j) => j,
-        Answer::No(why) => number_of(why) as u32,
+        Answer::No(why) => u8::from(why) as u32,
     }
 }
 

@@ -5,8 +5,8 @@ ghost use Rattle.text_rules.specs.Lines.{read_line};
 ghost use Rattle.tuyenlomac.specs.Numbers.{word_at};
 ghost use Rattle.tuyenlomac.specs.Texts.{line_in, written_numbers, answer_bytes, line_bytes, told_of, left_of};
 
-use terms::letters::{Lettered, byte_of, letter_of};
-use terms::refusals::{Refusal, field_number, number_of};
+use terms::letters::letter_of;
+use terms::refusals::Refusal;
 use terms::words::Word;
 use text::reader::{read_history, read_request};
 use text::writer::{write_answer, write_line};
@@ -30,26 +30,17 @@ pub struct Placed {
     pub next: usize,
 }
 
-// The word of answer records that a number stands for, if there is one.
-#[derive(Clone, Copy)]
-pub enum Worded {
-    // the word that has this number
-    Known(Word),
-    // no word has it
-    Unknown,
-}
-
-// The word of answer records that has a number.
-fn word_at(n: u32) -> Worded
+// The word of answer records that has a number, or none.
+fn word_at(n: u32) -> Option<Word>
     ensures { result ≡ word_at n }
 {
     match n {
-        0 => Worded::Known(Word::Go),
-        1 => Worded::Known(Word::Wait),
-        2 => Worded::Known(Word::Back),
-        3 => Worded::Known(Word::No),
-        4 => Worded::Known(Word::Wake),
-        _ => Worded::Unknown,
+        0 => Some(Word::Go),
+        1 => Some(Word::Wait),
+        2 => Some(Word::Back),
+        3 => Some(Word::No),
+        4 => Some(Word::Wake),
+        _ => None,
     }
 }
 
@@ -61,14 +52,14 @@ fn line_in(r: Reading) -> Line
         Reading::Good { letter, job, cell } => Line {
             job,
             cell,
-            kind: byte_of(letter),
+            kind: u8::from(letter),
             field: 0,
         },
         Reading::Bad(field) => Line {
             job: 0,
             cell: 0,
             kind: 0,
-            field: field_number(field),
+            field: u8::from(field),
         },
     }
 }
@@ -80,7 +71,7 @@ fn placed_at(w: Written) -> Placed
     match w {
         Written::Next(next) => Placed { refusal: 0, next },
         Written::Refused(why) => Placed {
-            refusal: number_of(why) as u32,
+            refusal: u8::from(why) as u32,
             next: 0,
         },
     }
@@ -113,8 +104,8 @@ pub fn tuyenlomac_write_answer(
     ensures buffer { buffer.new ≡ left_of buffer.old at (answer_bytes line (word_at word) number field) }
 {
     match word_at(word) {
-        Worded::Known(w) => placed_at(write_answer(buffer, at, line, w, number, field)),
-        Worded::Unknown => placed_at(Written::Refused(Refusal::UnknownKind)),
+        Some(w) => placed_at(write_answer(buffer, at, line, w, number, field)),
+        None => placed_at(Written::Refused(Refusal::UnknownKind)),
     }
 }
 
@@ -124,7 +115,7 @@ pub fn tuyenlomac_write_line(buffer: &mut [u8], at: usize, kind: u8, job: u64, c
     ensures buffer { buffer.new ≡ left_of buffer.old at (line_bytes (letter_of kind) job cell) }
 {
     match letter_of(kind) {
-        Lettered::Known(l) => placed_at(write_line(buffer, at, l, job, cell)),
-        Lettered::Unknown => placed_at(Written::Refused(Refusal::UnknownKind)),
+        Some(l) => placed_at(write_line(buffer, at, l, job, cell)),
+        None => placed_at(Written::Refused(Refusal::UnknownKind)),
     }
 }

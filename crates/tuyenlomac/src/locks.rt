@@ -12,13 +12,14 @@ use crate::answers::{Answered, in_three};
 use conflict::action::Kind;
 use desk::step::step_on;
 use desk::wakes::wake_at;
+use desk_arrays::board::Waits;
 use desk_arrays::codes::FREE;
 use desk_arrays::state::{Desk, SPOTS};
 use desk_chain::chain::chain;
 use desk_rules::Chained;
 use terms::letters::{INCREMENT, READ, WRITE};
 use terms::limits::PLACES;
-use terms::refusals::{Refusal, field_of, number_of};
+use terms::refusals::{Refusal, field_of};
 
 // The answer to a question for a job's chain: 0 and how many jobs it has, or the refusal's number and 0.
 #[repr(C)]
@@ -66,7 +67,7 @@ fn tell_wakes<'a>(
         if count <= i {
             break;
         }
-        let a = wake_at(number, cell, ask, woken[i] as usize);
+        let a = wake_at(Waits { number, cell, ask }, woken[i] as usize);
         let kind = a.kind;
         jobs[i] = a.job;
         cells[i] = a.cell;
@@ -89,7 +90,7 @@ pub fn tuyenlomac_locks_start_on(
     ensures desk { desk_of next.new number.new status.new cell.new ask.new held.new ≡ start_leaves (desk_of next.old number.old status.old cell.old ask.old held.old) (start_of first) }
 {
     if first == 0 {
-        return number_of(Refusal::StartedAtZero) as u32;
+        return u8::from(Refusal::StartedAtZero) as u32;
     }
     *next = first as u64;
     *number = [0; PLACES];
@@ -140,7 +141,7 @@ fn chain_said(c: Chained) -> ChainSaid
             jobs: n,
         },
         Chained::No(why) => ChainSaid {
-            refusal: number_of(why) as u32,
+            refusal: u8::from(why) as u32,
             jobs: field_of(why) as usize,
         },
     }

@@ -9,7 +9,7 @@ use crate::answers::{Answered, in_three};
 use stamp_arrays::state::ROWS;
 use stamp_desk::step::step_on;
 use terms::limits::PLACES;
-use terms::refusals::{Refusal, number_of};
+use terms::refusals::Refusal;
 
 // Starts a timestamp desk at a first number and answers 0. For number 0 the answer is refusal 10, and what is there stays (01, refusal 10).
 pub fn tuyenlomac_stamps_start_on(
@@ -23,7 +23,7 @@ pub fn tuyenlomac_stamps_start_on(
     ensures desk { stamps_of next.new number.new reader.new writer.new ≡ stamps_leaves (stamps_of next.old number.old reader.old writer.old) (start_of first) }
 {
     if first == 0 {
-        return number_of(Refusal::StartedAtZero) as u32;
+        return u8::from(Refusal::StartedAtZero) as u32;
     }
     *next = first as u64;
     *number = [0; PLACES];

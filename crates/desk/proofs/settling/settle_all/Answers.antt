@@ -8,7 +8,7 @@ use Rattle.desk_arrays.specs.Places.{waiters}
 use Rattle.desk_arrays.specs.Settling.{Settling}
 use Rattle.desk_arrays.proofs.WaitingCount.{waiters_most}
 use Rattle.desk.proofs.Room.{room}
-use Rattle.desk.proofs.Cells.{reached_by, cells_room, cells_length, cells_settled, cells_passed}
+use Rattle.desk.proofs.Cells.{reached_by, cells_room, cells_settled, cells_passed}
 use Rattle.desk.proofs.settling.settle_all.Goals as goal
 use Rattle.desk.proofs.settling.settle_all.Goals.{then-cells-c, else-cells-c}
 
@@ -17,11 +17,11 @@ settle_cell-k-requires c =
     let s : Settling = record { held = c.args.held.now; status = c.args.status.now; woken = [] } in
     let f : waiters c.args.status.now 32 ≤ 32 = waiters_most c.args.status.now 32 in
     let b : room s ≤ places = omega arith in
-    (omega arith, cells_room _ _ _ s _ c.loop-c.invariant.1 b, cells_length _ _ _ s _ c.loop-c.invariant.1 b c.requires)
+    (omega arith, cells_room _ _ _ s _ c.loop-c.invariant b)
 
 pub loop-c-preserved : goal.loop-c-preserved
 loop-c-preserved c =
     elim c.if-cells-c.branch [
-      | then-cells-c w ↦ (omega arith, reached_by (cells_settled _ _ _ _ _ c.loop-c.invariant.1 w.settle_cell-k.ensures) w.held-is w.status-is w.woken-is w.k-is)
-      | else-cells-c w ↦ (omega arith, reached_by (cells_passed _ _ _ _ _ c.loop-c.invariant.1 c.wanted_cells-cells.ensures c.loop-c-test.true w.if-cells-c.false) w.held-is w.status-is w.woken-is w.k-is)
+      | then-cells-c w ↦ reached_by (cells_settled _ _ _ _ _ c.loop-c.invariant w.settle_cell-k.ensures) w.held-is w.status-is w.woken-is w.k-is
+      | else-cells-c w ↦ reached_by (cells_passed _ _ _ _ _ c.loop-c.invariant c.wanted_cells-cells.ensures (omega arith) w.if-cells-c.false) w.held-is w.status-is w.woken-is w.k-is
     ]

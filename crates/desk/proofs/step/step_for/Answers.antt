@@ -10,57 +10,57 @@ use Rattle.desk.proofs.step.step_for.Goals as goal
 pub offset_bounds-number-p : goal.offset_bounds-number-p
 offset_bounds-number-p c =
     let a = c.args in
-    omega (arith, begin_place (desk_of a.next.now a.number.now a.status.now a.at.now a.ask.now a.held.now) a.woken.now (byte_of a.letter) a.job a.cell (letter_of_byte a.letter) c.plan_for-m.ensures c.sized.ensures.0 c.in-Begin.is)
+    omega (arith, begin_place (desk_of a.next.now a.number.now a.status.now a.at.now a.ask.now a.held.now) a.woken.now (byte_of a.letter) a.job a.cell (letter_of_byte a.letter) c.plan_for-m.ensures (omega arith) c.in-Begin.is)
 
 pub bounds-number-p : goal.bounds-number-p
 bounds-number-p c =
     let a = c.args in
-    omega (arith, begin_place (desk_of a.next.now a.number.now a.status.now a.at.now a.ask.now a.held.now) a.woken.now (byte_of a.letter) a.job a.cell (letter_of_byte a.letter) c.plan_for-m.ensures c.sized.ensures.0 c.in-Begin.is)
+    omega (arith, begin_place (desk_of a.next.now a.number.now a.status.now a.at.now a.ask.now a.held.now) a.woken.now (byte_of a.letter) a.job a.cell (letter_of_byte a.letter) c.plan_for-m.ensures (omega arith) c.in-Begin.is)
 
 pub bounds-status-p : goal.bounds-status-p
 bounds-status-p c =
     let a = c.args in
-    omega (arith, begin_place (desk_of a.next.now a.number.now a.status.now a.at.now a.ask.now a.held.now) a.woken.now (byte_of a.letter) a.job a.cell (letter_of_byte a.letter) c.plan_for-m.ensures c.sized.ensures.0 c.in-Begin.is)
+    omega (arith, begin_place (desk_of a.next.now a.number.now a.status.now a.at.now a.ask.now a.held.now) a.woken.now (byte_of a.letter) a.job a.cell (letter_of_byte a.letter) c.plan_for-m.ensures (omega arith) c.in-Begin.is)
 
 pub overflow_add-held : goal.overflow_add-held
 overflow_add-held c =
     let a = c.args in
-    omega (arith, take_spot (desk_of a.next.now a.number.now a.status.now a.at.now a.ask.now a.held.now) a.woken.now (byte_of a.letter) a.job a.cell (letter_of_byte a.letter) c.plan_for-m.ensures c.sized.ensures.0 c.in-Take.is)
+    omega (arith, take_spot (desk_of a.next.now a.number.now a.status.now a.at.now a.ask.now a.held.now) a.woken.now (byte_of a.letter) a.job a.cell (letter_of_byte a.letter) c.plan_for-m.ensures (omega arith) c.in-Take.is)
 
 pub bounds-held-cell : goal.bounds-held-cell
 bounds-held-cell c =
     let a = c.args in
-    omega (arith, take_spot (desk_of a.next.now a.number.now a.status.now a.at.now a.ask.now a.held.now) a.woken.now (byte_of a.letter) a.job a.cell (letter_of_byte a.letter) c.plan_for-m.ensures c.sized.ensures.0 c.in-Take.is)
+    omega (arith, take_spot (desk_of a.next.now a.number.now a.status.now a.at.now a.ask.now a.held.now) a.woken.now (byte_of a.letter) a.job a.cell (letter_of_byte a.letter) c.plan_for-m.ensures (omega arith) c.in-Take.is)
 
 pub bounds-status-p-in-Stay : goal.bounds-status-p-in-Stay
 bounds-status-p-in-Stay c =
     let a = c.args in
-    omega (arith, stay_spot (desk_of a.next.now a.number.now a.status.now a.at.now a.ask.now a.held.now) a.woken.now (byte_of a.letter) a.job a.cell (letter_of_byte a.letter) c.plan_for-m.ensures c.sized.ensures.0 c.in-Stay.is)
+    omega (arith, stay_spot (desk_of a.next.now a.number.now a.status.now a.at.now a.ask.now a.held.now) a.woken.now (byte_of a.letter) a.job a.cell (letter_of_byte a.letter) c.plan_for-m.ensures (omega arith) c.in-Stay.is)
 
 pub overflow_cast-at : goal.overflow_cast-at
 overflow_cast-at c =
     let a = c.args in
-    omega (arith, stay_spot (desk_of a.next.now a.number.now a.status.now a.at.now a.ask.now a.held.now) a.woken.now (byte_of a.letter) a.job a.cell (letter_of_byte a.letter) c.plan_for-m.ensures c.sized.ensures.0 c.in-Stay.is)
+    omega (arith, stay_spot (desk_of a.next.now a.number.now a.status.now a.at.now a.ask.now a.held.now) a.woken.now (byte_of a.letter) a.job a.cell (letter_of_byte a.letter) c.plan_for-m.ensures (omega arith) c.in-Stay.is)
 
 pub bounds-at-p : goal.bounds-at-p
 bounds-at-p c =
     let a = c.args in
-    omega (arith, stay_spot (desk_of a.next.now a.number.now a.status.now a.at.now a.ask.now a.held.now) a.woken.now (byte_of a.letter) a.job a.cell (letter_of_byte a.letter) c.plan_for-m.ensures c.sized.ensures.0 c.in-Stay.is)
+    omega (arith, stay_spot (desk_of a.next.now a.number.now a.status.now a.at.now a.ask.now a.held.now) a.woken.now (byte_of a.letter) a.job a.cell (letter_of_byte a.letter) c.plan_for-m.ensures (omega arith) c.in-Stay.is)
 
 pub bounds-ask-p : goal.bounds-ask-p
 bounds-ask-p c =
     let a = c.args in
-    omega (arith, stay_spot (desk_of a.next.now a.number.now a.status.now a.at.now a.ask.now a.held.now) a.woken.now (byte_of a.letter) a.job a.cell (letter_of_byte a.letter) c.plan_for-m.ensures c.sized.ensures.0 c.in-Stay.is)
+    omega (arith, stay_spot (desk_of a.next.now a.number.now a.status.now a.at.now a.ask.now a.held.now) a.woken.now (byte_of a.letter) a.job a.cell (letter_of_byte a.letter) c.plan_for-m.ensures (omega arith) c.in-Stay.is)
 
 pub end_run-count-requires : goal.end_run-count-requires
 end_run-count-requires c =
     let a = c.args in
-    (end_place (desk_of a.next.now a.number.now a.status.now a.at.now a.ask.now a.held.now) a.woken.now (byte_of a.letter) a.job a.cell (letter_of_byte a.letter) c.plan_for-m.ensures c.sized.ensures.0 c.in-End.is, c.sized.ensures.1)
+    end_place (desk_of a.next.now a.number.now a.status.now a.at.now a.ask.now a.held.now) a.woken.now (byte_of a.letter) a.job a.cell (letter_of_byte a.letter) c.plan_for-m.ensures (omega arith) c.in-End.is
 
 pub leave_place-requires : goal.leave_place-requires
 leave_place-requires c =
     let a = c.args in
-    end_place (desk_of a.next.now a.number.now a.status.now a.at.now a.ask.now a.held.now) a.woken.now (byte_of a.letter) a.job a.cell (letter_of_byte a.letter) c.plan_for-m.ensures c.sized.ensures.0 c.in-End.is
+    end_place (desk_of a.next.now a.number.now a.status.now a.at.now a.ask.now a.held.now) a.woken.now (byte_of a.letter) a.job a.cell (letter_of_byte a.letter) c.plan_for-m.ensures (omega arith) c.in-End.is
 
 pub returns-in-Refuse : goal.returns-in-Refuse
 returns-in-Refuse c =
@@ -80,7 +80,7 @@ returns-in-Keep c =
 pub returns-in-Take : goal.returns-in-Take
 returns-in-Take c =
     let a = c.args in
-    taken (desk_of a.next.now a.number.now a.status.now a.at.now a.ask.now a.held.now) a.woken.now (byte_of a.letter) a.job a.cell (letter_of_byte a.letter) c.plan_for-m.ensures c.answer_to-answer.ensures c.in-Take.is c.code_of.ensures
+    taken (desk_of a.next.now a.number.now a.status.now a.at.now a.ask.now a.held.now) a.woken.now (byte_of a.letter) a.job a.cell (letter_of_byte a.letter) c.plan_for-m.ensures c.answer_to-answer.ensures c.in-Take.is c.from.ensures
 
 pub returns-in-Stay : goal.returns-in-Stay
 returns-in-Stay c =

@@ -5,4 +5,4 @@ use Rattle.desk_rules.specs.Chain.{younger_than}
 use Rattle.desk_chain.proofs.chain.+follow.Given as goal
 
 abbrev pub decreases-follow : goal.decreases-follow
-decreases-follow l = younger_than (get_or l.number.now l.p 0) l.number.now
+decreases-follow l = younger_than (get_or l.b.number.now l.p 0) l.b.number.now

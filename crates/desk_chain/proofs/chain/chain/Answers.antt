@@ -11,4 +11,4 @@ pub returns : goal.returns
 returns c =
     let n : length c.args.d.number ≡ places = search rules in
     let s : length c.args.d.status ≡ places = search rules in
-    asked_told _ _ _ n s c.find-f.ensures c.if-f-eq-FREE.false c.if-f-eq-SENT_BACK.false c.if-list-lt-PLACES.false c.follow.ensures
+    asked_told _ _ _ n s c.find-f.ensures.found c.if-f-eq-FREE.false c.if-f-eq-SENT_BACK.false c.if-list-lt-PLACES.false c.follow.ensures

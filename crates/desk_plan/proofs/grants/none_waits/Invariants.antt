@@ -1,6 +1,5 @@
--- `desk_plan::grants::none_waits` meets its contract. The loop's invariant: the flag tells whether none of the places passed waits; the measure: the places left of 32.
+-- `desk_plan::grants::none_waits` meets its contract. The loop's invariant: the flag tells whether none of the places passed waits.
 -- Assumes nothing.
-use Prim.Native.Nat.{◌≤◌, ◌-◌}
 use mathlib.Core.Path.{◌≡◌}
 use mathlib.Core.Bool.{not}
 use lib.Dec.{eqb}
@@ -10,7 +9,4 @@ use Rattle.desk_arrays.specs.Places.{all_below}
 use Rattle.desk_plan.proofs.grants.none_waits.Given as goal
 
 abbrev pub invariant-loop-q : goal.invariant-loop-q
-invariant-loop-q l = (l.q ≤ 32) × (l.none ≡ all_below (λ k. not (eqb (get_or l.status k 0) waiting_code)) l.q)
-
-abbrev pub decreases-loop-q : goal.decreases-loop-q
-decreases-loop-q l = 32 - l.q
+invariant-loop-q l = l.none ≡ all_below (λ k. not (eqb (get_or l.status k 0) waiting_code)) l.q

@@ -6,4 +6,4 @@ use Rattle.desk_plan.specs.Grants.{wanted}
 use Rattle.desk_plan.proofs.grants.wanted_cells.Goals as goal
 
 pub returns : goal.returns
-returns c = let e : c.loop-q.q ≡ 32 = omega arith in c.loop-q.invariant.1 ∙ ap (wanted _ _) e
+returns c = let e : c.loop-q.q ≡ 32 = omega arith in c.loop-q.invariant ∙ ap (wanted _ _) e

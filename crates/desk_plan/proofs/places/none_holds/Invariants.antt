@@ -1,6 +1,5 @@
--- `desk_plan::places::none_holds` meets its contract. The loop's invariant: the flag tells whether none of the places passed holds the cell; the measure: the places left of 32.
+-- `desk_plan::places::none_holds` meets its contract. The loop's invariant: the flag tells whether none of the places passed holds the cell.
 -- Assumes nothing.
-use Prim.Native.Nat.{◌≤◌, ◌-◌}
 use mathlib.Core.Path.{◌≡◌}
 use lib.Dec.{eqb}
 use lib.ListN.{get_or}
@@ -8,7 +7,4 @@ use Rattle.desk_arrays.specs.Places.{spot, all_below}
 use Rattle.desk_plan.proofs.places.none_holds.Given as goal
 
 abbrev pub invariant-loop-q : goal.invariant-loop-q
-invariant-loop-q l = (l.q ≤ 32) × (l.none ≡ all_below (λ k. eqb (get_or l.held (spot l.c k) 0) 0) l.q)
-
-abbrev pub decreases-loop-q : goal.decreases-loop-q
-decreases-loop-q l = 32 - l.q
+invariant-loop-q l = l.none ≡ all_below (λ k. eqb (get_or l.held (spot l.c k) 0) 0) l.q

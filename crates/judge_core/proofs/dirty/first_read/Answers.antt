@@ -5,11 +5,10 @@ use Rattle.judge_core.proofs.DirtyPasses.{latest_none, latest_more, dirty_by}
 use Rattle.judge_core.proofs.dirty.first_read.Goals as goal
 
 pub loop-p-init : goal.loop-p-init
-loop-p-init c = (omega arith, latest_none _ _ _, below_none _)
+loop-p-init c = (latest_none _ _ _, below_none _)
 
 pub loop-p-preserved : goal.loop-p-preserved
 loop-p-preserved c = (
-  omega arith,
-  latest_more _ _ _ _ _ _ c.loop-p.invariant.1 c.place-c.ensures.0 c.place-c.ensures.1 _ c.later_end.ensures,
-  below_more _ _ c.loop-p.invariant.2 (sym (dirty_by _ _ _ _ _ _ c.loop-p.invariant.1 c.place-c.ensures.0 c.place-c.ensures.1 _ c.reads_dirt.ensures) ∙ c.if-reads_dirt.false),
+  latest_more _ _ _ _ _ _ c.loop-p.invariant.0 c.from-cell.ensures (omega arith) _ c.later_end.ensures,
+  below_more _ _ c.loop-p.invariant.1 (sym (dirty_by _ _ _ _ _ _ c.loop-p.invariant.0 c.from-cell.ensures (omega arith) _ c.reads_dirt.ensures) ∙ c.if-reads_dirt.false),
 )

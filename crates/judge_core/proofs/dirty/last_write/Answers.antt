@@ -5,4 +5,4 @@ use Rattle.judge_core.proofs.DirtyPasses.{back_all}
 use Rattle.judge_core.proofs.dirty.last_write.Goals as goal
 
 pub returns : goal.returns
-returns c = back_all _ _ _ _ _ (omega arith) c.loop-q.invariant.1
+returns c = back_all _ _ _ _ _ (omega arith) c.loop-q.invariant

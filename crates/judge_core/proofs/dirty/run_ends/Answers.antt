@@ -5,11 +5,10 @@ use Rattle.judge_core.proofs.DirtyPasses.{seen_none, ends_none, seen_more, ends_
 use Rattle.judge_core.proofs.dirty.run_ends.Goals as goal
 
 pub loop-p-init : goal.loop-p-init
-loop-p-init c = (omega arith, seen_none _ _ _ _ refl, ends_none _ _ _)
+loop-p-init c = (seen_none _ _ _ _ refl, ends_none _ _ _)
 
 pub loop-p-preserved : goal.loop-p-preserved
 loop-p-preserved c = (
-  omega arith,
-  seen_more _ _ _ _ _ _ _ (omega arith) (omega arith) c.loop-p.invariant.1 c.place-j.ensures.0 c.place-j.ensures.1 _ c.end_by.ensures,
-  ends_more _ _ _ _ _ _ _ (omega arith) (omega arith) c.loop-p.invariant.1 c.place-j.ensures.0 c.place-j.ensures.1 _ (omega arith) c.loop-p.invariant.2,
+  seen_more _ _ _ _ _ _ _ (omega arith) (omega arith) c.loop-p.invariant.0 c.from-j.ensures (omega arith) _ c.end_by.ensures,
+  ends_more _ _ _ _ _ _ _ (omega arith) (omega arith) c.loop-p.invariant.0 c.from-j.ensures (omega arith) _ (omega arith) c.loop-p.invariant.1,
 )

@@ -6,10 +6,12 @@ use Rattle.judge_core.proofs.Faultless.{at_start, at_found, line_passed}
 use Rattle.judge_core.proofs.kept.first_fault.Goals as goal
 
 pub loop-p-init : goal.loop-p-init
-loop-p-init c = (omega arith, omega arith, flags_none _ _ _, at_start _ _ _ _)
+loop-p-init c = (omega arith, flags_none _ _ _, at_start _ _ _ _)
 
-pub returns-then-p-ge-JUDGED_LINES : goal.returns-then-p-ge-JUDGED_LINES
-returns-then-p-ge-JUDGED_LINES c = at_found _ _ _ _ _ _ _ (omega arith) (fault_many _ _ _ _ _ (omega arith)) c.loop-p.invariant.3
+pub returns-then-line-gt-JUDGED_LINES : goal.returns-then-line-gt-JUDGED_LINES
+returns-then-line-gt-JUDGED_LINES c = at_found _ _ _ _ _ _ _ (omega arith) (fault_many _ _ _ _ _ (omega arith)) c.loop-p.invariant.2
 
 pub loop-p-preserved : goal.loop-p-preserved
-loop-p-preserved c = line_passed _ _ _ _ _ _ _ _ _ _ c.in-Nothing.is c.fault_at.ensures (omega arith) (omega arith) c.loop-p.invariant.2 c.loop-p.invariant.3 c.place-job.ensures.0 c.place-job.ensures.1 c.ends_job.ensures
+loop-p-preserved c =
+    let passed = line_passed _ _ _ _ _ _ _ _ _ c.in_default.ensures (omega arith) c.loop-p.invariant.1 c.loop-p.invariant.2 c.from.ensures (omega arith) c.ends_job.ensures in
+    (omega arith, passed.0, passed.1)

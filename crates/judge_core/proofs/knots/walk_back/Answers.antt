@@ -4,11 +4,11 @@ use Rattle.std.proofs.Common.{arith}
 use Rattle.judge_core.proofs.Trail.{walked_round, walked_more, walked_off}
 use Rattle.judge_core.proofs.knots.walk_back.Goals as goal
 
-pub returns-then-p-lt-STOPS : goal.returns-then-p-lt-STOPS
-returns-then-p-lt-STOPS c = walked_round _ _ _ _ _ _ (omega arith) c.loop-at.invariant c.place_of-p.ensures c.if-p-lt-STOPS.true
-
-pub returns-then-j-ge-NOBODY : goal.returns-then-j-ge-NOBODY
-returns-then-j-ge-NOBODY c = walked_off _ _ _ _ _ _ (omega arith) c.loop-at.invariant c.place_of-p.ensures c.if-p-lt-STOPS.false c.if-j-ge-NOBODY.true _
+pub returns-in-Some : goal.returns-in-Some
+returns-in-Some c = walked_round _ _ _ _ _ (omega arith) c.loop-at.invariant _ c.in-Some.ensures
 
 pub loop-at-preserved : goal.loop-at-preserved
-loop-at-preserved c = walked_more _ _ _ _ _ _ (omega arith) c.loop-at.invariant c.place_of-p.ensures c.if-p-lt-STOPS.false c.if-j-ge-NOBODY.false
+loop-at-preserved c = walked_more _ _ _ _ _ (omega arith) c.loop-at.invariant c.in_default.ensures c.if-j-ge-NOBODY.false
+
+pub returns-then-j-ge-NOBODY : goal.returns-then-j-ge-NOBODY
+returns-then-j-ge-NOBODY c = walked_off _ _ _ _ _ (omega arith) c.loop-at.invariant c.in_default.ensures c.if-j-ge-NOBODY.true _

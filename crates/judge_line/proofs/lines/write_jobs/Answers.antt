@@ -1,13 +1,13 @@
 -- `judge_line::lines::write_jobs` meets its contract: a line that fits is written part by part; a line that does not is refused.
 -- Assumes nothing.
 use Rattle.text_rules.proofs.RoomLaws.{written, refused}
-use Rattle.text.proofs.WordLaws.{spelling_length}
+use Rattle.std.proofs.Common.{length, ap}
 use Rattle.text_rules.proofs.WroteLaws.{wrote_as, wrote_then}
 use Rattle.judge_line.proofs.WordLines.{word_line_is, line_too_long, word_too_long}
 use Rattle.judge_line.proofs.lines.write_jobs.Goals as goal
 
 pub returns-then-room-len : goal.returns-then-room-len
-returns-then-room-len c = refused _ _ _ (word_too_long c.args.word _ _ _ (spelling_length c.spelled-spelling.result c.args.word c.spelled-spelling.ensures) c.if-room-len.true)
+returns-then-room-len c = refused _ _ _ (word_too_long c.args.word _ _ _ (ap length c.spelled-len.ensures) c.if-room-len.true)
 
 pub returns-then-jobs_fit : goal.returns-then-jobs_fit
 returns-then-jobs_fit c =
@@ -16,5 +16,5 @@ returns-then-jobs_fit c =
 pub returns-else-jobs_fit : goal.returns-else-jobs_fit
 returns-else-jobs_fit c =
     refused _ _ _
-    (line_too_long c.args.word _ _ _ (spelling_length c.spelled-spelling.result c.args.word c.spelled-spelling.ensures)
+    (line_too_long c.args.word _ _ _ (ap length c.spelled-len.ensures)
     c.if-room-len.false c.jobs_fit.ensures c.if-jobs_fit.false)

@@ -4,7 +4,7 @@ use Rattle.judge_line.proofs.Saying.{says_too_long, says_judged}
 use Rattle.judge_line.proofs.verdict.verdict_line.Goals as goal
 
 pub returns-then-text-gt-JUDGED_BYTES : goal.returns-then-text-gt-JUDGED_BYTES
-returns-then-text-gt-JUDGED_BYTES c = says_too_long _ _ _ c.if-text-gt-JUDGED_BYTES.true c.number_of.ensures c.write_no.ensures
+returns-then-text-gt-JUDGED_BYTES c = says_too_long _ _ _ c.if-text-gt-JUDGED_BYTES.true c.from.ensures c.write_no.ensures
 
 pub returns : goal.returns
 returns c = says_judged _ _ _ _ c.if-text-gt-JUDGED_BYTES.false c.judge_text-said.ensures.said c.judge_text-said.ensures.order c.write_verdict.ensures

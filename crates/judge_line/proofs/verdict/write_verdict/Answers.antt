@@ -13,4 +13,4 @@ pub returns-in-Dirty : goal.returns-in-Dirty
 returns-in-Dirty c = says_dirty _ _ _ _ _ c.in-Dirty.is c.write_jobs-in-Dirty.ensures
 
 pub returns-in-No : goal.returns-in-No
-returns-in-No c = says_no _ _ _ _ _ _ _ c.in-No.is c.number_of.ensures c.field_of.ensures c.write_no.ensures
+returns-in-No c = says_no _ _ _ _ _ _ _ c.in-No.is c.from.ensures c.field_of.ensures c.write_no.ensures

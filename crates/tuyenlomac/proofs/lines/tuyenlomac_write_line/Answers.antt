@@ -5,18 +5,18 @@ use Rattle.tuyenlomac.specs.Texts.{line_bytes}
 use Rattle.tuyenlomac.proofs.InNumbers.{written_some, written_none}
 use Rattle.tuyenlomac.proofs.lines.tuyenlomac_write_line.Goals as goal
 
-pub returns-in-Known : goal.returns-in-Known
+pub returns-in-Some : goal.returns-in-Some
 unfolding line_bytes
-returns-in-Known c =
+returns-in-Some c =
     let a = c.args in
-    let e = sym c.letter_of.ensures ∙ c.in-Known.is in
+    let e = sym c.letter_of.ensures ∙ c.in-Some.is in
     let p = written_some a.buffer.now a.at _ (ap (λ x. line_bytes x a.job a.cell) e) c.write_line.ensures c.placed_at.ensures in
     record { said = p.0; buffer = p.1 }
 
-pub returns-in-Unknown : goal.returns-in-Unknown
+pub returns-in-None : goal.returns-in-None
 unfolding line_bytes
-returns-in-Unknown c =
+returns-in-None c =
     let a = c.args in
-    let e = sym c.letter_of.ensures ∙ c.in-Unknown.is in
-    let p = written_none a.buffer.now a.at (ap (λ x. line_bytes x a.job a.cell) e) c.placed_at-in-Unknown.ensures in
+    let e = sym c.letter_of.ensures ∙ c.in-None.is in
+    let p = written_none a.buffer.now a.at (ap (λ x. line_bytes x a.job a.cell) e) c.placed_at-in-None.ensures in
     record { said = p.0; buffer = p.1 }

@@ -5,7 +5,7 @@ use Rattle.tuyenlomac.proofs.Starting.{locks_refused, locks_started}
 use Rattle.tuyenlomac.proofs.locks.tuyenlomac_locks_start_on.Goals as goal
 
 pub returns-then-first-eq0 : goal.returns-then-first-eq0
-returns-then-first-eq0 c = let p = locks_refused _ _ _ c.if-first-eq0.true c.number_of.ensures in record { refusal = p.0; desk = p.1 }
+returns-then-first-eq0 c = let p = locks_refused _ _ _ c.if-first-eq0.true c.from.ensures in record { refusal = p.0; desk = p.1 }
 
 pub returns : goal.returns
 unfolding empty_desk
