@@ -9,7 +9,6 @@ use Rattle.std.specs.Prelude.{Result, Ok, Err}
 use Rattle.laws.specs.Lists.{filled}
 use Rattle.terms.specs.declared.letters.Ask.{Ask}
 use Rattle.terms.specs.declared.letters.Letter.{Letter}
-use Rattle.terms.specs.declared.letters.Lettered.TheVariants.{Known, Unknown}
 use Rattle.terms.specs.declared.refusals.Refusal.{Refusal}
 use Rattle.terms.specs.declared.refusals.Refusal.TheVariants.{UnknownKind}
 use Rattle.terms.specs.Letters.{byte_of, letter_of}
@@ -32,10 +31,10 @@ use Rattle.desk_plan.specs.Fits.{Fits}
 use Rattle.desk_plan.proofs.Fitting.{plan_fits}
 use Rattle.desk.specs.InPlace.{Reached, woken_by, StepsTo}
 
-module _ (next : ℕ) (number status cell held : List ℕ) (job c : ℕ) (letter : Letter) {m : Move} (plans : Ok m ≡ move_for next number status cell held job c (Known letter)) (long : length status ≡ places) where
+module _ (next : ℕ) (number status cell held : List ℕ) (job c : ℕ) (letter : Letter) {m : Move} (plans : Ok m ≡ move_for next number status cell held job c (Some letter)) (long : length status ≡ places) where
   -- a plan speaks of places and cells that there are
   fits : Fits c (Ok m)
-  fits = subst (Fits c) (sym plans) (plan_fits next number status cell held job c (Known letter) long)
+  fits = subst (Fits c) (sym plans) (plan_fits next number status cell held job c (Some letter) long)
 
   -- there is the place of a new job
   pub begin_place : {p n : ℕ} → m ≡ Begin p n → p < places
@@ -71,17 +70,17 @@ steps {d} {l} {kind} {job} {c} plans answers e f g = record {
 
 module _ (next : ℕ) (number status cell ask held l : List ℕ) (letter : Letter) (job c : ℕ) where
   -- the plan by the letter is the plan by its byte
-  planned : {m : Result Move Refusal} → m ≡ move_for next number status cell held job c (Known letter) → m ≡ move_of (desk_of next number status cell ask held) (byte_of letter) job c
+  planned : {m : Result Move Refusal} → m ≡ move_for next number status cell held job c (Some letter) → m ≡ move_of (desk_of next number status cell ask held) (byte_of letter) job c
   unfolding move_of
   planned plans = plans ∙ ap (move_for next number status cell held job c) (sym (letter_of_byte letter))
 
   -- a refusal leaves the desk as it was
-  pub refused : {why : Refusal} → Err why ≡ move_for next number status cell held job c (Known letter) →
+  pub refused : {why : Refusal} → Err why ≡ move_for next number status cell held job c (Some letter) →
       StepsTo (desk_of next number status cell ask held) l (byte_of letter) job c (desk_of next number status cell ask held) l (record { answer = No why; count = 0 })
   unfolding carried answer_to filled
   refused plans = steps (planned plans) refl refl refl refl
 
-  module _ {m : Move} (plans : Ok m ≡ move_for next number status cell held job c (Known letter)) {a : Answer} (answers : a ≡ answer_to (Ok m) job) where
+  module _ {m : Move} (plans : Ok m ≡ move_for next number status cell held job c (Some letter)) {a : Answer} (answers : a ≡ answer_to (Ok m) job) where
     -- a new number at its place
     pub begun_at : {p n k : ℕ} → m ≡ Begin p n → k ≡ n → StepsTo (desk_of next number status cell ask held) l (byte_of letter) job c (desk_of (k + 1) (set number p n) (set status p running_code) cell ask held) l (record { answer = a; count = 0 })
     unfolding carried begun filled
@@ -117,7 +116,7 @@ module _ (next : ℕ) (number status cell ask held l : List ℕ) (letter : Lette
     tried e = steps (planned plans) answers (rw e) (rw e) (rw e)
 
 -- a byte that is no letter's is refused
-pub refused_byte : {d : Desk} {l : List ℕ} {kind job c : ℕ} → letter_of kind ≡ Unknown → StepsTo d l kind job c d l (record { answer = No UnknownKind; count = 0 })
+pub refused_byte : {d : Desk} {l : List ℕ} {kind job c : ℕ} → letter_of kind ≡ None → StepsTo d l kind job c d l (record { answer = No UnknownKind; count = 0 })
 unfolding move_of move_for answer_to carried filled
 refused_byte {d} {l} {kind} {job} {c} h =
     steps {m = Err UnknownKind} (rw h) refl refl refl refl

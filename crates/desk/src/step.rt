@@ -99,7 +99,7 @@ pub fn step_for(
             quiet
         }
         Move::Take(p, mode) => {
-            held[cell as usize * PLACES + p] = code_of(mode);
+            held[cell as usize * PLACES + p] = u8::from(mode);
             quiet
         }
         Move::Stay(p, a) => {

@@ -1,12 +1,10 @@
 -- What a request is to do, decided over the arrays before anything changes: the refusals in their order, then rules 1 to 3 (01, The desk's rules; 01, Refusals by number).
-use Rattle.std.specs.Prelude.{ℕ, ◌&&◌, List, Result, Ok, Err, eqb, ltb, get_or}
+use Rattle.std.specs.Prelude.{ℕ, ◌&&◌, List, Result, Ok, Err, eqb, ltb, get_or, Option, None, Some}
 use Rattle.laws.specs.Choice.{pick}
 use Rattle.laws.specs.Lists.{pos}
 use Rattle.terms.specs.declared.letters.Letter.{Letter}
 use Rattle.terms.specs.declared.letters.Ask.{Ask}
 use Rattle.terms.specs.declared.letters.Letter.TheVariants.{Begin as begins, Commit, GiveUp, Retry as retries, Back as no-request, Asks}
-use Rattle.terms.specs.declared.letters.Lettered.{Lettered}
-use Rattle.terms.specs.declared.letters.Lettered.TheVariants.{Known, Unknown}
 use Rattle.terms.specs.declared.refusals.Refusal.{Refusal}
 use Rattle.terms.specs.declared.refusals.Refusal.TheVariants.{UnknownKind, CellAbove, NotOpen, Waiting, SentBack as was_sent_back, Running}
 use Rattle.terms.specs.Limits.{cells}
@@ -40,9 +38,9 @@ if_runs (Err why) goes = Err why
 if_runs (Ok u) goes = goes
 
 -- begin, given where the new job is opened (01, Refusals by number)
-unfoldable pub opened : Opening → Result Move Refusal
-opened (At p n) = Ok (Begin p n)
-opened (Refused why) = Err why
+unfoldable pub opened : Result Opening Refusal → Result Move Refusal
+opened (Ok o) = Ok (Begin o.place o.number)
+opened (Err why) = Err why
 
 -- begin: refusal 7, then 6, else the next number at the first free place (01, Refusals by number)
 unfoldable pub begin_move : ℕ → List ℕ → Result Move Refusal
@@ -89,11 +87,11 @@ module _ (number status cell held : List ℕ) where
       if_runs (standing_of f.code) (pick (ltb c cells) (Ok (decided f.place c job a)) (Err CellAbove))
 
 -- the move of a request, by its letter; refusal 1 if no request has the letter
-unfoldable pub move_for : ℕ → List ℕ → List ℕ → List ℕ → List ℕ → ℕ → ℕ → Lettered → Result Move Refusal
-move_for next number status cell held job c Unknown = Err UnknownKind
-move_for next number status cell held job c (Known no-request) = Err UnknownKind
-move_for next number status cell held job c (Known begins) = begin_move next number
-move_for next number status cell held job c (Known Commit) = commit_move (found_at number status job)
-move_for next number status cell held job c (Known GiveUp) = give_up_move (found_at number status job)
-move_for next number status cell held job c (Known retries) = retry_move (found_at number status job)
-move_for next number status cell held job c (Known (Asks a)) = ask_move number status cell held job c a
+unfoldable pub move_for : ℕ → List ℕ → List ℕ → List ℕ → List ℕ → ℕ → ℕ → Option Letter → Result Move Refusal
+move_for next number status cell held job c None = Err UnknownKind
+move_for next number status cell held job c (Some no-request) = Err UnknownKind
+move_for next number status cell held job c (Some begins) = begin_move next number
+move_for next number status cell held job c (Some Commit) = commit_move (found_at number status job)
+move_for next number status cell held job c (Some GiveUp) = give_up_move (found_at number status job)
+move_for next number status cell held job c (Some retries) = retry_move (found_at number status job)
+move_for next number status cell held job c (Some (Asks a)) = ask_move number status cell held job c a

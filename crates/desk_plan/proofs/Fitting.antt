@@ -14,8 +14,6 @@ use Rattle.laws.specs.Lists.{pos}
 use Rattle.terms.specs.declared.letters.Letter.{Letter}
 use Rattle.terms.specs.declared.letters.Ask.{Ask}
 use Rattle.terms.specs.declared.letters.Letter.TheVariants.{Begin as begins, Commit, GiveUp, Retry as retries, Back as no-request, Asks}
-use Rattle.terms.specs.declared.letters.Lettered.{Lettered}
-use Rattle.terms.specs.declared.letters.Lettered.TheVariants.{Known, Unknown}
 use Rattle.terms.specs.declared.refusals.Refusal.{Refusal}
 use Rattle.terms.specs.Limits.{places, cells, last_number}
 use Rattle.conflict.specs.declared.modes.Mode.{Mode}
@@ -72,15 +70,15 @@ module _ (number status cell held : List ℕ) (p c job : ℕ) (a : Ask) (place :
 -- every plan fits
 pub plan_fits : (next : ℕ) (number status cell held : List ℕ) (job c : ℕ) (l : Option Letter) → length status ≡ places → Fits c (move_for next number status cell held job c l)
 unfolding move_for commit_move give_up_move retry_move ask_move found_at
-plan_fits next number status cell held job c Unknown e = tt
-plan_fits next number status cell held job c (Known no-request) e = tt
-plan_fits next number status cell held job c (Known begins) e =
+plan_fits next number status cell held job c None e = tt
+plan_fits next number status cell held job c (Some no-request) e = tt
+plan_fits next number status cell held job c (Some begins) e =
     rw (begin_picks next number) (fits_pick c (λ m. m) (ltb last_number next) _ _ (λ t. tt) (λ f. fits_pick c (λ m. m) (ltb (pos number 0) places) _ _ (λ t. ltb-true (pos number 0) places t) (λ t. tt)))
-plan_fits next number status cell held job c (Known Commit) e = fits_runs c _ _ (open_inside number status job e)
-plan_fits next number status cell held job c (Known GiveUp) e = fits_pick c (λ m. m) _ _ _ (λ t. tt) (open_inside number status job e)
-plan_fits next number status cell held job c (Known retries) e =
+plan_fits next number status cell held job c (Some Commit) e = fits_runs c _ _ (open_inside number status job e)
+plan_fits next number status cell held job c (Some GiveUp) e = fits_pick c (λ m. m) _ _ _ (λ t. tt) (open_inside number status job e)
+plan_fits next number status cell held job c (Some retries) e =
     let code = status_of number status job in
     by_test (eqb code free_code) (λ t. rw t tt)
     (λ f. rw f (by_test (eqb code waiting_code) (λ t. rw t tt) (λ g. rw g (by_test (eqb code sent_back_code) (λ t. rw t (open_inside number status job e f)) (λ h. rw h tt)))))
-plan_fits next number status cell held job c (Known (Asks a)) e =
+plan_fits next number status cell held job c (Some (Asks a)) e =
     fits_runs c _ _ (λ o. fits_pick c (λ m. m) (ltb c cells) _ _ (λ t. fits_decided number status cell held _ c job a (open_inside number status job e o) (ltb-true c cells t)) (λ t. tt))

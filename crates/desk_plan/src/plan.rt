@@ -121,10 +121,8 @@ fn decide(b: Board, p: usize, c: usize, job: u32, a: Ask) -> Move
 fn begin_move(next: u64, number: &[u32; PLACES]) -> Result<Move, Refusal>
     ensures { result ≡ begin_move next number.now }
 {
-    match opening_for(next, number) {
-        Opening::At(p, n) => Ok(Move::Begin(p, n)),
-        Opening::Refused(why) => Err(why),
-    }
+    let Opening { place, number } = opening_for(next, number)?;
+    Ok(Move::Begin(place, number))
 }
 
 // Commit: refusals 3, 4, 5, else the run ends.

@@ -140,7 +140,7 @@ fn chain_said(c: Result<usize, Refusal>) -> ChainSaid
             jobs: n,
         },
         Err(why) => ChainSaid {
-            refusal: number_of(why) as u32,
+            refusal: u8::from(why) as u32,
             jobs: field_of(why) as usize,
         },
     }

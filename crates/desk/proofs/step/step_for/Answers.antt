@@ -13,7 +13,7 @@ pub returns-in-Begin : goal.returns-in-Begin
 returns-in-Begin c = begun_at _ _ _ _ _ _ _ _ _ _ c.in-Ok.ensures c.answer_to-answer.ensures c.in-Begin.is c.from.ensures
 
 pub returns-in-Take : goal.returns-in-Take
-returns-in-Take c = taken _ _ _ _ _ _ _ _ _ _ c.in-Ok.ensures c.answer_to-answer.ensures c.in-Take.is c.code_of.ensures
+returns-in-Take c = taken _ _ _ _ _ _ _ _ _ _ c.in-Ok.ensures c.answer_to-answer.ensures c.in-Take.is c.from.ensures
 
 pub returns-in-Stay : goal.returns-in-Stay
 returns-in-Stay c = stayed _ _ _ _ _ _ _ _ _ _ c.in-Ok.ensures c.answer_to-answer.ensures c.in-Stay.is c.ask_code.ensures
