@@ -18,8 +18,8 @@ pub fn none_waits(status: &[u8; PLACES]) -> bool
     ensures { result ≡ none_waits status.now }
 {
     let mut none = true;
-    for q in 0..PLACES {
-        if status[q] == WAITING {
+    for code in status {
+        if *code == WAITING {
             none = false;
         }
     }

@@ -1,5 +1,5 @@
 // Tests over the places of the desk: who holds a cell, who is older, who waits (01, rules 2 to 4).
-ghost use Rattle.std.specs.Prelude.{◌<◌, ◌≡◌, not, ◌&&◌, ◌||◌, eqb, ltb, get_or};
+ghost use Rattle.std.specs.Prelude.{◌<◌, ◌≡◌, ◌||◌, eqb, ltb, get_or};
 ghost use Rattle.conflict.specs.Modes.{grants, is_free};
 ghost use Rattle.desk_plan.specs.Grants.{none_holds};
 ghost use Rattle.desk_arrays.specs.Places.{mode_at, agrees_at, older_at, waits_at, nobody_waits, oldest_of, youngest};
@@ -25,10 +25,7 @@ fn grants_at(held: &[u8; SPOTS], c: usize, p: usize, m: Mode, q: usize) -> bool
     requires { (c < cells) × (q < places) }
     ensures { result ≡ (eqb q p || grants (mode_at held.now c q) m) }
 {
-    if q == p {
-        return true;
-    }
-    mode_grants(mode_at(held, c, q), m)
+    q == p || mode_grants(mode_at(held, c, q), m)
 }
 
 // Whether the mode agrees with what every other place holds on the cell.
@@ -67,10 +64,7 @@ pub fn goes_beside(held: &[u8; SPOTS], c: usize, p: usize, m: Mode) -> bool
     requires { c < cells }
     ensures { result ≡ agrees_at held.now c p m }
 {
-    if none_holds(held, c) {
-        return true;
-    }
-    agrees(held, c, p, m)
+    none_holds(held, c) || agrees(held, c, p, m)
 }
 
 // True if the place is the job's own, holds nothing on the cell, or its job is younger.
@@ -78,13 +72,7 @@ fn older_at(b: Board, c: usize, p: usize, job: u32, q: usize) -> bool
     requires { (c < cells) × (q < places) }
     ensures { result ≡ (eqb q p || (is_free (mode_at b.entry.held.now c q) || ltb job (get_or b.entry.number.now q 0))) }
 {
-    if q == p {
-        return true;
-    }
-    if mode_is_free(mode_at(b.held, c, q)) {
-        return true;
-    }
-    job < b.number[q]
+    q == p || mode_is_free(mode_at(b.held, c, q)) || job < b.number[q]
 }
 
 // Whether the job at place p is older than every other holder of the cell.
@@ -101,10 +89,7 @@ pub fn waits_for(b: Board, c: usize, q: usize) -> bool
     requires { q < places }
     ensures { result ≡ waits_at b.entry.status.now b.entry.cell.now c q }
 {
-    if usize::from(b.cell[q]) == c {
-        return b.status[q] == WAITING;
-    }
-    false
+    usize::from(b.cell[q]) == c && b.status[q] == WAITING
 }
 
 // Whether nobody waits for the cell. The loop has no early exit, so that it is vectorized.
@@ -121,22 +106,11 @@ pub fn nobody_waits(b: Board, c: usize) -> bool
     nobody
 }
 
-// True if the place is not waiting for the cell, or its job is younger.
-fn waits_older(b: Board, c: usize, job: u32, q: usize) -> bool
-    requires { q < places }
-    ensures { result ≡ (not (waits_at b.entry.status.now b.entry.cell.now c q) || ltb job (get_or b.entry.number.now q 0)) }
-{
-    if waits_for(b, c, q) {
-        return job < b.number[q];
-    }
-    true
-}
-
 // Whether the job is older than every waiter of the cell.
 pub fn older_than_waiters(b: Board, c: usize, job: u32) -> bool
     ensures { result ≡ oldest_of b.entry.number.now b.entry.status.now b.entry.cell.now c job }
 {
-    (0..PLACES).all(|q| waits_older(b, c, job, q))
+    (0..PLACES).all(|q| !waits_for(b, c, q) || job < b.number[q])
 }
 
 // The number of the job at a place; 0, for no place.

@@ -51,10 +51,7 @@ fn may_take(b: Board, p: usize, c: usize, m: Mode) -> bool
     requires { c < cells }
     ensures { result ≡ (nobody_waits b.entry.status.now b.entry.cell.now c && agrees_at b.entry.held.now c p m) }
 {
-    if nobody_waits(b, c) {
-        return goes_beside(b.held, c, p, m);
-    }
-    false
+    nobody_waits(b, c) && goes_beside(b.held, c, p, m)
 }
 
 // Rule 3, wait: the job is older than every holder and every waiter.
@@ -62,10 +59,7 @@ fn may_wait(b: Board, p: usize, c: usize, job: u32) -> bool
     requires { c < cells }
     ensures { result ≡ (older_at b.entry.held.now b.entry.number.now c p job && oldest_of b.entry.number.now b.entry.status.now b.entry.cell.now c job) }
 {
-    if older_than_holders(b, c, p, job) {
-        return older_than_waiters(b, c, job);
-    }
-    false
+    older_than_holders(b, c, p, job) && older_than_waiters(b, c, job)
 }
 
 // Rule 3: a job new to the cell.
