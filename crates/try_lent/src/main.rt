@@ -14,7 +14,6 @@ use terms::words::Word;
 use text::held::{read_held, torn_held};
 use text::writer::write_answer;
 use text_rules::splitter::Splitter;
-use text_rules::{Reading, Written};
 
 // A desk that is kept for the whole text: how it is lent to a request, and how what it says is written out.
 trait Kept {
@@ -85,8 +84,8 @@ fn put_out(rt: &HostRuntime, record: &[u8]) -> bool {
 fn put_record(rt: &HostRuntime, line: u64, word: Word, number: u64, fault: u64) -> bool {
     let mut out = [0u8; ROOM];
     match write_answer(&mut out, 0, line, word, number, fault) {
-        Written::Next(at) => put_out(rt, &out[..at]),
-        Written::Refused(_) => false,
+        Ok(at) => put_out(rt, &out[..at]),
+        Err(_) => false,
     }
 }
 
@@ -174,17 +173,17 @@ fn next_request(rt: &HostRuntime, before: Splitter, lines: u64) -> Asked<'_>
             Err(s) => return at_end(rt, s),
         };
         match read_held(splitter) {
-            Reading::Good { letter, job, cell } => {
+            Ok(good) => {
                 return Asked {
                     rt,
                     left: lines - done,
-                    kind: u8::from(letter),
-                    job,
-                    cell,
+                    kind: u8::from(good.letter),
+                    job: good.job,
+                    cell: good.cell,
                     splitter,
                 };
             }
-            Reading::Bad(field) => {
+            Err(field) => {
                 if !put_no(rt, splitter.line, Refusal::BadLine(field)) {
                     return none(rt, splitter);
                 }

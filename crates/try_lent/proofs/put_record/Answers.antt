@@ -6,7 +6,7 @@ use Rattle.text.proofs.Placed.{placed}
 use Rattle.try_lent.proofs.put_record.Goals as goal
 
 pub slice_bounds-out-end : goal.slice_bounds-out-end
-slice_bounds-out-end c = omega (arith, placed _ _ _ _ _ c.write_answer.ensures.0 c.in-Next.is)
+slice_bounds-out-end c = omega (arith, placed _ _ _ _ _ c.write_answer.ensures.0 c.in-Ok.is)
 
 pub slice_bounds-put_out-end : goal.slice_bounds-put_out-end
-slice_bounds-put_out-end c = sym (length-take-le _ _ (omega (arith, placed _ _ _ _ _ c.write_answer.ensures.0 c.in-Next.is)))
+slice_bounds-put_out-end c = sym (length-take-le _ _ (omega (arith, placed _ _ _ _ _ c.write_answer.ensures.0 c.in-Ok.is)))
