@@ -63,7 +63,7 @@ module _ (d : Desk) (job : ℕ) (list : List ℕ) (n : length d.number ≡ place
       ∙ rw e
 
   -- a refusal leaves the list
-  asked_refused : (why : Refusal) → due_by f.code (length list) ≡ some why → (Err why ≡ (asked_on d job list).said) × (list ≡ (asked_on d job list).list)
+  asked_refused : (why : Refusal) → due_by f.code (length list) ≡ Some why → (Err why ≡ (asked_on d job list).said) × (list ≡ (asked_on d job list).list)
   unfolding chain_told
   asked_refused why h = let a = asked_by in (rw (a, h), rw (a, h))
 
@@ -86,7 +86,7 @@ module _ (d : Desk) (job : ℕ) (list : List ℕ) (n : length d.number ≡ place
     unfolding chain_told
     asked_told h t =
         let a = asked_by in
-        let due : due_by f.code (length list) ≡ none = rw (ne_eqb f.code free_code c, ne_eqb f.code sent_back_code b, le-ltb (length list) places h) in
+        let due : due_by f.code (length list) ≡ None = rw (ne_eqb f.code free_code c, ne_eqb f.code sent_back_code b, le-ltb (length list) places h) in
         (rw (a, due) (ap Ok t.0), rw (a, due) t.1)
 
 module _ (d : Desk) (last : ℕ) (list : List ℕ) {p : ℕ} (e : p ≡ waiter_above d.number d.status last places) where

@@ -174,7 +174,7 @@ fn ask_move(b: Board, job: u32, c: u32, a: Ask) -> Result<Move, Refusal>
 // The move of a request, by its letter, or why it is refused.
 #[tactic(auto, unfolding(desk_arrays::specs::Moves::move_for))]
 pub fn plan_for(next: u64, b: Board, letter: Letter, job: u32, c: u32) -> Result<Move, Refusal>
-    ensures { result ≡ move_for next b.entry.number.now b.entry.status.now b.entry.cell.now b.entry.held.now job c (Known letter) }
+    ensures { result ≡ move_for next b.entry.number.now b.entry.status.now b.entry.cell.now b.entry.held.now job c (Some letter) }
 {
     match letter {
         Letter::Back => Err(Refusal::UnknownKind),

@@ -1,11 +1,10 @@
 -- A caller asks for a job's chain and lends a list: when the question is refused, what is answered, and what the list then holds (02, No. 3).
-use Rattle.std.specs.Prelude.{ℕ, Bool, false, List, [], ◌∷◌, ltb, length, Option, None, Some}
+use Rattle.std.specs.Prelude.{ℕ, Bool, false, List, [], ◌∷◌, ltb, length, Option, None, Some, Result, Ok, Err}
 use Rattle.laws.specs.Lists.{first_of, filled}
 use Rattle.terms.specs.declared.refusals.Refusal.{Refusal}
 use Rattle.terms.specs.declared.refusals.Refusal.TheVariants.{UnknownKind, CellAbove, NotOpen, Waiting, SentBack, AllOpen, NoNumberLeft, Running, BadLine, StartedAtZero, TooManyLines, JobOutside, Ended, ShortOrder, NoRoom, TooLong, ShortList, NoRetry}
 use Rattle.terms.specs.Refusals.{number_of, field_of}
 use Rattle.terms.specs.Limits.{places}
-use Rattle.std.specs.Prelude.{Result, Ok, Err}
 use Rattle.desk_rules.specs.Desk.{Status, Desk}
 use Rattle.desk_rules.specs.Table.{not_open, is_sent_back}
 use Rattle.desk_rules.specs.Chain.{chain_of}
@@ -46,8 +45,8 @@ pub record ChainTold : Type 0 where
 
 -- a refusal leaves the list as it was; otherwise the chain is in its first places, the answer is how many jobs it has, and the unused places stay
 unfoldable pub chain_told : List ℕ → List ℕ → Option Refusal → ChainTold
-chain_told js list (some why) = record { said = Err why; list = list }
-chain_told js list none = record { said = Ok (length js); list = filled js list }
+chain_told js list (Some why) = record { said = Err why; list = list }
+chain_told js list None = record { said = Ok (length js); list = filled js list }
 
 -- a question to a desk for the chain of job j, with a list lent for it
 unfoldable pub ask_chain : Desk → ℕ → List ℕ → ChainTold

@@ -10,10 +10,10 @@ pub returns-in-Keep : goal.returns-in-Keep
 returns-in-Keep c = kept _ _ _ _ _ _ _ _ _ _ c.in-Ok.ensures c.answer_to-answer.ensures c.in-Keep.is
 
 pub returns-in-Begin : goal.returns-in-Begin
-returns-in-Begin c = begun_at _ _ _ _ _ _ _ _ _ _ c.in-Ok.ensures c.answer_to-answer.ensures c.in-Begin.is c.from.ensures
+returns-in-Begin c = begun_at _ _ _ _ _ _ _ _ _ _ c.in-Ok.ensures c.answer_to-answer.ensures c.in-Begin.is c.from-in-Take.ensures
 
 pub returns-in-Take : goal.returns-in-Take
-returns-in-Take c = taken _ _ _ _ _ _ _ _ _ _ c.in-Ok.ensures c.answer_to-answer.ensures c.in-Take.is c.from.ensures
+returns-in-Take c = taken _ _ _ _ _ _ _ _ _ _ c.in-Ok.ensures c.answer_to-answer.ensures c.in-Take.is c.from-in-Take.ensures
 
 pub returns-in-Stay : goal.returns-in-Stay
 returns-in-Stay c = stayed _ _ _ _ _ _ _ _ _ _ c.in-Ok.ensures c.answer_to-answer.ensures c.in-Stay.is c.ask_code.ensures

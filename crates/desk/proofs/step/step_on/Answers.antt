@@ -4,5 +4,5 @@ use mathlib.Core.Path.{sym, ◌∙◌}
 use Rattle.desk.proofs.Performed.{refused_byte}
 use Rattle.desk.proofs.step.step_on.Goals as goal
 
-pub returns-in-Unknown : goal.returns-in-Unknown
-returns-in-Unknown c = refused_byte (sym c.letter_of.ensures ∙ c.in-Unknown.is)
+pub returns-in-None : goal.returns-in-None
+returns-in-None c = refused_byte (sym c.letter_of.ensures ∙ c.in-None.is)
