@@ -10,7 +10,7 @@ pub returns-in-Keep : goal.returns-in-Keep
 returns-in-Keep c = kept _ _ _ _ _ _ _ _ _ _ c.in-Ok.ensures c.answer_to-answer.ensures c.in-Keep.is
 
 pub returns-in-Begin : goal.returns-in-Begin
-returns-in-Begin c = begun_at _ _ _ _ _ _ _ _ _ _ c.in-Ok.ensures c.answer_to-answer.ensures c.in-Begin.is c.from-in-Take.ensures
+returns-in-Begin c = begun_at _ _ _ _ _ _ _ _ _ _ c.in-Ok.ensures c.answer_to-answer.ensures c.in-Begin.is c.from.ensures
 
 pub returns-in-Take : goal.returns-in-Take
 returns-in-Take c = taken _ _ _ _ _ _ _ _ _ _ c.in-Ok.ensures c.answer_to-answer.ensures c.in-Take.is c.from-in-Take.ensures
