@@ -125,12 +125,8 @@ impl Tally {
     }
 }
 
-// All the steps, on a desk of any kind. `step` makes one of them there, and tells the answer and how many jobs woke.
-fn draw_all<D: Drop, F: Fn(&mut D, u8, u32, u32) -> (Answer, usize)>(
-    mut desk: D,
-    sent_back: SentBack,
-    step: F,
-) -> Tally
+// All the steps, on a desk of any kind, which `step` holds: it makes one step there, and tells the answer and how many jobs woke.
+fn draw_all<F: FnMut(u8, u32, u32) -> (Answer, usize)>(sent_back: SentBack, mut step: F) -> Tally
     requires { F.IsAlwaysCallable step }
 {
     let mut draws = Draws { at: 1 };
@@ -141,60 +137,66 @@ fn draw_all<D: Drop, F: Fn(&mut D, u8, u32, u32) -> (Answer, usize)>(
         let hand = hands[i];
         let kind = hand.kind(draws.draw());
         let cell = draws.draw() % CELLS;
-        let (answer, wakes) = step(&mut desk, kind, hand.job(), cell);
+        let (answer, wakes) = step(kind, hand.job(), cell);
         hands[i] = hand.after(kind, answer, sent_back);
         tally.count(answer, wakes);
     }
     tally
 }
 
-// The lock desk, with the list that its steps put the woken places into.
-#[derive(Clone, Copy)]
-struct Locks {
-    desk: Desk,
-    woken: [u8; PLACES],
+// On the lock desk, with its fields lent and changed in place.
+fn on_locks() -> Tally {
+    let mut d = Desk::first();
+    let mut woken = [0; PLACES];
+    draw_all(SentBack::Retries, |kind, job, cell| {
+        let told = desk::step::step_on(
+            &mut d.next,
+            &mut d.number,
+            &mut d.status,
+            &mut d.cell,
+            &mut d.ask,
+            &mut d.held,
+            &mut woken,
+            kind,
+            job,
+            cell,
+        );
+        (told.answer, told.count)
+    })
 }
 
-// A step of the lock desk, with its fields lent and changed in place.
-fn step_locks(d: &mut Locks, kind: u8, job: u32, cell: u32) -> (Answer, usize) {
-    let told = desk::step::step_on(
-        &mut d.desk.next,
-        &mut d.desk.number,
-        &mut d.desk.status,
-        &mut d.desk.cell,
-        &mut d.desk.ask,
-        &mut d.desk.held,
-        &mut d.woken,
-        kind,
-        job,
-        cell,
-    );
-    (told.answer, told.count)
+// On the timestamp desk, with its fields lent and changed in place.
+fn on_stamps() -> Tally {
+    let mut d = Stamps::first();
+    draw_all(SentBack::IsClosed, |kind, job, cell| {
+        let answer = stamp_desk::step::step_on(
+            &mut d.next,
+            &mut d.number,
+            &mut d.reader,
+            &mut d.writer,
+            kind,
+            job,
+            cell,
+        );
+        (answer, 0)
+    })
 }
 
-// A step of the timestamp desk, with its fields lent and changed in place.
-fn step_stamps(d: &mut Stamps, kind: u8, job: u32, cell: u32) -> (Answer, usize) {
-    let answer = stamp_desk::step::step_on(
-        &mut d.next,
-        &mut d.number,
-        &mut d.reader,
-        &mut d.writer,
-        kind,
-        job,
-        cell,
-    );
-    (answer, 0)
+// On a lock desk that is lent whole to each step.
+fn on_lent_locks() -> Tally {
+    let mut d = Desk::first();
+    draw_all(SentBack::Retries, |kind, job, cell| {
+        let said = lent::locks::step_lent(&mut d, kind, job, cell);
+        (said.answer, said.count)
+    })
 }
 
-// A step of a lock desk that is lent whole.
-fn lend_locks(d: &mut Desk, kind: u8, job: u32, cell: u32) -> (Answer, usize) {
-    let said = lent::locks::step_lent(d, kind, job, cell);
-    (said.answer, said.count)
-}
-
-// A step of a timestamp desk that is lent whole.
-fn lend_stamps(d: &mut Stamps, kind: u8, job: u32, cell: u32) -> (Answer, usize) {
-    (lent::stamps::step_lent(d, kind, job, cell), 0)
+// On a timestamp desk that is lent whole to each step.
+fn on_lent_stamps() -> Tally {
+    let mut d = Stamps::first();
+    draw_all(SentBack::IsClosed, |kind, job, cell| {
+        (lent::stamps::step_lent(&mut d, kind, job, cell), 0)
+    })
 }
 
 // The first byte of the input, if there is one; it selects a desk.
@@ -212,16 +214,10 @@ fn first_byte(rt: &HostRuntime) -> Option<u8> {
 
 fn main(rt: HostRuntime) {
     let t = match first_byte(&rt) {
-        Some(STAMPS) => draw_all(Stamps::first(), SentBack::IsClosed, step_stamps),
-        Some(LENT_LOCKS) => draw_all(Desk::first(), SentBack::Retries, lend_locks),
-        Some(LENT_STAMPS) => draw_all(Stamps::first(), SentBack::IsClosed, lend_stamps),
-        _ => {
-            let locks = Locks {
-                desk: Desk::first(),
-                woken: [0; PLACES],
-            };
-            draw_all(locks, SentBack::Retries, step_locks)
-        }
+        Some(STAMPS) => on_stamps(),
+        Some(LENT_LOCKS) => on_lent_locks(),
+        Some(LENT_STAMPS) => on_lent_stamps(),
+        _ => on_locks(),
     };
     if let Err(e) = println!(&rt; "{}\t{}\t{}\t{}\t{}", t.go, t.wait, t.back, t.no, t.wakes) {
         streams::fail(&rt, "time_desk: cannot write", &e);
