@@ -5,13 +5,12 @@ use mathlib.Core.Path.{◌≡◌, subst}
 use mathlib.Core.List.{List, []}
 use native.Mathlib.Omega.{arith}
 use lib.ListN.{length}
+use Rattle.std.specs.Prelude.{Result, Ok, Err}
 use Rattle.terms.specs.declared.letters.Letter.{Letter}
 use Rattle.terms.specs.declared.refusals.Refusal.{Refusal}
 use Rattle.terms.specs.Letters.{has_job, has_cell}
 use Rattle.terms.specs.Limits.{last_number}
 use Rattle.terms.proofs.Numbers.{within_table, beside_at_most_4}
-use Rattle.text_rules.specs.declared.Written.{Written}
-use Rattle.text_rules.specs.declared.Written.TheVariants.{Next, Refused}
 use Rattle.text_rules.specs.Records.{longest_record, line_record, told, left}
 use Rattle.text_rules.proofs.Length.{line_length}
 use Rattle.text_rules.proofs.FieldLaws.{field_at_most}
@@ -38,11 +37,11 @@ answer_besides (No why) e h f =
     (h, omega (arith, beside_at_most_4 why), λ g. omega arith)
 
 -- a record whose place was told was written
-pub added_next : {w : Written} {most at n : ℕ} {bs b m : List ℕ} → w ≡ told b at bs → w ≡ Next n → m ≡ left b at bs → length bs ≤ most → Added most at n bs b m
+pub added_next : {w : Result ℕ Refusal} {most at n : ℕ} {bs b m : List ℕ} → w ≡ told b at bs → w ≡ Ok n → m ≡ left b at bs → length bs ≤ most → Added most at n bs b m
 added_next e f g h = record { wrote = next_wrote e f g; few = h }
 
 -- a record for which there is room is never refused
-pub never_refused : {P : Type 0} {w : Written} {why : Refusal} (b : List ℕ) (at : ℕ) (bs : List ℕ) (most : ℕ) → w ≡ told b at bs → w ≡ Refused why → length bs ≤ most → at + most ≤ length b → P
+pub never_refused : {P : Type 0} {w : Result ℕ Refusal} {why : Refusal} (b : List ℕ) (at : ℕ) (bs : List ℕ) (most : ℕ) → w ≡ told b at bs → w ≡ Err why → length bs ≤ most → at + most ≤ length b → P
 never_refused b at bs most e f h r = not_refused b at bs e f (omega arith)
 
 -- nothing was written

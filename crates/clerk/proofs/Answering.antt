@@ -5,14 +5,13 @@ use mathlib.Core.Path.{◌≡◌, refl, sym, ap, ◌∙◌}
 use mathlib.Core.Bool.{true}
 use mathlib.Core.List.{List, [], ◌∷◌, map, append-nil}
 use lib.ListN.{take}
+use Rattle.std.specs.Prelude.{Err}
 use Rattle.terms.specs.declared.letters.Letter.{Letter}
 use Rattle.terms.specs.declared.refusals.Field.{Field}
 use Rattle.terms.specs.Letters.{byte_of, of_requests}
 use Rattle.conflict.specs.declared.action.Action.{Action}
-use Rattle.text_rules.specs.declared.Reading.{Reading}
-use Rattle.text_rules.specs.declared.Reading.TheVariants.{Good, Bad}
 use Rattle.text_rules.specs.declared.splitter.Splitter.{Splitter}
-use Rattle.text_rules.specs.Lines.{read_line}
+use Rattle.text_rules.specs.Lines.{read_line, Reading, good}
 use Rattle.text_rules.specs.Records.{longest_record}
 use Rattle.text_rules.specs.Split.{found_at}
 use Rattle.text_rules.specs.Wrote.{Wrote}
@@ -92,12 +91,12 @@ module _ {view : View} {line at to : ℕ} {r : Request} {before after : List ℕ
 
 module _ (view : View) (splitter : Splitter) (out : List ℕ) (at : ℕ) (ended : due splitter ≡ true) {r : Reading} (reads : r ≡ read_line of_requests (found_at splitter).bytes) where
   -- a bad line is answered
-  pub answered_bad : {d : Desks} {to : ℕ} {after : List ℕ} {field : Field} → r ≡ Bad field → Wrote at to (viewed view (told_bad splitter.line field)) out after →
+  pub answered_bad : {d : Desks} {to : ℕ} {after : List ℕ} {field : Field} → r ≡ Err field → Wrote at to (viewed view (told_bad splitter.line field)) out after →
       turning view (record { desks = d; splitter = splitter }) out at ≡ record { clerk = record { desks = d; splitter = splitter }; at = to; out = after }
   answered_bad {d} e w = turn_bad view (record { desks = d; splitter = splitter }) out at ended (sym reads ∙ e) w
 
   -- a good line is answered
-  pub answered_good : {d e : Desks} {letter : Letter} {job cell to : ℕ} {after : List ℕ} → r ≡ Good letter job cell → Answered on_desks view splitter.line (asked letter job cell) d e at to out after →
+  pub answered_good : {d e : Desks} {letter : Letter} {job cell to : ℕ} {after : List ℕ} → r ≡ good letter job cell → Answered on_desks view splitter.line (asked letter job cell) d e at to out after →
       turning view (record { desks = d; splitter = splitter }) out at ≡ record { clerk = record { desks = e; splitter = splitter }; at = to; out = after }
   answered_good {to = to} {after} good a =
       turn_good view _ out at ended (sym reads ∙ good) refl a.records ∙ ap (λ x. record { clerk = record { desks = x; splitter = splitter }; at = to; out = after }) (sym a.desk)

@@ -14,7 +14,6 @@ use desk_chain::chain::next_chain;
 use program_rules::{Clerk, Desks, Finished, Method, View};
 use terms::limits::PLACES;
 use text::writer::{has_room, write_end, write_field, write_number};
-use text_rules::Written;
 
 // The most bytes that a job takes in a chain: ten digits, and the tab or the newline behind them.
 const JOB_ROOM: usize = 11;
@@ -27,8 +26,8 @@ fn put_number(out: &mut [u8], at: usize, job: u32) -> usize
     ensures { Added 10 at result (decimal job) out.old out.new }
 {
     match write_number(out, at, job as u64) {
-        Written::Next(next) => next,
-        Written::Refused(_) => at,
+        Ok(next) => next,
+        Err(_) => at,
     }
 }
 
@@ -38,8 +37,8 @@ fn put_field(out: &mut [u8], at: usize, job: u32) -> usize
     ensures { Added job_room at result (tab ∷ decimal job) out.old out.new }
 {
     match write_field(out, at, job as u64) {
-        Written::Next(next) => next,
-        Written::Refused(_) => at,
+        Ok(next) => next,
+        Err(_) => at,
     }
 }
 
@@ -49,8 +48,8 @@ fn put_end(out: &mut [u8], at: usize) -> usize
     ensures { Added 1 at result (newline ∷ []) out.old out.new }
 {
     match write_end(out, at) {
-        Written::Next(next) => next,
-        Written::Refused(_) => at,
+        Ok(next) => next,
+        Err(_) => at,
     }
 }
 

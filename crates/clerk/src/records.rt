@@ -21,7 +21,6 @@ use terms::limits::PLACES;
 use terms::refusals::{Field, Refusal, field_of};
 use terms::words::Word;
 use text::writer::{write_answer, write_line};
-use text_rules::Written;
 
 // What the history notes of a request, apart from wakes: one line of a letter, or nothing.
 #[derive(Clone, Copy)]
@@ -131,8 +130,8 @@ fn put_answer(out: &mut [u8], at: usize, line: u64, word: Word, number: u64, fau
     ensures { Added longest_record at result (answer_record line word number fault) out.old out.new }
 {
     match write_answer(out, at, line, word, number, fault) {
-        Written::Next(next) => next,
-        Written::Refused(_) => at,
+        Ok(next) => next,
+        Err(_) => at,
     }
 }
 
@@ -142,8 +141,8 @@ fn put_line(out: &mut [u8], at: usize, letter: Letter, job: u32, cell: u32) -> u
     ensures { Added longest_record at result (line_record letter job cell) out.old out.new }
 {
     match write_line(out, at, letter, job as u64, cell as u64) {
-        Written::Next(next) => next,
-        Written::Refused(_) => at,
+        Ok(next) => next,
+        Err(_) => at,
     }
 }
 

@@ -21,7 +21,6 @@ use terms::letters::Letter;
 use terms::limits::{PLACES, REQUEST_LINES};
 use text::held::{read_held, torn_held};
 use text::writer::has_room;
-use text_rules::Reading;
 use text_rules::splitter::Splitter;
 
 // The bytes of the longest record.
@@ -125,16 +124,38 @@ fn answer_line(
     ensures { (turning view (record { desks = desks_of method (desk_of next.old number.old status.old cells.old ask.old held.old) (stamps_of stamped.old seats.old reader.old writer.old); splitter = s }) out.old at ≡ record { clerk = record { desks = desks_of method (desk_of next.new number.new status.new cells.new ask.new held.new) (stamps_of stamped.new seats.new reader.new writer.new); splitter = s }; at = result; out = out.new }) × (length out.new ≡ length out.old) }
 {
     match read_held(s) {
-        Reading::Good { letter, job, cell } => match method {
+        Ok(good) => match method {
             Method::Locks => answer_by_locks(
-                view, next, number, status, cells, ask, held, woken, s.line, letter, job, cell,
-                out, at,
+                view,
+                next,
+                number,
+                status,
+                cells,
+                ask,
+                held,
+                woken,
+                s.line,
+                good.letter,
+                good.job,
+                good.cell,
+                out,
+                at,
             ),
             Method::Stamps => answer_by_stamps(
-                view, stamped, seats, reader, writer, s.line, letter, job, cell, out, at,
+                view,
+                stamped,
+                seats,
+                reader,
+                writer,
+                s.line,
+                good.letter,
+                good.job,
+                good.cell,
+                out,
+                at,
             ),
         },
-        Reading::Bad(field) => put_bad(view, out, at, s.line, field),
+        Err(field) => put_bad(view, out, at, s.line, field),
     }
 }
 

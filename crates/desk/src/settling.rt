@@ -6,7 +6,7 @@ ghost use Rattle.desk_arrays.specs.Steps.{desk_of, code_after, settled};
 ghost use Rattle.desk.specs.InPlace.{Reached};
 ghost use Rattle.terms.specs.Limits.{cells, places};
 
-use conflict::modes::{NOTHING, code_of};
+use conflict::modes::NOTHING;
 use desk_arrays::board::{Board, Waits};
 use desk_arrays::codes::{FREE, RUNNING, SENT_BACK};
 use desk_arrays::moves::Ending;
@@ -50,7 +50,7 @@ fn settle_cell(
         let Some((p, m)) = front_grant(b, c) else {
             return k;
         };
-        held[c * PLACES + p] = code_of(m);
+        held[c * PLACES + p] = u8::from(m);
         status[p] = RUNNING;
         woken[k] = p as u8;
         k += 1;

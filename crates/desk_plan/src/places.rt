@@ -5,7 +5,7 @@ ghost use Rattle.desk_plan.specs.Grants.{none_holds};
 ghost use Rattle.desk_arrays.specs.Places.{mode_at, agrees_at, older_at, waits_at, nobody_waits, oldest_of, youngest};
 ghost use Rattle.terms.specs.Limits.{cells, places};
 
-use conflict::modes::{Mode, NOTHING, mode_grants, mode_is_free, mode_of};
+use conflict::modes::{Mode, NOTHING, mode_grants, mode_is_free};
 use desk_arrays::board::Board;
 use desk_arrays::codes::WAITING;
 use desk_arrays::state::SPOTS;

@@ -6,13 +6,14 @@ use mathlib.Core.Path.{◌≡◌, refl, sym, ap}
 use mathlib.Core.List.{List, [], ◌∷◌}
 use native.Mathlib.Omega.{arith}
 use lib.ListN.{length, length-append}
+use Rattle.std.specs.Prelude.{Err, Ok}
+use Rattle.terms.specs.declared.letters.Letter.{Letter}
 use Rattle.terms.specs.declared.letters.Letter.TheVariants.{Begin, Commit, GiveUp, Retry, Back, Asks}
 use Rattle.terms.specs.declared.refusals.Refusal.{Refusal}
 use Rattle.terms.specs.Limits.{judged_lines}
-use Rattle.text_rules.specs.declared.Reading.{Reading}
-use Rattle.text_rules.specs.declared.Reading.TheVariants.{Good, Bad}
 use Rattle.judge_rules.proofs.LineFaults.{few_lines}
 use Rattle.judge_rules.specs.HistoryText.{Faulty, line_fault, or_later, ended_after, first_faulty, event_of, events_in}
+use Rattle.text_rules.specs.Lines.{Reading, good}
 
 -- nothing found is not something found
 not_found : {A P : Type 0} {x : A} → Some x ≡ None → P
@@ -51,16 +52,21 @@ number_few n ended (l ∷ ls) f h e =
     let k : n ≤ judged_lines = few_lines n ended l p in
     number_few (suc n) (ended_after ended l) ls f (omega arith) q)
 
+-- a good line says at most one event
+one_of_good : (l : Letter) (job cell : ℕ) → length (event_of (good l job cell)) ≤ 1
+unfolding event_of
+one_of_good Begin job cell = omega arith
+one_of_good Commit job cell = omega arith
+one_of_good GiveUp job cell = omega arith
+one_of_good Retry job cell = omega arith
+one_of_good Back job cell = omega arith
+one_of_good (Asks a) job cell = omega arith
+
 -- a line says at most one event
 one_event : (r : Reading) → length (event_of r) ≤ 1
 unfolding event_of
-one_event (Bad at) = omega arith
-one_event (Good Begin job cell) = omega arith
-one_event (Good Commit job cell) = omega arith
-one_event (Good GiveUp job cell) = omega arith
-one_event (Good Retry job cell) = omega arith
-one_event (Good Back job cell) = omega arith
-one_event (Good (Asks a) job cell) = omega arith
+one_event (Err at) = omega arith
+one_event (Ok line) = one_of_good line.letter line.job line.cell
 
 -- lines say at most as many events as they are
 pub events_few : (ls : List Reading) → length (events_in ls) ≤ length ls

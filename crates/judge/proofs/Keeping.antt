@@ -9,6 +9,7 @@ use borrow.Author.Tests.{eqb-true, eqb-false, ltb-false}
 use lib.Dec.{eqb, ltb, leb}
 use lib.ListN.{length, get_or, set}
 use lib.Seq.{get_or-set_same, get_or-set_other}
+use Rattle.std.specs.Prelude.{Err, Ok}
 use Rattle.laws.specs.Choice.{pick, by_test, not_both}
 use Rattle.laws.specs.Lists.{member}
 use Rattle.terms.specs.declared.letters.Ask.TheVariants.{Read, Write, Increment, Update}
@@ -18,9 +19,7 @@ use Rattle.terms.specs.declared.refusals.Refusal.{Refusal}
 use Rattle.terms.specs.Letters.{of_histories}
 use Rattle.terms.specs.Limits.{cells, judged_jobs, judged_lines}
 use Rattle.conflict.proofs.Clauses.{records_read, records_write, records_increment}
-use Rattle.text_rules.specs.declared.Reading.{Reading}
-use Rattle.text_rules.specs.declared.Reading.TheVariants.{Good, Bad}
-use Rattle.text_rules.specs.Lines.{read_line}
+use Rattle.text_rules.specs.Lines.{read_line, Reading, good}
 use Rattle.text_rules.proofs.GoodLine.{good_is_record}
 use Rattle.judge_rules.specs.HistoryText.{ended_after, event_of}
 use Rattle.judge_rules.specs.Arrays.{event_by}
@@ -64,7 +63,7 @@ good_kept flags l j x code job cell e =
     }))))
 
 -- what a letter of a history says is what its number stands for
-letter_event : (l : Letter) (job cell : ℕ) → of_histories l ≡ true → event_of (Good l job cell) ≡ event_by (code_of l) job cell ∷ []
+letter_event : (l : Letter) (job cell : ℕ) → of_histories l ≡ true → event_of (good l job cell) ≡ event_by (code_of l) job cell ∷ []
 unfolding event_of event_by
 letter_event Begin job cell h = not_both h refl
 letter_event Commit job cell h = refl
@@ -77,7 +76,7 @@ letter_event (Asks Increment) job cell h = rw records_increment
 letter_event (Asks Update) job cell h = not_both h refl
 
 -- which jobs have ended after a letter, by its code
-letter_ends : (l : Letter) (ended : List ℕ) (job cell j : ℕ) → member j (ended_after ended (Good l job cell)) ≡ pick (ends_job (code_of l)) (eqb job j || member j ended) (member j ended)
+letter_ends : (l : Letter) (ended : List ℕ) (job cell j : ℕ) → member j (ended_after ended (good l job cell)) ≡ pick (ends_job (code_of l)) (eqb job j || member j ended) (member j ended)
 unfolding ended_after ends_job member
 letter_ends Begin ended job cell j = refl
 letter_ends Commit ended job cell j = refl
@@ -113,7 +112,7 @@ pub record KeptAs (n : ℕ) (flags : List Bool) (ended line : List ℕ) (code jo
 
 -- a good line that is kept
 good_kept_as : (n : ℕ) (flags : List Bool) (ended line : List ℕ) (code job cell : ℕ) (l : Letter) (j x : ℕ) → length flags ≡ 256 → Flagged flags ended →
-    n ≤ judged_lines → read_line of_histories line ≡ Good l j x → GoodKept flags l j x code job cell → KeptAs n flags ended line code job cell
+    n ≤ judged_lines → read_line of_histories line ≡ good l j x → GoodKept flags l j x code job cell → KeptAs n flags ended line code job cell
 good_kept_as n flags ended line code job cell l j x long a most e k =
     record {
       within = most;
@@ -128,9 +127,9 @@ good_kept_as n flags ended line code job cell l j x long a most e k =
 read_kept : (n : ℕ) (flags : List Bool) (ended line : List ℕ) (code job cell : ℕ) (r : Reading) → length flags ≡ 256 → Flagged flags ended →
     n ≤ judged_lines → read_line of_histories line ≡ r → looked_read flags r ≡ Kept code job cell → KeptAs n flags ended line code job cell
 unfolding looked_read
-read_kept n flags ended line code job cell (Good l j x) long a most g e =
-    good_kept_as n flags ended line code job cell l j x long a most g (good_kept flags l j x code job cell e)
-read_kept n flags ended line code job cell (Bad at) long a most g e = not_kept e
+read_kept n flags ended line code job cell (Ok its) long a most g e =
+    good_kept_as n flags ended line code job cell its.letter its.job its.cell long a most g (good_kept flags its.letter its.job its.cell code job cell e)
+read_kept n flags ended line code job cell (Err at) long a most g e = not_kept e
 
 -- a kept line says what is kept of it, and the flags after it say which jobs have ended
 pub kept_as : (n : ℕ) (flags : List Bool) (ended line : List ℕ) (code job cell : ℕ) → length flags ≡ 256 → Flagged flags ended →

@@ -8,6 +8,7 @@ use mathlib.Core.List.{List, [], ◌∷◌, ◌++◌}
 use native.Mathlib.Omega.{arith}
 use lib.Dec.{eqb, ltb, leb}
 use borrow.Author.Tests.{eqb-true, eqb-false, ltb-true, ltb-false, le-ltb, le-leb, lt-leb}
+use Rattle.std.specs.Prelude.{Err, Ok}
 use Rattle.laws.specs.Choice.{by_test}
 use Rattle.laws.specs.Lists.{member}
 use Rattle.terms.specs.declared.letters.Letter.{Letter}
@@ -25,11 +26,10 @@ use Rattle.conflict.specs.Modes.{recorded}
 use Rattle.conflict.specs.History.{History, marked}
 use Rattle.conflict.proofs.Appended.{marked_append}
 use Rattle.conflict.proofs.OneEvent.{marked_none, marked_does, marked_ends, commit_not_back, give_up_not_back, back_is_back}
-use Rattle.text_rules.specs.declared.Reading.{Reading}
-use Rattle.text_rules.specs.declared.Reading.TheVariants.{Good, Bad}
 use Rattle.judge_rules.specs.HistoryText.{fault_of_good, fault_of, line_fault, ended_after, Faulty, or_later, first_faulty, event_of, events_in}
 use Rattle.judge_core.specs.Kept.{job_of, above, ends_job, event_fault, first_fault}
 use Rattle.judge_core.specs.Kept as kept
+use Rattle.text_rules.specs.Lines.{Reading, good}
 
 -- something is not nothing
 not_none : {A : Type 0} {x : A} {P : Type 0} → Some x ≡ None → P
@@ -106,26 +106,32 @@ passed : (n : ℕ) (before h : History) (e : Event) → event_fault n before e �
 unfolding first_fault kept.or_later
 passed n before h e f = rw f
 
+-- a good line without a fault is passed, and what it says with it
+good_sound : (l : Letter) (job cell n k : ℕ) (ended : List ℕ) (before h : History) → k ≤ n → n ≤ judged_lines → Known ended before → fault_of ended (good l job cell) ≡ None →
+    ((m : ℕ) (after : History) → m ≤ suc n → Known (ended_after ended (good l job cell)) after → first_fault m after h ≡ Ok tt) → first_fault k before (event_of (good l job cell) ++ h) ≡ Ok tt
+unfolding fault_of ended_after event_of
+good_sound Begin job cell n k ended before h a few kn f next = next k before (omega arith) kn
+good_sound Commit job cell n k ended before h a few kn f next =
+    passed k before h (Ends commits job) (event_table ended before kn k Commit job cell (Ends commits job) (omega arith) (ends_job_lem commits job) (ends_above commits job) ∙ f)
+    ∙ next (suc k) (before ++ Ends commits job ∷ []) (omega arith) (known_end ended before kn commits job (ends_commit))
+good_sound GiveUp job cell n k ended before h a few kn f next =
+    passed k before h (Ends gives_up job) (event_table ended before kn k GiveUp job cell (Ends gives_up job) (omega arith) (ends_job_lem gives_up job) (ends_above gives_up job) ∙ f)
+    ∙ next (suc k) (before ++ Ends gives_up job ∷ []) (omega arith) (known_end ended before kn gives_up job (ends_give_up))
+good_sound Retry job cell n k ended before h a few kn f next = next k before (omega arith) kn
+good_sound Back job cell n k ended before h a few kn f next =
+    passed k before h (Ends goes_back job) (event_table ended before kn k Back job cell (Ends goes_back job) (omega arith) (ends_job_lem goes_back job) (ends_above goes_back job) ∙ f)
+    ∙ next (suc k) (before ++ Ends goes_back job ∷ []) (omega arith) (known_back ended before kn goes_back job ends_back)
+good_sound (Asks ask) job cell n k ended before h a few kn f next =
+    let act : Action = record { kind = recorded ask; job = job; cell = cell } in
+    passed k before h (Does act) (event_table ended before kn k (Asks ask) job cell (Does act) (omega arith) (does_job act) (does_above act) ∙ f)
+    ∙ next (suc k) (before ++ Does act ∷ []) (omega arith) (known_does ended before kn (Does act) (λ j. marked_does ends_job j act []))
+
 -- a line without a fault is passed, and what it says with it
 reading_sound : (r : Reading) (n k : ℕ) (ended : List ℕ) (before h : History) → k ≤ n → n ≤ judged_lines → Known ended before → fault_of ended r ≡ None →
     ((m : ℕ) (after : History) → m ≤ suc n → Known (ended_after ended r) after → first_fault m after h ≡ Ok tt) → first_fault k before (event_of r ++ h) ≡ Ok tt
 unfolding fault_of ended_after event_of
-reading_sound (Bad at) n k ended before h a few kn f next = not_none f
-reading_sound (Good Begin job cell) n k ended before h a few kn f next = next k before (omega arith) kn
-reading_sound (Good Commit job cell) n k ended before h a few kn f next =
-    passed k before h (Ends commits job) (event_table ended before kn k Commit job cell (Ends commits job) (omega arith) (ends_job_lem commits job) (ends_above commits job) ∙ f)
-    ∙ next (suc k) (before ++ Ends commits job ∷ []) (omega arith) (known_end ended before kn commits job (ends_commit))
-reading_sound (Good GiveUp job cell) n k ended before h a few kn f next =
-    passed k before h (Ends gives_up job) (event_table ended before kn k GiveUp job cell (Ends gives_up job) (omega arith) (ends_job_lem gives_up job) (ends_above gives_up job) ∙ f)
-    ∙ next (suc k) (before ++ Ends gives_up job ∷ []) (omega arith) (known_end ended before kn gives_up job (ends_give_up))
-reading_sound (Good Retry job cell) n k ended before h a few kn f next = next k before (omega arith) kn
-reading_sound (Good Back job cell) n k ended before h a few kn f next =
-    passed k before h (Ends goes_back job) (event_table ended before kn k Back job cell (Ends goes_back job) (omega arith) (ends_job_lem goes_back job) (ends_above goes_back job) ∙ f)
-    ∙ next (suc k) (before ++ Ends goes_back job ∷ []) (omega arith) (known_back ended before kn goes_back job ends_back)
-reading_sound (Good (Asks ask) job cell) n k ended before h a few kn f next =
-    let act : Action = record { kind = recorded ask; job = job; cell = cell } in
-    passed k before h (Does act) (event_table ended before kn k (Asks ask) job cell (Does act) (omega arith) (does_job act) (does_above act) ∙ f)
-    ∙ next (suc k) (before ++ Does act ∷ []) (omega arith) (known_does ended before kn (Does act) (λ j. marked_does ends_job j act []))
+reading_sound (Err at) n k ended before h a few kn f next = not_none f
+reading_sound (Ok line) n k ended before h a few kn f next = good_sound line.letter line.job line.cell n k ended before h a few kn f next
 
 -- the fault of a line that is no line too many is the one that it reads with
 line_reads : (n : ℕ) (ended : List ℕ) (r : Reading) → line_fault n ended r ≡ None → (n ≤ judged_lines) × (fault_of ended r ≡ None)

@@ -9,15 +9,14 @@ use native.Mathlib.Omega.{arith}
 use borrow.Author.Tests.{ltb-false}
 use lib.Dec.{eqb, ltb, leb}
 use lib.ListN.{get_or}
+use Rattle.std.specs.Prelude.{Err, Ok}
 use Rattle.laws.specs.Choice.{by_test}
 use Rattle.terms.specs.declared.letters.Letter.{Letter}
 use Rattle.terms.specs.declared.refusals.Field.{Field}
 use Rattle.terms.specs.declared.refusals.Refusal.{Refusal}
 use Rattle.terms.specs.Letters.{of_histories, has_cell}
 use Rattle.terms.specs.Limits.{cells, judged_jobs, judged_lines}
-use Rattle.text_rules.specs.declared.Reading.{Reading}
-use Rattle.text_rules.specs.declared.Reading.TheVariants.{Good, Bad}
-use Rattle.text_rules.specs.Lines.{read_line}
+use Rattle.text_rules.specs.Lines.{read_line, Reading, good}
 use Rattle.text_rules.proofs.GoodLine.{good_is_record}
 use Rattle.judge_rules.specs.HistoryText.{fault_of_good, fault_of, line_fault}
 use Rattle.judge.specs.declared.scan.Looked.{Looked}
@@ -26,12 +25,12 @@ use Rattle.judge.specs.Looked.{looked_good, looked_read, looked_at}
 use Rattle.judge.proofs.Flags.{Flagged}
 
 -- a line that reads as good is looked at as a good line
-pub look_good : (flags : List Bool) (x y : Reading) (r : Looked) (l : Letter) (job cell : ℕ) → x ≡ y → x ≡ Good l job cell → r ≡ looked_good flags l job cell → r ≡ looked_read flags y
+pub look_good : (flags : List Bool) (x y : Reading) (r : Looked) (l : Letter) (job cell : ℕ) → x ≡ y → x ≡ good l job cell → r ≡ looked_good flags l job cell → r ≡ looked_read flags y
 unfolding looked_read
 look_good flags x y r l job cell e g h = rw (← e, g) h
 
 -- a line that reads as bad is refused, at that field
-pub look_bad : (flags : List Bool) (x y : Reading) (r : Looked) (at : Field) → x ≡ y → x ≡ Bad at → r ≡ looked_read flags (Bad at) → r ≡ looked_read flags y
+pub look_bad : (flags : List Bool) (x y : Reading) (r : Looked) (at : Field) → x ≡ y → x ≡ Err at → r ≡ looked_read flags (Err at) → r ≡ looked_read flags y
 look_bad flags x y r at e g h = rw (← e, g) h
 
 -- why a line is refused, if it is
@@ -60,8 +59,8 @@ good_fault flags ended l job cell a h =
 -- a line as it reads is refused as the paper says
 read_fault : (flags : List Bool) (ended line : List ℕ) (r : Reading) → read_line of_histories line ≡ r → Flagged flags ended → fault_of ended r ≡ refusal_of (looked_read flags r)
 unfolding fault_of looked_read refusal_of
-read_fault flags ended line (Good l job cell) e a = good_fault flags ended l job cell a (good_is_record of_histories line l job cell e).5
-read_fault flags ended line (Bad at) e a = refl
+read_fault flags ended line (Ok its) e a = good_fault flags ended its.letter its.job its.cell a (good_is_record of_histories line its.letter its.job its.cell e).5
+read_fault flags ended line (Err at) e a = refl
 
 -- line n is refused as the paper says
 line_fault_lem : (n : ℕ) (flags : List Bool) (ended line : List ℕ) → Flagged flags ended → line_fault n ended (read_line of_histories line) ≡ refusal_of (looked_at n flags (read_line of_histories line))

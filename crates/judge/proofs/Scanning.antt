@@ -14,8 +14,7 @@ use Rattle.terms.specs.declared.refusals.Refusal.{Refusal}
 use Rattle.terms.specs.Letters.{of_histories}
 use Rattle.terms.specs.Limits.{judged_lines}
 use Rattle.conflict.specs.declared.action.Event.{Event}
-use Rattle.text_rules.specs.declared.Reading.{Reading}
-use Rattle.text_rules.specs.Lines.{read_line}
+use Rattle.text_rules.specs.Lines.{read_line, Reading}
 use Rattle.text_rules.specs.Split.{lines_of, used, part}
 use Rattle.text_rules.proofs.Cutting.{used_within, used_some}
 use Rattle.text_rules.proofs.TextLines.{next_line}

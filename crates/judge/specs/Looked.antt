@@ -1,15 +1,14 @@
 -- One line of a history as the judge looks at it: what is kept of it, or why it is refused (01, Refusals by number).
-use Rattle.std.specs.Prelude.{ℕ, Bool, false, ◌||◌, List, eqb, ltb, leb, get_or}
+use Rattle.std.specs.Prelude.{ℕ, Bool, false, ◌||◌, List, eqb, ltb, leb, get_or, Err, Ok}
 use Rattle.laws.specs.Choice.{pick}
 use Rattle.terms.specs.declared.letters.Ask.TheVariants.{Read, Write, Increment, Update}
 use Rattle.terms.specs.declared.letters.Letter.{Letter}
 use Rattle.terms.specs.declared.letters.Letter.TheVariants.{Begin, Commit, GiveUp, Retry, Back, Asks}
 use Rattle.terms.specs.declared.refusals.Refusal.TheVariants.{BadLine, CellAbove, TooManyLines, JobOutside, Ended}
 use Rattle.terms.specs.Limits.{cells, judged_jobs, judged_lines}
-use Rattle.text_rules.specs.declared.Reading.{Reading}
-use Rattle.text_rules.specs.declared.Reading.TheVariants.{Good, Bad}
 use Rattle.judge.specs.declared.scan.Looked.{Looked}
 use Rattle.judge.specs.declared.scan.Looked.TheVariants.{Kept, Refused}
+use Rattle.text_rules.specs.Lines.{Reading}
 
 -- the code of a letter: 0 read, 1 write, 2 increment, 3 commit, 4 give-up, 5 sent back; b, t and u, which no history line has, get 5 too (02, No. 1: u)
 abbrev pub code_of : Letter → ℕ
@@ -36,8 +35,8 @@ looked_good flags l job cell =
 
 -- a line, by how it reads
 unfoldable pub looked_read : List Bool → Reading → Looked
-looked_read flags (Good l job cell) = looked_good flags l job cell
-looked_read flags (Bad at) = Refused (BadLine at)
+looked_read flags (Ok line) = looked_good flags line.letter line.job line.cell
+looked_read flags (Err at) = Refused (BadLine at)
 
 -- line n, by how it reads
 unfoldable pub looked_at : ℕ → List Bool → Reading → Looked

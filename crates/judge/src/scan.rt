@@ -11,7 +11,6 @@ use terms::limits::{CELLS, JUDGED_JOBS, JUDGED_LINES};
 use terms::refusals::Refusal;
 use terms::words::NEWLINE;
 use text::reader::read_history;
-use text_rules::Reading;
 use text_rules::splitter::line_end;
 
 // A line as it is kept: a code for read, write, increment, commit, give-up or sent back, the job, and the cell; or why the line is refused.
@@ -93,8 +92,8 @@ fn look(line: &[u8], n: usize, ended: &[bool; 256]) -> Looked
         return Looked::Refused(Refusal::TooManyLines);
     }
     match read_history(line) {
-        Reading::Good { letter, job, cell } => look_good(ended, letter, job, cell),
-        Reading::Bad(field) => Looked::Refused(Refusal::BadLine(field)),
+        Ok(good) => look_good(ended, good.letter, good.job, good.cell),
+        Err(field) => Looked::Refused(Refusal::BadLine(field)),
     }
 }
 

@@ -10,6 +10,7 @@ use native.Mathlib.Omega.{arith}
 use borrow.Author.Tests.{le-leb, le-ltb}
 use lib.Dec.{ltb}
 use lib.ListN.{length, take, replicate, length-append, length-replicate}
+use Rattle.std.specs.Prelude.{Ok}
 use Rattle.laws.specs.Choice.{by_test}
 use Rattle.laws.specs.Lists.{member, distinct}
 use Rattle.laws.proofs.Filled.{filled_first}
@@ -25,10 +26,8 @@ use Rattle.terms.proofs.Numbers.{within_table, beside_at_most_4}
 use Rattle.conflict.specs.History.{is_commit, marked}
 use Rattle.conflict.specs.Dirty.{ReadOf, dirty_of}
 use Rattle.conflict.proofs.DirtyFound.{dirty_exactly}
-use Rattle.text_rules.specs.declared.Written.TheVariants.{Next}
 use Rattle.text_rules.specs.Decimal.{decimal}
 use Rattle.text_rules.specs.Records.{fits, told, left, tabbed, word_line, given}
-use Rattle.text_rules.specs.declared.Reading.{Reading}
 use Rattle.text_rules.proofs.DigitLaws.{digits_at_most}
 use Rattle.text.proofs.WordLaws.{word_at_most_7}
 use Rattle.text_rules.proofs.WriterLaws.{told_next, left_text}
@@ -44,6 +43,7 @@ use Rattle.judge.proofs.FewLines.{number_few}
 use Rattle.judge_rules.specs.VerdictLine.{say_line, judged_line, verdict_of, line_limit}
 use Rattle.judge_rules.proofs.DirtyJobs.{dirty_within}
 use Rattle.judge_line.proofs.WordLines.{word_line_length, two_numbers_length, given_at_most_2}
+use Rattle.text_rules.specs.Lines.{Reading}
 
 -- jobs of at most three digits have at most four bytes each, the tab among them
 tabbed_at_most : (js : List ℕ) → ((j : ℕ) → member j js ≡ true → j ≤ judged_jobs) → length (tabbed js) ≤ 4 * length js
@@ -151,8 +151,8 @@ unfolding fits
 verdict_fits b text h = le-leb (0 + length (verdict_of text)) (length b) (omega (arith, verdict_at_most text))
 
 -- the place after it is told
-pub verdict_told : (b text : List ℕ) → 1_028 ≤ length b → told b 0 (verdict_of text) ≡ Next (length (verdict_of text))
-verdict_told b text h = told_next b 0 (verdict_of text) (verdict_fits b text h) ∙ ap Next (zero-add (length (verdict_of text)))
+pub verdict_told : (b text : List ℕ) → 1_028 ≤ length b → told b 0 (verdict_of text) ≡ Ok (length (verdict_of text))
+verdict_told b text h = told_next b 0 (verdict_of text) (verdict_fits b text h) ∙ ap Ok (zero-add (length (verdict_of text)))
 
 -- and it stands at the buffer's first places
 pub verdict_left : (b text : List ℕ) → 1_028 ≤ length b → take (length (verdict_of text)) (left b 0 (verdict_of text)) ≡ verdict_of text

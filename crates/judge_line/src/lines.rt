@@ -8,7 +8,6 @@ ghost use Rattle.text_rules.specs.Wrote.{Wrote};
 
 use terms::{Refusal, Word, spelled};
 use text::{width, write_end, write_field, write_word};
-use text_rules::Written;
 
 // Writes a word that fits; returns the place after it.
 fn put_word(out: &mut [u8], at: usize, word: Word) -> usize
@@ -17,8 +16,8 @@ fn put_word(out: &mut [u8], at: usize, word: Word) -> usize
 {
     let w = write_word(out, at, word);
     match w {
-        Written::Next(next) => next,
-        Written::Refused(_) => at,
+        Ok(next) => next,
+        Err(_) => at,
     }
 }
 
@@ -29,8 +28,8 @@ fn put_field(out: &mut [u8], at: usize, n: u64) -> usize
 {
     let w = write_field(out, at, n);
     match w {
-        Written::Next(next) => next,
-        Written::Refused(_) => at,
+        Ok(next) => next,
+        Err(_) => at,
     }
 }
 
@@ -41,8 +40,8 @@ fn put_end(out: &mut [u8], at: usize) -> usize
 {
     let w = write_end(out, at);
     match w {
-        Written::Next(next) => next,
-        Written::Refused(_) => at,
+        Ok(next) => next,
+        Err(_) => at,
     }
 }
 
@@ -78,20 +77,20 @@ fn put_jobs(out: &mut [u8], at: usize, jobs: &[u8]) -> usize
 }
 
 // Writes a word and jobs, with a tab before each job.
-pub fn write_jobs(out: &mut [u8], word: Word, jobs: &[u8]) -> Written
+pub fn write_jobs(out: &mut [u8], word: Word, jobs: &[u8]) -> Result<usize, Refusal>
     ensures { (result ≡ told out.old 0 (word_line word jobs.now)) × (out.new ≡ left out.old 0 (word_line word jobs.now)) }
 {
     let len = spelled(word).len();
     let room = out.len();
     if room <= len {
-        return Written::Refused(Refusal::NoRoom);
+        return Err(Refusal::NoRoom);
     }
     if jobs_fit(jobs, room - len - 1) {
         let a = put_word(out, 0, word);
         let b = put_jobs(out, a, jobs);
-        Written::Next(put_end(out, b))
+        Ok(put_end(out, b))
     } else {
-        Written::Refused(Refusal::NoRoom)
+        Err(Refusal::NoRoom)
     }
 }
 
@@ -114,7 +113,7 @@ fn put_given(out: &mut [u8], at: usize, n: u64) -> usize
 
 // Writes the word no and its numbers, with a tab before each: line number, refusal, and the field at fault if it is not 0 (02, No. 5).
 #[tactic(auto, using(crate::proofs::WordLines::given_at_most_21, crate::proofs::WordLines::two_numbers, crate::proofs::WordLines::two_numbers_length, text_rules::proofs::DigitLaws::decimal_at_most_20, text_rules::proofs::RoomLaws::refused, text_rules::proofs::RoomLaws::written, text_rules::proofs::WroteLaws::wrote_as, text_rules::proofs::WroteLaws::wrote_then))]
-pub fn write_no(out: &mut [u8], line: u64, number: u64, fault: u64) -> Written
+pub fn write_no(out: &mut [u8], line: u64, number: u64, fault: u64) -> Result<usize, Refusal>
     ensures { (result ≡ told out.old 0 (word_line No (line ∷ number ∷ given fault))) × (out.new ≡ left out.old 0 (word_line No (line ∷ number ∷ given fault))) }
 {
     let room = out.len();
@@ -123,8 +122,8 @@ pub fn write_no(out: &mut [u8], line: u64, number: u64, fault: u64) -> Written
         let b = put_field(out, a, line);
         let c = put_field(out, b, number);
         let d = put_given(out, c, fault);
-        Written::Next(put_end(out, d))
+        Ok(put_end(out, d))
     } else {
-        Written::Refused(Refusal::NoRoom)
+        Err(Refusal::NoRoom)
     }
 }

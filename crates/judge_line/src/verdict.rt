@@ -8,7 +8,6 @@ use judge::entry::judge_text;
 use judge_rules::verdict::Verdict;
 use terms::limits::{JUDGED_BYTES, JUDGED_JOBS};
 use terms::{Refusal, Word, field_of};
-use text_rules::Written;
 
 // The first n places of the order, or all if there are fewer.
 fn first_places(order: &[u8], n: usize) -> &[u8]
@@ -18,7 +17,7 @@ fn first_places(order: &[u8], n: usize) -> &[u8]
 }
 
 // Writes the judge's verdict, with the jobs that it put into the order.
-pub fn write_verdict(said: Verdict, order: &[u8], out: &mut [u8]) -> Written
+pub fn write_verdict(said: Verdict, order: &[u8], out: &mut [u8]) -> Result<usize, Refusal>
     ensures { (result ≡ told out.old 0 (say_line said order.now)) × (out.new ≡ left out.old 0 (say_line said order.now)) }
 {
     match said {
@@ -35,7 +34,7 @@ pub fn write_verdict(said: Verdict, order: &[u8], out: &mut [u8]) -> Written
 }
 
 // Writes the verdict on a history text as a line; a text that is too long is refused before anything else.
-pub fn verdict_line(text: &[u8], out: &mut [u8]) -> Written
+pub fn verdict_line(text: &[u8], out: &mut [u8]) -> Result<usize, Refusal>
     ensures { (result ≡ told out.old 0 (verdict_of text.now)) × (out.new ≡ left out.old 0 (verdict_of text.now)) }
 {
     if text.len() > JUDGED_BYTES {

@@ -7,6 +7,7 @@ use mathlib.Core.Bool.{Bool, true, false}
 use mathlib.Core.List.{List}
 use native.Mathlib.Omega.{arith}
 use borrow.Author.Tests.{eqb-true}
+use Rattle.std.specs.Prelude.{Err, Ok}
 use Rattle.laws.specs.Choice.{pick, not_both}
 use Rattle.laws.specs.Lists.{first_of}
 use Rattle.terms.specs.declared.refusals.Field.{Field}
@@ -15,9 +16,8 @@ use Rattle.terms.specs.declared.refusals.Refusal.{Refusal}
 use Rattle.terms.specs.declared.refusals.Refusal.TheVariants.{BadLine, CellAbove, TooManyLines, JobOutside, Ended}
 use Rattle.terms.specs.Refusals.{field_number}
 use Rattle.terms.proofs.Numbers.{same_number}
-use Rattle.text_rules.specs.declared.Reading.{Reading}
-use Rattle.text_rules.specs.declared.Reading.TheVariants.{Good, Bad}
 use Rattle.judge_rules.specs.LineTable.{too_many, is_bad, outside, above, over_already, holds, order, table_says}
+use Rattle.text_rules.specs.Lines.{Reading}
 
 -- if no row from here on holds, this row does not, and no later one does
 pick_none : (b : Bool) (x : Refusal) (rest : Option Refusal) → pick b (Some x) rest ≡ None → (b ≡ false) × (rest ≡ None)
@@ -33,8 +33,8 @@ bad_nowhere r a b c d Fourth = d
 
 -- AT ONE FIELD: at most one of the four rows of 9 holds for a line (02, No. 5)
 pub bad_at_one : (f g : Field) (r : Reading) → is_bad f r ≡ true → is_bad g r ≡ true → f ≡ g
-bad_at_one f g (Good l job cell) a b = not_both a refl
-bad_at_one f g (Bad at) a b =
+bad_at_one f g (Ok line) a b = not_both a refl
+bad_at_one f g (Err at) a b =
     let q : field_number f ≡ field_number g = eqb-true (field_number f) (field_number at) a ∙ sym (eqb-true (field_number g) (field_number at) b) in
     let e : BadLine f ≡ BadLine g = same_number (BadLine f) (BadLine g) refl q in
     cc

@@ -6,6 +6,8 @@ use mathlib.Core.Bool.{false}
 use mathlib.Core.List.{List, [], ◌∷◌, ◌++◌, append_assoc}
 use native.Mathlib.Omega.{arith}
 use lib.ListN.{length, get_or}
+use Rattle.std.specs.Prelude.{Err, Ok}
+use Rattle.terms.specs.declared.letters.Letter.{Letter}
 use Rattle.terms.specs.declared.letters.Letter.TheVariants.{Begin, Commit, GiveUp, Retry, Back, Asks}
 use Rattle.terms.specs.declared.refusals.Field.TheVariants.{First}
 use Rattle.terms.specs.Limits.{judged_jobs}
@@ -15,12 +17,11 @@ use Rattle.conflict.specs.declared.action.Event.{Event}
 use Rattle.conflict.specs.declared.action.Event.TheVariants.{Does, Ends}
 use Rattle.conflict.specs.History.{History}
 use Rattle.conflict.specs.Dirty.{FirstDirty}
-use Rattle.text_rules.specs.declared.Reading.{Reading}
-use Rattle.text_rules.specs.declared.Reading.TheVariants.{Good, Bad}
 use Rattle.judge_rules.specs.HistoryText.{event_of, events_in}
 use Rattle.judge_rules.specs.LineTable.{outside, reading_at, lines_before, AllFaultless}
 use Rattle.judge_rules.proofs.CleanLines.{clean_line}
 use Rattle.judge_rules.proofs.FewJobs.{not_outside}
+use Rattle.text_rules.specs.Lines.{Reading, good}
 
 -- a job that the judge takes
 abbrev Judged : ℕ → Type 0
@@ -39,20 +40,25 @@ module _ {P : Type 0} (h before : History) (a : Action) (after : History) (later
   not_a_mark : (m : Mark) (job : ℕ) → Ends m job ∷ h ≡ before ++ Does a ∷ after → P
   not_a_mark m job q = first_or_later (Ends m job) q (λ e. let z : ◌≡◌ {A = ℕ} 0 1 = cc in absurd (omega arith))
 
+  -- the event of a good line comes before the rest
+  good_or_later : (l : Letter) (job cell : ℕ) → outside (good l job cell) ≡ false → event_of (good l job cell) ++ h ≡ before ++ Does a ∷ after → (Judged a.job → P) → P
+  unfolding event_of
+  good_or_later Begin job cell o q one = later before q
+  good_or_later Commit job cell o q one = not_a_mark _ job q
+  good_or_later GiveUp job cell o q one = not_a_mark _ job q
+  good_or_later Retry job cell o q one = later before q
+  good_or_later Back job cell o q one = not_a_mark _ job q
+  good_or_later (Asks x) job cell o q one =
+      first_or_later _ q (λ e. let j : job ≡ a.job = cc in one (subst Judged j (not_outside job o)))
+
   -- the event of a line comes before the rest
   line_or_later : (r : Reading) → outside r ≡ false → event_of r ++ h ≡ before ++ Does a ∷ after → (Judged a.job → P) → P
   unfolding event_of
-  line_or_later (Bad at) o q one = later before q
-  line_or_later (Good Begin job cell) o q one = later before q
-  line_or_later (Good Commit job cell) o q one = not_a_mark _ job q
-  line_or_later (Good GiveUp job cell) o q one = not_a_mark _ job q
-  line_or_later (Good Retry job cell) o q one = later before q
-  line_or_later (Good Back job cell) o q one = not_a_mark _ job q
-  line_or_later (Good (Asks x) job cell) o q one =
-      first_or_later _ q (λ e. let j : job ≡ a.job = cc in one (subst Judged j (not_outside job o)))
+  line_or_later (Err at) o q one = later before q
+  line_or_later (Ok line) o q one = good_or_later line.letter line.job line.cell o q one
 
 -- if no line has a job outside, a job that acts on them is 1 to 255
-acts_within : (rs : List Reading) → ((k : ℕ) → k < length rs → outside (get_or rs k (Bad First)) ≡ false) → (before : History) (a : Action) (after : History) → events_in rs ≡ before ++ Does a ∷ after → Judged a.job
+acts_within : (rs : List Reading) → ((k : ℕ) → k < length rs → outside (get_or rs k (Err First)) ≡ false) → (before : History) (a : Action) (after : History) → events_in rs ≡ before ++ Does a ∷ after → Judged a.job
 unfolding events_in
 acts_within [] all [] a after q = let z : ◌≡◌ {A = ℕ} 0 1 = cc in absurd (omega arith)
 acts_within [] all (b ∷ before) a after q = let z : ◌≡◌ {A = ℕ} 0 1 = cc in absurd (omega arith)
@@ -60,10 +66,10 @@ acts_within (r ∷ rs) all before a after q =
     line_or_later (events_in rs) before a after (λ ahead e. acts_within rs (λ k h. all (suc k) (omega arith)) ahead a after e) r (all 0 (omega arith)) q (λ w. w)
 
 -- no line of a faultless text has a job outside
-all_inside : (rs : List Reading) → AllFaultless rs → (k : ℕ) → k < length rs → outside (get_or rs k (Bad First)) ≡ false
+all_inside : (rs : List Reading) → AllFaultless rs → (k : ℕ) → k < length rs → outside (get_or rs k (Err First)) ≡ false
 all_inside rs all k h =
     let less_one : suc k - 1 ≡ k = omega arith in
-    subst (λ i. outside (get_or rs i (Bad First)) ≡ false) less_one (clean_line (suc k) (lines_before rs (suc k)) (reading_at rs (suc k)) (all (suc k) (omega arith) h)).inside
+    subst (λ i. outside (get_or rs i (Err First)) ≡ false) less_one (clean_line (suc k) (lines_before rs (suc k)) (reading_at rs (suc k)) (all (suc k) (omega arith) h)).inside
 
 -- reader and writer of a faultless text's first dirty read are 1 to 255
 pub dirty_within : (rs : List Reading) → AllFaultless rs → (reader writer : ℕ) → FirstDirty (events_in rs) reader writer → Judged reader × Judged writer

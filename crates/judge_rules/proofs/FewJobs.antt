@@ -9,9 +9,11 @@ use native.Mathlib.Omega.{arith}
 use lib.Dec.{leb, eqb}
 use lib.ListN.{length, get_or}
 use borrow.Author.Tests.{eqb-true, eqb-false, leb-true, not-false}
+use Rattle.std.specs.Prelude.{Err, Ok}
 use Rattle.laws.specs.Choice.{by_test, not_both}
 use Rattle.laws.specs.Lists.{member, distinct}
 use Rattle.laws.proofs.Parts.{and_first, and_second, or_either}
+use Rattle.terms.specs.declared.letters.Letter.{Letter}
 use Rattle.terms.specs.declared.letters.Letter.TheVariants.{Begin, Commit, GiveUp, Retry, Back, Asks}
 use Rattle.terms.specs.declared.refusals.Field.TheVariants.{First}
 use Rattle.terms.specs.Limits.{judged_jobs}
@@ -20,12 +22,11 @@ use Rattle.conflict.specs.declared.action.Mark.TheVariants.{Commit as commits, G
 use Rattle.conflict.specs.declared.action.Event.TheVariants.{Ends}
 use Rattle.conflict.specs.History.{History, is_commit, marked}
 use Rattle.conflict.proofs.OneEvent.{marked_none, marked_does, marked_ends}
-use Rattle.text_rules.specs.declared.Reading.{Reading}
-use Rattle.text_rules.specs.declared.Reading.TheVariants.{Good, Bad}
 use Rattle.judge_rules.specs.HistoryText.{event_of, events_in}
 use Rattle.judge_rules.specs.LineTable.{outside, reading_at, lines_before, AllFaultless}
 use Rattle.judge_rules.proofs.CleanLines.{clean_line}
 use Rattle.judge_rules.proofs.Walking.{no_more}
+use Rattle.text_rules.specs.Lines.{Reading, good}
 
 -- the numbers from n down to 1
 countdown : ℕ → List ℕ
@@ -62,20 +63,26 @@ marked_here m job j h e one' two' =
     or_either (eqb job j && is_commit m) (marked is_commit j h) (sym (marked_ends is_commit j m job h) ∙ e)
     (λ t. one' (eqb-true job j (and_first (eqb job j) (is_commit m) t))) two'
 
+-- the same, by the letter of a good line
+marked_good : {P : Type 0} (l : Letter) (job cell : ℕ) (h : History) (j : ℕ) → outside (good l job cell) ≡ false → marked is_commit j (event_of (good l job cell) ++ h) ≡ true →
+    ((1 ≤ j) × (j ≤ judged_jobs) → P) → (marked is_commit j h ≡ true → P) → P
+unfolding event_of
+marked_good Begin job cell h j o e one' two' = two' e
+marked_good Commit job cell h j o e one' two' = marked_here commits job j h e (λ q. one' (subst (λ x. (1 ≤ x) × (x ≤ judged_jobs)) q (not_outside job o))) two'
+marked_good GiveUp job cell h j o e one' two' = marked_here gives_up job j h e (λ q. one' (subst (λ x. (1 ≤ x) × (x ≤ judged_jobs)) q (not_outside job o))) two'
+marked_good Retry job cell h j o e one' two' = two' e
+marked_good Back job cell h j o e one' two' = marked_here goes_back job j h e (λ q. one' (subst (λ x. (1 ≤ x) × (x ≤ judged_jobs)) q (not_outside job o))) two'
+marked_good (Asks a) job cell h j o e one' two' = two' (sym (marked_does is_commit j _ h) ∙ e)
+
 -- the same, by how the line reads
 marked_line : {P : Type 0} (r : Reading) (h : History) (j : ℕ) → outside r ≡ false → marked is_commit j (event_of r ++ h) ≡ true →
     ((1 ≤ j) × (j ≤ judged_jobs) → P) → (marked is_commit j h ≡ true → P) → P
 unfolding event_of
-marked_line (Bad at) h j o e one' two' = two' e
-marked_line (Good Begin job cell) h j o e one' two' = two' e
-marked_line (Good Commit job cell) h j o e one' two' = marked_here commits job j h e (λ q. one' (subst (λ x. (1 ≤ x) × (x ≤ judged_jobs)) q (not_outside job o))) two'
-marked_line (Good GiveUp job cell) h j o e one' two' = marked_here gives_up job j h e (λ q. one' (subst (λ x. (1 ≤ x) × (x ≤ judged_jobs)) q (not_outside job o))) two'
-marked_line (Good Retry job cell) h j o e one' two' = two' e
-marked_line (Good Back job cell) h j o e one' two' = marked_here goes_back job j h e (λ q. one' (subst (λ x. (1 ≤ x) × (x ≤ judged_jobs)) q (not_outside job o))) two'
-marked_line (Good (Asks a) job cell) h j o e one' two' = two' (sym (marked_does is_commit j _ h) ∙ e)
+marked_line (Err at) h j o e one' two' = two' e
+marked_line (Ok line) h j o e one' two' = marked_good line.letter line.job line.cell h j o e one' two'
 
 -- if no line has a job outside, a job with a c on them is 1 to 255
-marked_within : (rs : List Reading) → ((k : ℕ) → k < length rs → outside (get_or rs k (Bad First)) ≡ false) → (j : ℕ) → marked is_commit j (events_in rs) ≡ true → (1 ≤ j) × (j ≤ judged_jobs)
+marked_within : (rs : List Reading) → ((k : ℕ) → k < length rs → outside (get_or rs k (Err First)) ≡ false) → (j : ℕ) → marked is_commit j (events_in rs) ≡ true → (1 ≤ j) × (j ≤ judged_jobs)
 unfolding events_in
 marked_within [] all j e = not_both e (marked_none is_commit j)
 marked_within (r ∷ rs) all j e =
@@ -85,7 +92,7 @@ marked_within (r ∷ rs) all j e =
 pub committed_within : (rs : List Reading) → AllFaultless rs → (j : ℕ) → marked is_commit j (events_in rs) ≡ true → (1 ≤ j) × (j ≤ judged_jobs)
 committed_within rs all j m =
     marked_within rs
-    (λ k h. subst (λ i. outside (get_or rs i (Bad First)) ≡ false) (less_one k) (clean_line (suc k) (lines_before rs (suc k)) (reading_at rs (suc k)) (all (suc k) (omega arith) h)).inside) j m
+    (λ k h. subst (λ i. outside (get_or rs i (Err First)) ≡ false) (less_one k) (clean_line (suc k) (lines_before rs (suc k)) (reading_at rs (suc k)) (all (suc k) (omega arith) h)).inside) j m
   where
     less_one : (k : ℕ) → suc k - 1 ≡ k
     less_one k = omega arith

@@ -11,18 +11,19 @@ use lib.Dec.{eqb, ltb, leb}
 use lib.ListN.{length, length-append}
 use lib.Seq.{take_at, get_or_at}
 use borrow.Author.Tests.{eqb-true, eqb-false, eq-eqb, ne_eqb, ltb-true, ltb-false, le-leb, lt-leb}
+use Rattle.std.specs.Prelude.{Err, Ok}
 use Rattle.laws.specs.Choice.{pick, by_test}
 use Rattle.laws.specs.Lists.{member, first_of}
 use Rattle.laws.proofs.Parts.{or_swap}
+use Rattle.terms.specs.declared.letters.Letter.{Letter}
 use Rattle.terms.specs.declared.letters.Letter.TheVariants.{Begin, Commit, GiveUp, Retry, Back, Asks}
 use Rattle.terms.specs.declared.refusals.Field.TheVariants.{First, Second, Third, Fourth}
 use Rattle.terms.specs.declared.refusals.Refusal.{Refusal}
 use Rattle.terms.specs.declared.refusals.Refusal.TheVariants.{TooManyLines}
 use Rattle.terms.specs.Limits.{judged_jobs, judged_lines}
-use Rattle.text_rules.specs.declared.Reading.{Reading}
-use Rattle.text_rules.specs.declared.Reading.TheVariants.{Good, Bad}
 use Rattle.judge_rules.specs.HistoryText.{fault_of_good, fault_of, line_fault, ended_after, Faulty, or_later, first_faulty, Tells}
 use Rattle.judge_rules.specs.LineTable.{reading_at, lines_before, ends, ended_in, holds, order, table_says, Faultless}
+use Rattle.text_rules.specs.Lines.{Reading, good}
 
 -- the jobs kept as ended are those with a c or an a on the lines before
 abbrev pub Keeps : List ℕ → List Reading → Type 0
@@ -39,16 +40,21 @@ unfolding ended_in
 ended_more j [] r = refl
 ended_more j (b ∷ before) r = ap (λ x. ends j b || x) (ended_more j before r) ∙ or_swap (ends j b) (ends j r) (ended_in j before)
 
+-- a good line adds its job if it is a c or an a
+keeps_good : (ended : List ℕ) (j : ℕ) (l : Letter) (job cell : ℕ) → member j (ended_after ended (good l job cell)) ≡ (ends j (good l job cell) || member j ended)
+unfolding ended_after ends member
+keeps_good ended j Begin job cell = refl
+keeps_good ended j Commit job cell = refl
+keeps_good ended j GiveUp job cell = refl
+keeps_good ended j Retry job cell = refl
+keeps_good ended j Back job cell = refl
+keeps_good ended j (Asks a) job cell = refl
+
 -- a line adds its job if it reads as a c or an a
 keeps_reading : (ended : List ℕ) (j : ℕ) (r : Reading) → member j (ended_after ended r) ≡ (ends j r || member j ended)
 unfolding ended_after ends member
-keeps_reading ended j (Bad at) = refl
-keeps_reading ended j (Good Begin job cell) = refl
-keeps_reading ended j (Good Commit job cell) = refl
-keeps_reading ended j (Good GiveUp job cell) = refl
-keeps_reading ended j (Good Retry job cell) = refl
-keeps_reading ended j (Good Back job cell) = refl
-keeps_reading ended j (Good (Asks a) job cell) = refl
+keeps_reading ended j (Err at) = refl
+keeps_reading ended j (Ok line) = keeps_good ended j line.letter line.job line.cell
 
 -- after one more line the jobs kept as ended are the right ones
 pub keeps_more : (ended : List ℕ) (before : List Reading) (r : Reading) → Keeps ended before → Keeps (ended_after ended r) (before ++ r ∷ [])
@@ -75,11 +81,11 @@ too_many_is n h =
 reading_fault : (n : ℕ) (ended : List ℕ) (before : List Reading) (r : Reading) → n ≤ suc judged_lines → Keeps ended before →
     pick (ltb judged_lines n) (Some TooManyLines) (fault_of ended r) ≡ first_of (holds n before r) order
 unfolding fault_of fault_of_good holds first_of order
-reading_fault n ended before (Bad First) h k = rw (too_many_is n h)
-reading_fault n ended before (Bad Second) h k = rw (too_many_is n h)
-reading_fault n ended before (Bad Third) h k = rw (too_many_is n h)
-reading_fault n ended before (Bad Fourth) h k = rw (too_many_is n h)
-reading_fault n ended before (Good l job cell) h k = rw (too_many_is n h, outside_is job, k job)
+reading_fault n ended before (Err First) h k = rw (too_many_is n h)
+reading_fault n ended before (Err Second) h k = rw (too_many_is n h)
+reading_fault n ended before (Err Third) h k = rw (too_many_is n h)
+reading_fault n ended before (Err Fourth) h k = rw (too_many_is n h)
+reading_fault n ended before (Ok line) h k = rw (too_many_is n h, outside_is line.job, k line.job)
 
 -- the judge's fault of a line is the table's
 pub line_fault_lem : (n : ℕ) (ended : List ℕ) (before : List Reading) (r : Reading) → n ≤ suc judged_lines → Keeps ended before → line_fault n ended r ≡ table_says n before r
@@ -98,7 +104,7 @@ said_of : (before : List Reading) (r : Reading) (after : List Reading) → let n
     (table_says n (lines_before (before ++ r ∷ after) n) (reading_at (before ++ r ∷ after) n) ≡ table_says n before r)
 said_of before r after =
     ap₂ (table_says (suc (length before))) (take_at before (r ∷ after) (suc (length before) - 1) (omega arith))
-    (get_or_at before r after (Bad First) (suc (length before) - 1) (omega arith))
+    (get_or_at before r after (Err First) (suc (length before) - 1) (omega arith))
 
 module _ (whole before : List Reading) (l : Reading) (ls : List Reading) (n : ℕ) (ended : List ℕ) (w : whole ≡ before ++ l ∷ ls)
     (e : n ≡ suc (length before)) (h : n ≤ suc judged_lines) (k : Keeps ended before) (good : (m : ℕ) → 1 ≤ m → m < n → Faultless whole m) where

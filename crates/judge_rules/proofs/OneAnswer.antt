@@ -15,7 +15,6 @@ use Rattle.terms.specs.declared.refusals.Refusal.TheVariants.{ShortOrder}
 use Rattle.terms.specs.Limits.{judged_jobs}
 use Rattle.conflict.specs.Dirty.{IsDirty, FirstDirty, dirty_of}
 use Rattle.conflict.proofs.DirtyFound.{dirty_exactly, clean_exactly}
-use Rattle.text_rules.specs.declared.Reading.{Reading}
 use Rattle.text_rules.specs.Split.{lines_of}
 use Rattle.judge_rules.specs.declared.verdict.Verdict.TheVariants.{Orderly, Knot, Dirty, No}
 use Rattle.judge_rules.specs.Judged.{orderly, knotted, finding_of}
@@ -31,6 +30,7 @@ use Rattle.judge_rules.proofs.Histories.{finding_exactly}
 use Rattle.judge_rules.proofs.LineFaults.{finds_fault}
 use Rattle.judge_rules.proofs.LineBack.{stands_only}
 use Rattle.judge_rules.proofs.Answering.{answers}
+use Rattle.text_rules.specs.Lines.{Reading}
 
 -- a line is not both faultless and refused
 never_both : {P : Type 0} (ls : List Reading) (n : ℕ) (why : Refusal) → Faultless ls n → Due ls n why → P

@@ -8,34 +8,39 @@ use mathlib.Core.List.{List, [], ◌∷◌}
 use native.Mathlib.Omega.{arith}
 use lib.ListN.{get_or, take}
 use borrow.Author.Tests.{eqb-true, eq-eqb}
+use Rattle.std.specs.Prelude.{Err, Ok}
 use Rattle.laws.specs.Choice.{not_both}
 use Rattle.laws.proofs.Parts.{or_either, or_first, or_second}
 use Rattle.terms.specs.declared.letters.Letter.{Letter}
 use Rattle.terms.specs.declared.letters.Letter.TheVariants.{Begin, Commit, GiveUp, Retry, Back, Asks}
 use Rattle.terms.specs.declared.refusals.Field.TheVariants.{First}
 use Rattle.terms.specs.Letters.{of_histories}
-use Rattle.text_rules.specs.declared.Reading.{Reading}
-use Rattle.text_rules.specs.declared.Reading.TheVariants.{Good, Bad}
 use Rattle.text_rules.specs.Split.{lines_of}
 use Rattle.text_rules.proofs.GoodLine.{good_is_record, good_exactly}
 use Rattle.judge_rules.specs.HistoryText.{readings_of, line_at}
 use Rattle.judge_rules.specs.LineTable.{reading_at, lines_before, ends, ended_in}
 use Rattle.judge_rules.specs.AsWorded.{LineIs, OverBefore}
 use Rattle.judge_rules.proofs.Readings.{reading_at_lem}
+use Rattle.text_rules.specs.Lines.{Reading, good}
+
+-- a good line that ends a job is a c or an a of it
+ends_good : {P : Type 0} (j : ℕ) (l : Letter) (job cell : ℕ) → ends j (good l job cell) ≡ true → ((cell' : ℕ) → good l job cell ≡ good Commit j cell' → P) → ((cell' : ℕ) → good l job cell ≡ good GiveUp j cell' → P) → P
+unfolding ends
+ends_good j Begin job cell e one' two' = not_both e refl
+ends_good j Commit job cell e one' two' = one' cell (ap (λ i. good Commit i cell) (eqb-true job j e))
+ends_good j GiveUp job cell e one' two' = two' cell (ap (λ i. good GiveUp i cell) (eqb-true job j e))
+ends_good j Retry job cell e one' two' = not_both e refl
+ends_good j Back job cell e one' two' = not_both e refl
+ends_good j (Asks a) job cell e one' two' = not_both e refl
 
 -- a reading that ends a job is a c or an a of it
-ends_letter : {P : Type 0} (j : ℕ) (r : Reading) → ends j r ≡ true → ((cell : ℕ) → r ≡ Good Commit j cell → P) → ((cell : ℕ) → r ≡ Good GiveUp j cell → P) → P
+ends_letter : {P : Type 0} (j : ℕ) (r : Reading) → ends j r ≡ true → ((cell : ℕ) → r ≡ good Commit j cell → P) → ((cell : ℕ) → r ≡ good GiveUp j cell → P) → P
 unfolding ends
-ends_letter j (Bad at) e one' two' = not_both e refl
-ends_letter j (Good Begin job cell) e one' two' = not_both e refl
-ends_letter j (Good Commit job cell) e one' two' = one' cell (ap (λ i. Good Commit i cell) (eqb-true job j e))
-ends_letter j (Good GiveUp job cell) e one' two' = two' cell (ap (λ i. Good GiveUp i cell) (eqb-true job j e))
-ends_letter j (Good Retry job cell) e one' two' = not_both e refl
-ends_letter j (Good Back job cell) e one' two' = not_both e refl
-ends_letter j (Good (Asks a) job cell) e one' two' = not_both e refl
+ends_letter j (Err at) e one' two' = not_both e refl
+ends_letter j (Ok line) e one' two' = ends_good j line.letter line.job line.cell e one' two'
 
 -- a job that has ended on the first k lines has done so on one of them
-ended_at : (j k : ℕ) (rs : List Reading) → ended_in j (take k rs) ≡ true → (i : ℕ) × (i < k) × (ends j (get_or rs i (Bad First)) ≡ true)
+ended_at : (j k : ℕ) (rs : List Reading) → ended_in j (take k rs) ≡ true → (i : ℕ) × (i < k) × (ends j (get_or rs i (Err First)) ≡ true)
 unfolding ended_in
 ended_at j zero rs e = not_both e refl
 ended_at j (suc k) [] e = not_both e refl
@@ -43,7 +48,7 @@ ended_at j (suc k) (r ∷ rs) e =
     or_either (ends j r) (ended_in j (take k rs)) e (λ t. (0, omega arith, t)) (λ t. let p = ended_at j k rs t in (suc p.0, omega (arith, p.1), p.2))
 
 -- and one such line is enough
-at_ended : (j k i : ℕ) (rs : List Reading) → i < k → ends j (get_or rs i (Bad First)) ≡ true → ended_in j (take k rs) ≡ true
+at_ended : (j k i : ℕ) (rs : List Reading) → i < k → ends j (get_or rs i (Err First)) ≡ true → ended_in j (take k rs) ≡ true
 unfolding ended_in ends
 at_ended j zero i rs h e = absurd (omega arith)
 at_ended j (suc k) i [] h e = not_both e refl
@@ -52,11 +57,11 @@ at_ended j (suc k) (suc i) (r ∷ rs) h e = or_second (ends j r) (ended_in j (ta
 
 module _ (text : List ℕ) where
   -- the good line behind a reading that is good
-  pub good_at : (n : ℕ) (l : Letter) (job cell : ℕ) → reading_at (readings_of text) n ≡ Good l job cell → LineIs (lines_of text) n l job cell
+  pub good_at : (n : ℕ) (l : Letter) (job cell : ℕ) → reading_at (readings_of text) n ≡ good l job cell → LineIs (lines_of text) n l job cell
   good_at n l job cell e = good_is_record of_histories (line_at (lines_of text) n) l job cell (sym (reading_at_lem text n) ∙ e)
 
   -- and a good line reads as good
-  pub at_good : (n : ℕ) (l : Letter) (job cell : ℕ) → LineIs (lines_of text) n l job cell → reading_at (readings_of text) n ≡ Good l job cell
+  pub at_good : (n : ℕ) (l : Letter) (job cell : ℕ) → LineIs (lines_of text) n l job cell → reading_at (readings_of text) n ≡ good l job cell
   at_good n l job cell g = reading_at_lem text n ∙ (good_exactly of_histories (line_at (lines_of text) n) l job cell).1 g
 
   -- a letter without a cell has cell 0
@@ -68,7 +73,7 @@ module _ (text : List ℕ) where
   ended_over n job e =
       let p = ended_at job (n - 1) (readings_of text) e in
       let m : ℕ = suc p.0 in
-      let q : ends job (reading_at (readings_of text) m) ≡ true = subst (λ i. ends job (get_or (readings_of text) i (Bad First)) ≡ true) (less_one p.0) p.2 in
+      let q : ends job (reading_at (readings_of text) m) ≡ true = subst (λ i. ends job (get_or (readings_of text) i (Err First)) ≡ true) (less_one p.0) p.2 in
       record {
         at = m;
         from = omega arith;

@@ -10,6 +10,7 @@ use lib.Dec.{eqb}
 use lib.ListN.{length, length-map}
 use lib.Seq.{take_at, get_or_at}
 use borrow.Author.Tests.{eqb-true, eqb-false, le-ltb}
+use Rattle.std.specs.Prelude.{Err}
 use Rattle.laws.specs.Choice.{by_test, not_both}
 use Rattle.terms.specs.declared.refusals.Field.{Field}
 use Rattle.terms.specs.declared.refusals.Field.TheVariants.{First}
@@ -27,9 +28,7 @@ use Rattle.laws.proofs.Lists.{same_refl}
 use Rattle.conflict.proofs.Marks.{ended_alone, ends_rest}
 use Rattle.conflict.proofs.OneEvent.{line_does, line_ends, good_does, commit_not_back, give_up_not_back}
 use Rattle.conflict.proofs.Appended.{line_append}
-use Rattle.text_rules.specs.declared.Reading.{Reading}
-use Rattle.text_rules.specs.declared.Reading.TheVariants.{Good, Bad}
-use Rattle.text_rules.specs.Lines.{read_line}
+use Rattle.text_rules.specs.Lines.{read_line, Reading, good}
 use Rattle.judge_rules.specs.HistoryText.{readings_of}
 use Rattle.judge_rules.specs.LineTable.{reading_at, lines_before, is_bad, above, ends, ended_in, over_already, holds, holds_at, AllReadBack, FirstFault}
 use Rattle.text_rules.specs.EventRecords.{mark_letter, event_line, text_of, within, all_within}
@@ -46,7 +45,7 @@ parts_within last (e ∷ h) k w =
     (rw (and_first (within last e) (all_within last (h ++ k)) w, p.0), p.1)
 
 -- if jobs end for good, no line of a job follows the line of its c or a
-mark_alone : (m : Mark) (i j : ℕ) (h : History) → ends_for_good (Ends m i ∷ h) ≡ true → ends j (Good (mark_letter m) i 0) ≡ true → line_of j h ≡ false
+mark_alone : (m : Mark) (i j : ℕ) (h : History) → ends_for_good (Ends m i ∷ h) ≡ true → ends j (good (mark_letter m) i 0) ≡ true → line_of j h ≡ false
 unfolding ends mark_letter
 mark_alone commits i j h g t = rw (← eqb-true i j t) (ended_alone commits i h g commit_not_back)
 mark_alone gives_up i j h g t = rw (← eqb-true i j t) (ended_alone gives_up i h g give_up_not_back)
@@ -135,7 +134,7 @@ line_of_lem h n from to =
       after = k;
       parts = p;
       ahead = rw rs (take_at (map event_reads b) (event_reads e ∷ map event_reads k) (n - 1) size);
-      reads = rw rs (get_or_at (map event_reads b) (event_reads e) (map event_reads k) (Bad First) (n - 1) size);
+      reads = rw rs (get_or_at (map event_reads b) (event_reads e) (map event_reads k) (Err First) (n - 1) size);
     })
 
 -- the event of a line is within the limit that the history is within

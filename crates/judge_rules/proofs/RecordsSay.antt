@@ -16,8 +16,7 @@ use Rattle.conflict.specs.declared.action.Event.TheVariants.{Does, Ends}
 use Rattle.conflict.specs.Modes.{recorded}
 use Rattle.conflict.specs.History.{History}
 use Rattle.conflict.proofs.Clauses.{records_read, records_write, records_increment}
-use Rattle.text_rules.specs.declared.Reading.TheVariants.{Good}
-use Rattle.text_rules.specs.Lines.{read_line}
+use Rattle.text_rules.specs.Lines.{read_line, good}
 use Rattle.text_rules.specs.EventRecords.{ask_by, mark_letter, event_line, within, all_within}
 use Rattle.text_rules.proofs.EventsRead.{reads_action, reads_mark}
 use Rattle.judge_rules.specs.HistoryText.{event_of, events_in}
@@ -30,7 +29,7 @@ kind_back Write = records_write
 kind_back Increment = records_increment
 
 -- a mark's letter says that mark
-mark_back : (m : Mark) (j : ℕ) → event_of (Good (mark_letter m) j 0) ≡ Ends m j ∷ []
+mark_back : (m : Mark) (j : ℕ) → event_of (good (mark_letter m) j 0) ≡ Ends m j ∷ []
 unfolding event_of mark_letter
 mark_back commits j = refl
 mark_back gives_up j = refl

@@ -10,7 +10,6 @@ use lib.ListN.{length, take, drop}
 use Rattle.laws.proofs.Lists.{first_holds}
 use Rattle.terms.specs.declared.refusals.Refusal.{Refusal}
 use Rattle.terms.specs.declared.refusals.Refusal.TheVariants.{ShortOrder}
-use Rattle.text_rules.specs.declared.Reading.{Reading}
 use Rattle.text_rules.specs.Split.{joined}
 use Rattle.judge_rules.specs.declared.verdict.Verdict.TheVariants.{No}
 use Rattle.judge_rules.specs.HistoryText.{readings_of}
@@ -21,6 +20,7 @@ use Rattle.judge_rules.specs.Answers.Answers.{short, faulty, in-dirt, in_order, 
 use Rattle.judge_rules.proofs.Answering.{answers}
 use Rattle.judge_rules.proofs.OneAnswer.{answers_exactly}
 use Rattle.judge_rules.proofs.LineBack.{bare_stands, stands_behind}
+use Rattle.text_rules.specs.Lines.{Reading}
 
 module _ (text buffer : List ℕ) where
   -- a refusal said is 14 for a short buffer, or the one that is due for the first faulty line, handed back; the buffer stays

@@ -14,9 +14,8 @@ use Rattle.terms.specs.declared.letters.Letter.TheVariants.{Begin, Commit, GiveU
 use Rattle.terms.specs.Letters.{of_histories}
 use Rattle.conflict.specs.Modes.{recorded}
 use Rattle.conflict.proofs.Clauses.{records_read, records_write, records_increment}
-use Rattle.text_rules.specs.declared.Reading.TheVariants.{Good}
 use Rattle.text_rules.specs.GoodLine.{GoodLine}
-use Rattle.text_rules.specs.Lines.{read_line}
+use Rattle.text_rules.specs.Lines.{read_line, good}
 use Rattle.text_rules.specs.Records.{line_record}
 use Rattle.text_rules.specs.Split.{lines_of, joined}
 use Rattle.text_rules.proofs.GoodLine.{good_exactly}
@@ -35,7 +34,7 @@ ask_back Increment h = rw records_increment
 ask_back Update h = not_both h refl
 
 -- the record of what a good line says is that line
-good_back : (bytes : List ℕ) (l : Letter) (job cell : ℕ) → GoodLine of_histories bytes l job cell → text_of (event_of (Good l job cell)) ≡ bytes
+good_back : (bytes : List ℕ) (l : Letter) (job cell : ℕ) → GoodLine of_histories bytes l job cell → text_of (event_of (good l job cell)) ≡ bytes
 unfolding text_of event_of event_line mark_letter
 good_back bytes Begin job cell g = not_both g.1 refl
 good_back bytes Commit job cell g = append-nil (line_record Commit job 0) ∙ ap (line_record Commit job) (sym (g.5 refl)) ∙ sym g.0

@@ -1,6 +1,6 @@
 -- One line by the table and in the paper's words: both call it faultless or neither does, and both give the same refusal (01, Refusals by number).
 -- Assumes nothing.
-use Rattle.std.specs.Prelude.{Option, None, Some}
+use Rattle.std.specs.Prelude.{Option, None, Some, Err, Ok}
 use Prim.Native.Nat.{ℕ, ◌≤◌, ◌<◌}
 use mathlib.Core.Path.{◌≡◌, refl, sym, ap, ◌∙◌, subst}
 use mathlib.Core.Logic.{◌≢◌, ◌⊎◌, inl, inr, ⊎_elim}
@@ -18,8 +18,6 @@ use Rattle.terms.specs.declared.refusals.Refusal.TheVariants.{BadLine, CellAbove
 use Rattle.terms.specs.Letters.{has_cell}
 use Rattle.terms.specs.Refusals.{number_of, field_number, field_of}
 use Rattle.terms.proofs.Numbers.{same_number}
-use Rattle.text_rules.specs.declared.Reading.{Reading}
-use Rattle.text_rules.specs.declared.Reading.TheVariants.{Good, Bad}
 use Rattle.text_rules.specs.Split.{lines_of}
 use Rattle.judge_rules.specs.HistoryText.{readings_of}
 use Rattle.judge_rules.specs.LineTable.{reading_at, lines_before, ended_in, holds, order, table_says, Faultless, Due}
@@ -29,6 +27,7 @@ use Rattle.judge_rules.proofs.FewJobs.{not_outside}
 use Rattle.judge_rules.proofs.CleanLines.{Clean, clean_line, line_clean}
 use Rattle.judge_rules.proofs.OverBefore.{good_at, at_good, ended_over, over_ended}
 use Rattle.judge_rules.proofs.BadLines.{bad_says, bad_at_lem, at_bad}
+use Rattle.text_rules.specs.Lines.{Reading, good}
 
 -- a job from 1 to 255 is not outside
 inside : (job : ℕ) → 1 ≤ job → job ≤ 255 → not (leb 1 job && leb job 255) ≡ false
@@ -73,19 +72,19 @@ by_rows false false false why e one' two' three' = let z : ◌≡◌ {A = ℕ} 0
 module _ (text : List ℕ) (n : ℕ) where
   -- a faultless line by its reading
   read_sound : (r : Reading) → reading_at (readings_of text) n ≡ r → Clean n (lines_before (readings_of text) n) r → Sound (lines_of text) n
-  read_sound (Bad at) e c = not_both (eq-eqb (field_number at) (field_number at) refl) (c.good at)
-  read_sound (Good l job cell) e c =
-      let g = good_at text n l job cell e in
-      let j = not_outside job c.inside in
+  read_sound (Err at) e c = not_both (eq-eqb (field_number at) (field_number at) refl) (c.good at)
+  read_sound (Ok line) e c =
+      let g = good_at text n line.letter line.job line.cell e in
+      let j = not_outside line.job c.inside in
       record {
-        letter = l;
-        job = job;
-        cell = cell;
+        letter = line.letter;
+        job = line.job;
+        cell = line.cell;
         good = g;
         first = j.0;
         last = j.1;
-        below = cell_low l cell g.5 c.below;
-        open' = λ o. let z : ◌≡◌ {A = ℕ} 0 1 = absurd (not_both (over_ended text n job o) c.open') in omega arith;
+        below = cell_low line.letter line.cell g.5 c.below;
+        open' = λ o. let z : ◌≡◌ {A = ℕ} 0 1 = absurd (not_both (over_ended text n line.job o) c.open') in omega arith;
       }
 
   -- a line of which the table says nothing is faultless
@@ -95,8 +94,8 @@ module _ (text : List ℕ) (n : ℕ) where
   -- and of a faultless line up to 4,096 the table says nothing
   pub sound_faultless : n ≤ 4_096 → Sound (lines_of text) n → Faultless (readings_of text) n
   sound_faultless h s =
-      let r : reading_at (readings_of text) n ≡ Good s.letter s.job s.cell = at_good text n s.letter s.job s.cell s.good in
-      subst (λ x. table_says n (lines_before (readings_of text) n) x ≡ None) (sym r) (line_clean n (lines_before (readings_of text) n) (Good s.letter s.job s.cell)
+      let r : reading_at (readings_of text) n ≡ good s.letter s.job s.cell = at_good text n s.letter s.job s.cell s.good in
+      subst (λ x. table_says n (lines_before (readings_of text) n) x ≡ None) (sym r) (line_clean n (lines_before (readings_of text) n) (good s.letter s.job s.cell)
       (record {
         few = ne_eqb n 4_097 (omega arith);
         good = λ at. refl;
@@ -119,12 +118,12 @@ module _ (text : List ℕ) (n : ℕ) where
   read_refused : n ≤ 4_096 → (r : Reading) (why : Refusal) → reading_at (readings_of text) n ≡ r → table_says n (lines_before (readings_of text) n) r ≡ Some why →
       RefusedAs (lines_of text) n (number_of why) (field_of why)
   unfolding table_says first_of holds order
-  read_refused h (Bad at) why e d =
+  read_refused h (Err at) why e d =
       let q : Some (BadLine at) ≡ Some why = sym (bad_says n (lines_before (readings_of text) n) at h) ∙ d in
       let w : why ≡ BadLine at = cc in
       rw w (bad h at (bad_at_lem text n at e))
-  read_refused h (Good l job cell) why e d =
-      good_refused h l job cell why (good_at text n l job cell e) (unfold rows_of in rw (ne_eqb n 4_097 (omega arith)) at d)
+  read_refused h (Ok line) why e d =
+      good_refused h line.letter line.job line.cell why (good_at text n line.letter line.job line.cell e) (unfold rows_of in rw (ne_eqb n 4_097 (omega arith)) at d)
 
   -- a refusal that is due for a line up to 4,097 is the paper's
   pub due_worded : n ≤ 4_097 → (why : Refusal) → Due (readings_of text) n why → RefusedAs (lines_of text) n (number_of why) (field_of why)

@@ -16,8 +16,7 @@ use Rattle.conflict.specs.declared.action.Event.TheVariants.{Does, Ends}
 use Rattle.terms.specs.declared.refusals.Refusal.TheVariants.{TooManyLines, JobOutside}
 use Rattle.terms.specs.Letters.{of_histories}
 use Rattle.terms.specs.Limits.{last_number, judged_jobs, judged_lines, judged_bytes}
-use Rattle.text_rules.specs.Lines.{read_line}
-use Rattle.text_rules.specs.declared.Reading.{Reading}
+use Rattle.text_rules.specs.Lines.{read_line, Reading}
 use Rattle.judge_rules.specs.declared.verdict.Verdict.TheVariants.{Orderly}
 use Rattle.judge_rules.specs.HistoryText.{readings_of, events_in}
 use Rattle.judge_rules.specs.Judgement.{judgement_of}

@@ -1,5 +1,5 @@
 -- A history as text: how its lines read, the first faulty one with its refusal, and the events that faultless lines say (01, Refusals by number; 01, Lines).
-use Rattle.std.specs.Prelude.{ℕ, suc, ◌-◌, ◌&&◌, ◌||◌, List, [], ◌∷◌, ◌++◌, map, eqb, ltb, leb, get_or, Option, None, Some}
+use Rattle.std.specs.Prelude.{ℕ, suc, ◌-◌, ◌&&◌, ◌||◌, List, [], ◌∷◌, ◌++◌, map, eqb, ltb, leb, get_or, Option, None, Some, Err, Ok}
 use Rattle.laws.specs.Choice.{pick}
 use Rattle.laws.specs.Lists.{member}
 use Rattle.terms.specs.declared.letters.Letter.{Letter}
@@ -13,9 +13,7 @@ use Rattle.conflict.specs.declared.action.Mark.TheVariants.{Commit as commits, G
 use Rattle.conflict.specs.declared.action.Event.TheVariants.{Does, Ends}
 use Rattle.conflict.specs.Modes.{recorded}
 use Rattle.conflict.specs.History.{History}
-use Rattle.text_rules.specs.declared.Reading.{Reading}
-use Rattle.text_rules.specs.declared.Reading.TheVariants.{Good, Bad}
-use Rattle.text_rules.specs.Lines.{refusal_of, read_line}
+use Rattle.text_rules.specs.Lines.{refusal_of, read_line, Reading}
 use Rattle.text_rules.specs.Split.{lines_of}
 use Rattle.judge_rules.specs.LineTable.{FirstFault, AllFaultless}
 
@@ -35,22 +33,26 @@ fault_of_good ended l job cell =
 
 -- the fault of a line, given how it reads: 9 if it is bad, at the field that the reader tells (02, No. 5)
 unfoldable pub fault_of : List ℕ → Reading → Option Refusal
-fault_of ended (Bad at) = refusal_of (Bad at)
-fault_of ended (Good l job cell) = fault_of_good ended l job cell
+fault_of ended (Err at) = refusal_of (Err at)
+fault_of ended (Ok line) = fault_of_good ended line.letter line.job line.cell
 
 -- the fault of line n: 11 if it is line 4,097, before anything else on it
 unfoldable pub line_fault : ℕ → List ℕ → Reading → Option Refusal
 line_fault n ended r = pick (ltb judged_lines n) (Some TooManyLines) (fault_of ended r)
 
--- the jobs that have committed or given up, after one more line
+-- the jobs that have committed or given up, after one more good line of this letter and job
+abbrev pub ended_by : List ℕ → Letter → ℕ → List ℕ
+ended_by ended Begin job = ended
+ended_by ended Commit job = job ∷ ended
+ended_by ended GiveUp job = job ∷ ended
+ended_by ended Retry job = ended
+ended_by ended Back job = ended
+ended_by ended (Asks a) job = ended
+
+-- the same, by how the line reads
 unfoldable pub ended_after : List ℕ → Reading → List ℕ
-ended_after ended (Bad at) = ended
-ended_after ended (Good Begin job cell) = ended
-ended_after ended (Good Commit job cell) = job ∷ ended
-ended_after ended (Good GiveUp job cell) = job ∷ ended
-ended_after ended (Good Retry job cell) = ended
-ended_after ended (Good Back job cell) = ended
-ended_after ended (Good (Asks a) job cell) = ended
+ended_after ended (Err at) = ended
+ended_after ended (Ok line) = ended_by ended line.letter line.job
 
 -- a faulty line: its number from 1, and its refusal
 pub record Faulty : Type 0 where
@@ -69,15 +71,19 @@ first_faulty n ended (r ∷ rs) =
     let later = first_faulty (suc n) (ended_after ended r) rs in
     or_later (line_fault n ended r) n later
 
--- the event that a line says: an action, or the end of a run
+-- the event that a good line says, by its letter, job and cell: an action, or the end of a run
+abbrev pub event_with : Letter → ℕ → ℕ → History
+event_with Begin job cell = []
+event_with Commit job cell = Ends commits job ∷ []
+event_with GiveUp job cell = Ends gives_up job ∷ []
+event_with Retry job cell = []
+event_with Back job cell = Ends goes_back job ∷ []
+event_with (Asks a) job cell = Does (record { kind = recorded a; job = job; cell = cell }) ∷ []
+
+-- the event that a line says, if it is good
 unfoldable pub event_of : Reading → History
-event_of (Bad at) = []
-event_of (Good Begin job cell) = []
-event_of (Good Commit job cell) = Ends commits job ∷ []
-event_of (Good GiveUp job cell) = Ends gives_up job ∷ []
-event_of (Good Retry job cell) = []
-event_of (Good Back job cell) = Ends goes_back job ∷ []
-event_of (Good (Asks a) job cell) = Does (record { kind = recorded a; job = job; cell = cell }) ∷ []
+event_of (Err at) = []
+event_of (Ok line) = event_with line.letter line.job line.cell
 
 -- the history that lines say
 unfoldable pub events_in : List Reading → History

@@ -1,6 +1,7 @@
 -- The judge's refusals of a line as the paper's table prints them: each row by itself, then the order in which the rows are tested. A line is what the reader made of it; bytes and the judge are not mentioned here (01, Refusals by number).
-use Rattle.std.specs.Prelude.{ℕ, suc, ◌-◌, ◌≤◌, ◌<◌, ◌≡◌, Bool, false, not, ◌&&◌, ◌||◌, List, [], ◌∷◌, eqb, leb, length, get_or, take, Option, None, Some}
+use Rattle.std.specs.Prelude.{ℕ, suc, ◌-◌, ◌≤◌, ◌<◌, ◌≡◌, Bool, false, not, ◌&&◌, ◌||◌, List, [], ◌∷◌, eqb, leb, length, get_or, take, Option, None, Some, Err, Ok}
 use Rattle.laws.specs.Lists.{first_of}
+use Rattle.terms.specs.declared.letters.Letter.{Letter}
 use Rattle.terms.specs.declared.letters.Letter.TheVariants.{Begin, Commit, GiveUp, Retry, Back, Asks}
 use Rattle.terms.specs.declared.refusals.Field.{Field}
 use Rattle.terms.specs.declared.refusals.Field.TheVariants.{First, Second, Third, Fourth}
@@ -9,12 +10,11 @@ use Rattle.terms.specs.declared.refusals.Refusal.TheVariants.{UnknownKind, CellA
 use Rattle.terms.specs.Letters.{has_cell}
 use Rattle.terms.specs.Limits.{cells, judged_jobs, judged_lines}
 use Rattle.terms.specs.Refusals.{field_number}
-use Rattle.text_rules.specs.declared.Reading.{Reading}
-use Rattle.text_rules.specs.declared.Reading.TheVariants.{Good, Bad}
+use Rattle.text_rules.specs.Lines.{Reading}
 
 -- how line n reads; lines are numbered from 1
 abbrev pub reading_at : List Reading → ℕ → Reading
-reading_at rs n = get_or rs (n - 1) (Bad First)
+reading_at rs n = get_or rs (n - 1) (Err First)
 
 -- the lines before line n, as they read or as bytes
 abbrev pub lines_before : {A : Type 0} → List A → ℕ → List A
@@ -26,28 +26,32 @@ too_many n = eqb n (suc judged_lines)
 
 -- 9: bad line, at this field (02, No. 5)
 abbrev pub is_bad : Field → Reading → Bool
-is_bad field (Bad at) = eqb (field_number field) (field_number at)
-is_bad field (Good l job cell) = false
+is_bad field (Err at) = eqb (field_number field) (field_number at)
+is_bad field (Ok line) = false
 
 -- 12: job outside 1 to 255
 abbrev pub outside : Reading → Bool
-outside (Bad at) = false
-outside (Good l job cell) = not (leb 1 job && leb job judged_jobs)
+outside (Err at) = false
+outside (Ok line) = not (leb 1 line.job && leb line.job judged_jobs)
 
 -- 2: cell above 63; r, w and i have a cell
 abbrev pub above : Reading → Bool
-above (Bad at) = false
-above (Good l job cell) = has_cell l && leb cells cell
+above (Err at) = false
+above (Ok line) = has_cell line.letter && leb cells line.cell
+
+-- a good line of this letter and job is a c or an a of job j
+abbrev pub ends_by : ℕ → Letter → ℕ → Bool
+ends_by j Begin job = false
+ends_by j Commit job = eqb job j
+ends_by j GiveUp job = eqb job j
+ends_by j Retry job = false
+ends_by j Back job = false
+ends_by j (Asks a) job = false
 
 -- the line is a c or an a of this job
 unfoldable pub ends : ℕ → Reading → Bool
-ends j (Bad at) = false
-ends j (Good Begin job cell) = false
-ends j (Good Commit job cell) = eqb job j
-ends j (Good GiveUp job cell) = eqb job j
-ends j (Good Retry job cell) = false
-ends j (Good Back job cell) = false
-ends j (Good (Asks a) job cell) = false
+ends j (Err at) = false
+ends j (Ok line) = ends_by j line.letter line.job
 
 -- one of the lines is a c or an a of this job
 unfoldable pub ended_in : ℕ → List Reading → Bool
@@ -56,8 +60,8 @@ ended_in j (r ∷ rs) = ends j r || ended_in j rs
 
 -- 13: line for a job that has committed or given up, on one of the lines before it
 abbrev pub over_already : List Reading → Reading → Bool
-over_already before (Bad at) = false
-over_already before (Good l job cell) = ended_in job before
+over_already before (Err at) = false
+over_already before (Ok line) = ended_in line.job before
 
 -- the table: when the row of each refusal holds for line n, by the lines before it and how it reads. The other rows do not belong to a line, or not to the judge
 unfoldable pub holds : ℕ → List Reading → Reading → Refusal → Bool

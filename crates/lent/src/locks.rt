@@ -4,17 +4,15 @@ ghost use Rattle.desk_arrays.specs.Steps.{step_of};
 ghost use Rattle.desk_arrays.specs.declared.state.Outcome.{Outcome};
 ghost use Rattle.lent.specs.Entries.{leaving};
 
-use crate::night::{ByValue, Left};
+use crate::night::{ByValue, Left, lend};
 use desk::step::step;
-use desk_arrays::state::{Desk, Said};
+use desk_arrays::state::{Desk, Outcome, Said};
 
 // One request to a lent lock desk: the answer, and the desk left there, are those of the step by value.
 pub fn step_lent(d: &mut Desk, kind: u8, job: u32, cell: u32) -> Said
     ensures { leaving d.new result ≡ step_of d.old kind job cell }
 {
-    let o = step(*d, kind, job, cell);
-    *d = o.desk;
-    o.said
+    lend(d, kind, job, cell)
 }
 
 // The lock desk is stepped by value.
@@ -28,10 +26,7 @@ impl ByValue for Desk {
     ghost step_of = { step_of };
 
     fn step(self, kind: u8, job: u32, cell: u32) -> Left<Desk, Said> {
-        let o = step(self, kind, job, cell);
-        Left {
-            desk: o.desk,
-            said: o.said,
-        }
+        let Outcome { desk, said } = step(self, kind, job, cell);
+        Left { desk, said }
     }
 }

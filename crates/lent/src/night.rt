@@ -42,7 +42,7 @@ pub trait Requests<D> {
         ensures { left_of result ≤ left_of self - 1 };
 }
 
-// One request to a lent desk of any type, with the body of both entries (`locks::step_lent`, `stamps::step_lent`): the answer, and the desk left there, are those of the step by value.
+// One request to a lent desk of any type, which both entries call (`locks::step_lent`, `stamps::step_lent`): the answer, and the desk left there, are those of the step by value.
 pub fn lend<D: ByValue>(d: &mut D, kind: u8, job: u32, cell: u32) -> D::Said
     ensures { D.leaving d.new result ≡ D.step_of d.old kind job cell }
 {

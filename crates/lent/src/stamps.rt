@@ -4,18 +4,16 @@ ghost use Rattle.stamp_arrays.specs.Steps.{step_of};
 ghost use Rattle.stamp_arrays.specs.declared.state.Stamped.{Stamped};
 ghost use Rattle.lent.specs.Entries.{stamping};
 
-use crate::night::{ByValue, Left};
+use crate::night::{ByValue, Left, lend};
 use desks::Answer;
-use stamp_arrays::state::Stamps;
+use stamp_arrays::state::{Stamped, Stamps};
 use stamp_desk::step::step;
 
 // One request to a lent timestamp desk: the answer, and the desk left there, are those of the step by value.
 pub fn step_lent(d: &mut Stamps, kind: u8, job: u32, cell: u32) -> Answer
     ensures { stamping d.new result ≡ step_of d.old kind job cell }
 {
-    let o = step(*d, kind, job, cell);
-    *d = o.stamps;
-    o.answer
+    lend(d, kind, job, cell)
 }
 
 // The timestamp desk is stepped by value.
@@ -29,10 +27,10 @@ impl ByValue for Stamps {
     ghost step_of = { step_of };
 
     fn step(self, kind: u8, job: u32, cell: u32) -> Left<Stamps, Answer> {
-        let o = step(self, kind, job, cell);
-        Left {
-            desk: o.stamps,
-            said: o.answer,
-        }
+        let Stamped {
+            stamps: desk,
+            answer: said,
+        } = step(self, kind, job, cell);
+        Left { desk, said }
     }
 }

@@ -5,13 +5,12 @@ use mathlib.Core.Path.{◌≡◌, refl, ap, ap₂, ◌∙◌}
 use mathlib.Core.List.{List, [], ◌∷◌, ◌++◌}
 use native.Mathlib.Omega.{arith}
 use lib.Dec.{ltb}
+use Rattle.std.specs.Prelude.{Err, Ok}
 use Rattle.laws.specs.Choice.{by_test}
 use Rattle.terms.specs.Letters.{byte_of, of_requests}
 use Rattle.terms.specs.Limits.{request_lines}
 use Rattle.conflict.specs.History.{History}
-use Rattle.text_rules.specs.declared.Reading.{Reading}
-use Rattle.text_rules.specs.declared.Reading.TheVariants.{Good, Bad}
-use Rattle.text_rules.specs.Lines.{read_line}
+use Rattle.text_rules.specs.Lines.{read_line, Reading}
 use Rattle.text_rules.specs.Split.{lines_of}
 use Rattle.desks.specs.Request.{Request}
 use Rattle.desk_rules.specs.Desk.{fresh_desk}
@@ -43,9 +42,9 @@ module _ {S T : Type 0} {see : S → T} {does : Stepping S} {new : ℕ → S} {t
   -- one line on both desks, by what it says
   same_line : {d : S} {h : History} → StartedOn does new d h → (n : ℕ) (r : Reading) → seen_line (answered does d n r) ≡ answered theirs (see d) n r
   unfolding answered
-  same_line s n (Bad at) = refl
-  same_line {d} {h} s n (Good l job cell) =
-      let r : Request = record { kind = byte_of l; job = job; cell = cell } in
+  same_line s n (Err at) = refl
+  same_line {d} {h} s n (Ok its) =
+      let r : Request = record { kind = byte_of its.letter; job = its.job; cell = its.cell } in
       ap (λ o. record { desk = o.desk; told = record { line = n; request = r; said = o.said; wakes = o.wakes } }) (f.same d h s r)
 
   -- all lines

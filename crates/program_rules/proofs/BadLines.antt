@@ -1,6 +1,6 @@
 -- The desk programs answer a line with refusal 9 and a field exactly if it is bad at that field, and the desk does not see it (01, refusal 9; 01, Lines; 02, No. 5).
 -- Assumes nothing.
-use Rattle.std.specs.Prelude.{Some}
+use Rattle.std.specs.Prelude.{Some, Err, Ok}
 use Prim.Native.Nat.{ℕ, ◌+◌}
 use mathlib.Core.Path.{◌≡◌, refl, ap}
 use mathlib.Core.Logic.{◌↔◌}
@@ -14,9 +14,7 @@ use Rattle.terms.specs.declared.refusals.Field.{Field}
 use Rattle.terms.specs.declared.refusals.Refusal.TheVariants.{BadLine}
 use Rattle.terms.specs.Letters.{byte_of, of_requests}
 use Rattle.terms.specs.Limits.{request_lines}
-use Rattle.text_rules.specs.declared.Reading.{Reading}
-use Rattle.text_rules.specs.declared.Reading.TheVariants.{Good, Bad}
-use Rattle.text_rules.specs.Lines.{refusal_of, read_line}
+use Rattle.text_rules.specs.Lines.{refusal_of, read_line, Reading}
 use Rattle.text_rules.specs.Split.{lines_of}
 use Rattle.desks.specs.declared.Answer.TheVariants.{No}
 use Rattle.desks.specs.Request.{Request}
@@ -33,22 +31,22 @@ use Rattle.program_rules.specs.LinesTold.{LinesTold, no_line, no_more, a_line}
 
 module _ {S : Type 0} (step : Stepping S) where
   -- a bad line leaves the desk as it was, and nobody is woken
-  pub bad_line_unseen : (d : S) (n : ℕ) (l : List ℕ) (at : Field) → read_line of_requests l ≡ Bad at → ((line_by step d n l).desk ≡ d) × ((line_by step d n l).told.wakes ≡ [])
+  pub bad_line_unseen : (d : S) (n : ℕ) (l : List ℕ) (at : Field) → read_line of_requests l ≡ Err at → ((line_by step d n l).desk ≡ d) × ((line_by step d n l).told.wakes ≡ [])
   unfolding line_by answered
   bad_line_unseen d n l at e = (ap (λ r. (answered step d n r).desk) e, ap (λ r. (answered step d n r).told.wakes) e)
 
   -- a line is told under its number
   line_number : (d : S) (n : ℕ) (r : Reading) → (answered step d n r).told.line ≡ n
   unfolding answered
-  line_number d n (Bad at) = refl
-  line_number d n (Good l job cell) = refl
+  line_number d n (Err at) = refl
+  line_number d n (Ok line) = refl
 
   module _ (never : (d : S) (r : Request) (at : Field) → (step d r).said ≡ No (BadLine at) → ⊥) where
     -- by what the line says: a step never answers 9
     answered_exactly : (d : S) (n : ℕ) (r : Reading) (at : Field) → ((answered step d n r).told.said ≡ No (BadLine at)) ↔ (refusal_of r ≡ Some (BadLine at))
     unfolding answered
-    answered_exactly d n (Bad field) at = (λ e. let q : field ≡ at = cc in ap (λ f. Some (BadLine f)) q, λ e. let q : field ≡ at = cc in ap (λ f. No (BadLine f)) q)
-    answered_exactly d n (Good l job cell) at = (λ e. absurd (never d (record { kind = byte_of l; job = job; cell = cell }) at e), λ e. let z : ◌≡◌ {A = ℕ} 0 1 = cc in absurd (omega arith))
+    answered_exactly d n (Err field) at = (λ e. let q : field ≡ at = cc in ap (λ f. Some (BadLine f)) q, λ e. let q : field ≡ at = cc in ap (λ f. No (BadLine f)) q)
+    answered_exactly d n (Ok line) at = (λ e. absurd (never d (record { kind = byte_of line.letter; job = line.job; cell = line.cell }) at e), λ e. let z : ◌≡◌ {A = ℕ} 0 1 = cc in absurd (omega arith))
 
     -- a line is answered with 9 and a field exactly where it is bad at that field
     pub line_9_exactly : (d : S) (n : ℕ) (l : List ℕ) (at : Field) → ((line_by step d n l).told.said ≡ No (BadLine at)) ↔ (refusal_of (read_line of_requests l) ≡ Some (BadLine at))

@@ -4,13 +4,12 @@ use Prim.Native.Nat.{ℕ, ◌+◌}
 use mathlib.Core.Path.{◌≡◌, refl, ap, ◌∙◌}
 use mathlib.Core.List.{List, [], ◌∷◌, ◌++◌}
 use lib.Dec.{ltb}
+use Rattle.std.specs.Prelude.{Err, Ok}
 use Rattle.laws.specs.Choice.{by_test}
 use Rattle.terms.specs.Letters.{byte_of, of_requests}
 use Rattle.terms.specs.Limits.{request_lines}
 use Rattle.conflict.specs.History.{History}
-use Rattle.text_rules.specs.declared.Reading.{Reading}
-use Rattle.text_rules.specs.declared.Reading.TheVariants.{Good, Bad}
-use Rattle.text_rules.specs.Lines.{read_line}
+use Rattle.text_rules.specs.Lines.{read_line, Reading}
 use Rattle.text_rules.specs.Split.{lines_of}
 use Rattle.desks.specs.Request.{Request}
 use Rattle.desk_rules.specs.Desk.{fresh_desk}
@@ -33,8 +32,8 @@ module _ {S : Type 0} (step : Stepping S) where
   line_history : (d : S) (n : ℕ) (r : Reading) (rs : List Request) (h : History) → h ≡ writes step (answered step d n r).desk rs →
       let t = (answered step d n r).told in (records_of t.request t.said t.wakes ++ h ≡ writes step d (request_of r ++ rs))
   unfolding answered request_of writes records_by
-  line_history d n (Bad at) rs h e = unfold records_of own_records wake_records in e
-  line_history d n (Good l job cell) rs h e = ap (λ k. records_by step d (record { kind = byte_of l; job = job; cell = cell }) ++ k) e
+  line_history d n (Err at) rs h e = unfold records_of own_records wake_records in e
+  line_history d n (Ok line) rs h e = ap (λ k. records_by step d (record { kind = byte_of line.letter; job = line.job; cell = line.cell }) ++ k) e
 
   -- all lines
   pub run_history : (d : S) (n : ℕ) (ls : List (List ℕ)) → history_of_run (run_of step d n ls) ≡ writes step d (requests_from n ls)
@@ -47,8 +46,8 @@ module _ {S : Type 0} (step : Stepping S) where
   -- the desk after one line: a bad one is no request and changes nothing, and a good one is a step
   line_desk_lem : (d : S) (n : ℕ) (r : Reading) (rs : List Request) → through step (answered step d n r).desk rs ≡ through step d (request_of r ++ rs)
   unfolding answered request_of
-  line_desk_lem d n (Bad at) rs = refl
-  line_desk_lem d n (Good l job cell) rs = refl
+  line_desk_lem d n (Err at) rs = refl
+  line_desk_lem d n (Ok line) rs = refl
 
   -- after all lines
   pub run_desk : (d : S) (n : ℕ) (ls : List (List ℕ)) → desk_over step d n ls ≡ through step d (requests_from n ls)

@@ -6,12 +6,11 @@ use mathlib.Core.List.{List, [], ◌∷◌}
 use native.Mathlib.Omega.{arith}
 use lib.Dec.{ltb}
 use lib.ListN.{length, length-append}
+use Rattle.std.specs.Prelude.{Err, Ok}
 use Rattle.laws.specs.Choice.{by_test}
 use Rattle.terms.specs.Letters.{byte_of, of_requests}
 use Rattle.terms.specs.Limits.{cells, request_lines}
-use Rattle.text_rules.specs.declared.Reading.{Reading}
-use Rattle.text_rules.specs.declared.Reading.TheVariants.{Good, Bad}
-use Rattle.text_rules.specs.Lines.{read_line}
+use Rattle.text_rules.specs.Lines.{read_line, Reading}
 use Rattle.text_rules.specs.Split.{lines_of}
 use Rattle.desks.specs.Request.{Request}
 use Rattle.desks.specs.Stepping.{Stepping}
@@ -29,8 +28,8 @@ module _ {S : Type 0} (step : Stepping S) (waiting : S → ℕ) (few : (d : S) (
   -- the records of a line and the waiters after it are at most one more than the waiters before
   line_few : (d : S) (n : ℕ) (r : Reading) → length (recorded (answered step d n r).told) + waiting (answered step d n r).desk ≤ suc (waiting d)
   unfolding answered records_by
-  line_few d n (Bad at) = omega (arith, ap length (bad_records at))
-  line_few d n (Good l job cell) = few d (record { kind = byte_of l; job = job; cell = cell })
+  line_few d n (Err at) = omega (arith, ap length (bad_records at))
+  line_few d n (Ok line) = few d (record { kind = byte_of line.letter; job = line.job; cell = line.cell })
 
   -- so all lines have at most one record each, plus one for each job that waited before them
   pub run_few : (d : S) (n : ℕ) (ls : List (List ℕ)) → length (history_of_run (run_of step d n ls)) ≤ waiting d + length ls

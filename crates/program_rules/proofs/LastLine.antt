@@ -10,17 +10,16 @@ use lib.Dec.{eqb, ltb, leb}
 use lib.ListN.{take, set}
 use lib.Seq.{take-suc-set}
 use borrow.Author.Tests.{ltb-true}
+use Rattle.std.specs.Prelude.{Err, Ok}
 use Rattle.laws.specs.Choice.{pick, by_test, not_both}
 use Rattle.terms.specs.declared.letters.Letter.{Letter}
 use Rattle.terms.specs.declared.refusals.Field.{Field}
 use Rattle.terms.specs.Letters.{byte_of, has_job, has_cell, of_requests}
 use Rattle.terms.specs.Words.{newline}
 use Rattle.terms.specs.Limits.{request_lines}
-use Rattle.text_rules.specs.declared.Reading.{Reading}
-use Rattle.text_rules.specs.declared.Reading.TheVariants.{Good, Bad}
 use Rattle.text_rules.specs.declared.splitter.Splitter.{Splitter}
 use Rattle.text_rules.specs.Fields.{lacking}
-use Rattle.text_rules.specs.Lines.{read_line}
+use Rattle.text_rules.specs.Lines.{read_line, Reading}
 use Rattle.text_rules.specs.Records.{field, line_record}
 use Rattle.text_rules.specs.Split.{kept, fresh, taken, after_all, Sized, found_at, found_last, has_newline}
 use Rattle.text_rules.proofs.Cuts.{taken_ended}
@@ -39,15 +38,15 @@ last_byte (x ∷ []) b = refl
 last_byte (x ∷ y ∷ l) b = last_byte (y ∷ l) b
 
 -- a good line ends in a newline, so what does not is a bad line
-no_newline_bad : (which : Letter → Bool) (bytes : List ℕ) → has_newline bytes ≡ false → (at : Field) × (read_line which bytes ≡ Bad at)
+no_newline_bad : (which : Letter → Bool) (bytes : List ℕ) → has_newline bytes ≡ false → (at : Field) × (read_line which bytes ≡ Err at)
 no_newline_bad which bytes f = go (read_line which bytes) refl
   where
     ends : (l : Letter) (job cell : ℕ) → has_newline (line_record l job cell) ≡ true
     ends l job cell = unfold line_record in last_byte (byte_of l ∷ (field (has_job l) job ++ field (has_cell l) cell)) newline
 
-    go : (r : Reading) → read_line which bytes ≡ r → (at : Field) × (read_line which bytes ≡ Bad at)
-    go (Good l job cell) e = not_both (ap has_newline (good_is_record which bytes l job cell e).0 ∙ ends l job cell) f
-    go (Bad at) e = (at, e)
+    go : (r : Reading) → read_line which bytes ≡ r → (at : Field) × (read_line which bytes ≡ Err at)
+    go (Ok line) e = not_both (ap has_newline (good_is_record which bytes line.letter line.job line.cell e).0 ∙ ends line.letter line.job line.cell) f
+    go (Err at) e = (at, e)
 
 -- a line under way does not end in a newline
 pub record Open (s : Splitter) : Type 0 where

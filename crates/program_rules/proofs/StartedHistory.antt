@@ -7,13 +7,12 @@ use mathlib.Core.List.{List, [], ◌∷◌, ◌++◌, append_assoc, append-nil}
 use native.Mathlib.Omega.{arith}
 use lib.Dec.{ltb}
 use lib.ListN.{length, length-append}
+use Rattle.std.specs.Prelude.{Err, Ok}
 use Rattle.laws.specs.Choice.{by_test}
 use Rattle.terms.specs.Letters.{byte_of, of_requests}
 use Rattle.terms.specs.Limits.{request_lines}
 use Rattle.conflict.specs.History.{History, line_of}
-use Rattle.text_rules.specs.declared.Reading.{Reading}
-use Rattle.text_rules.specs.declared.Reading.TheVariants.{Good, Bad}
-use Rattle.text_rules.specs.Lines.{read_line}
+use Rattle.text_rules.specs.Lines.{read_line, Reading}
 use Rattle.text_rules.specs.Split.{lines_of}
 use Rattle.terms.specs.declared.refusals.Field.{Field}
 use Rattle.terms.specs.declared.refusals.Refusal.TheVariants.{BadLine}
@@ -45,8 +44,8 @@ bad_records at = refl
 -- one line, on any desk: a bad one changes nothing, and a good one is a step
 pub line_started : {S : Type 0} {does : Stepping S} {new : ℕ → S} {d : S} {h : History} → StartedOn does new d h → (n : ℕ) (r : Reading) → StartedOn does new (answered does d n r).desk (h ++ recorded (answered does d n r).told)
 unfolding answered records_by
-line_started {does = does} {new} {d} {h} s n (Bad at) = subst (StartedOn does new d) (sym (append-nil h) ∙ ap (λ k. h ++ k) (sym (bad_records at))) s
-line_started s n (Good l job cell) = after s (record { kind = byte_of l; job = job; cell = cell })
+line_started {does = does} {new} {d} {h} s n (Err at) = subst (StartedOn does new d) (sym (append-nil h) ∙ ap (λ k. h ++ k) (sym (bad_records at))) s
+line_started s n (Ok line) = after s (record { kind = byte_of line.letter; job = line.job; cell = line.cell })
 
 -- all lines, on any desk: the desk after them is started, and has written what the run shows
 pub run_started : {S : Type 0} {does : Stepping S} {new : ℕ → S} {d : S} {h : History} → StartedOn does new d h → (n : ℕ) (ls : List (List ℕ)) → StartedOn does new (desk_over does d n ls) (h ++ history_of_run (run_of does d n ls))
@@ -61,8 +60,8 @@ module _ {S : Type 0} (step : Stepping S) (next : S → ℕ) (each : (d : S) (r 
   -- the next number grows by the numbers that a line gives, on any desk whose steps give the next number or none
   line_next : (d : S) (n : ℕ) (r : Reading) → let t = (answered step d n r).told in (next (answered step d n r).desk ≡ next d + length (given_by t.request t.said))
   unfolding answered
-  line_next d n (Bad at) = unfold given_by number_in no_request in omega arith
-  line_next d n (Good l job cell) = by_gives (each d (record { kind = byte_of l; job = job; cell = cell }))
+  line_next d n (Err at) = unfold given_by number_in no_request in omega arith
+  line_next d n (Ok line) = by_gives (each d (record { kind = byte_of line.letter; job = line.job; cell = line.cell }))
     where
       by_gives : {ns : List ℕ} {m : ℕ} → Gives (next d) ns m → m ≡ next d + length ns
       by_gives (none_given q e) = rw q (omega (arith, e))

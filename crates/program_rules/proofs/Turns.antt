@@ -8,14 +8,14 @@ use native.Mathlib.Omega.{arith}
 use lib.Dec.{leb}
 use lib.ListN.{length}
 use borrow.Author.Tests.{lt-ltb, le-ltb, leb-true}
+use Rattle.std.specs.Prelude.{Err}
 use Rattle.laws.specs.Choice.{by_test, not_both}
 use Rattle.terms.specs.declared.letters.Letter.{Letter}
 use Rattle.terms.specs.declared.refusals.Field.{Field}
 use Rattle.terms.specs.Letters.{of_requests}
 use Rattle.terms.specs.Limits.{request_lines}
-use Rattle.text_rules.specs.declared.Reading.TheVariants.{Good, Bad}
 use Rattle.text_rules.specs.declared.splitter.Splitter.{Splitter}
-use Rattle.text_rules.specs.Lines.{read_line}
+use Rattle.text_rules.specs.Lines.{read_line, good}
 use Rattle.text_rules.specs.Split.{cut_of, found_at}
 use Rattle.text_rules.specs.Wrote.{Wrote, put_from}
 use Rattle.text_rules.proofs.Cuts.{cut_ahead}
@@ -70,14 +70,14 @@ module _ (view : View) (c : Clerk) (out : List ℕ) (at : ℕ) where
   turn_passes e = rw e
 
   -- a bad line
-  pub turn_bad : {to : ℕ} {after : List ℕ} {field : Field} → due c.splitter ≡ true → read_line of_requests (found_at c.splitter).bytes ≡ Bad field →
+  pub turn_bad : {to : ℕ} {after : List ℕ} {field : Field} → due c.splitter ≡ true → read_line of_requests (found_at c.splitter).bytes ≡ Err field →
       Wrote at to (viewed view (told_bad c.splitter.line field)) out after →
       turning view c out at ≡ record { clerk = c; at = to; out = after }
   unfolding turning answering line_by answered told_bad
   turn_bad e f w = rw (e, f) (turn_is c w)
 
   -- a good line
-  pub turn_good : {l : Letter} {job cell to : ℕ} {o : Stepped Desks} {after : List ℕ} → due c.splitter ≡ true → read_line of_requests (found_at c.splitter).bytes ≡ Good l job cell →
+  pub turn_good : {l : Letter} {job cell to : ℕ} {o : Stepped Desks} {after : List ℕ} → due c.splitter ≡ true → read_line of_requests (found_at c.splitter).bytes ≡ good l job cell →
       o ≡ on_desks c.desks (asked l job cell) → Wrote at to (viewed view (told_by c.splitter.line (asked l job cell) o)) out after →
       turning view c out at ≡ record { clerk = record { desks = o.desk; splitter = c.splitter }; at = to; out = after }
   unfolding turning answering line_by answered

@@ -1,13 +1,11 @@
 -- What a run tells of the lines of its text, line by line, and the requests in the lines (01, Lines; 01, refusal 9).
-use Rattle.std.specs.Prelude.{ℕ, ◌+◌, ◌<◌, ◌≤◌, ◌≡◌, ◌↔◌, List, [], ◌∷◌, ◌++◌, ltb, Some}
+use Rattle.std.specs.Prelude.{ℕ, ◌+◌, ◌<◌, ◌≤◌, ◌≡◌, ◌↔◌, List, [], ◌∷◌, ◌++◌, ltb, Some, Err, Ok}
 use Rattle.laws.specs.Choice.{pick}
 use Rattle.terms.specs.declared.refusals.Field.{Field}
 use Rattle.terms.specs.declared.refusals.Refusal.TheVariants.{BadLine}
 use Rattle.terms.specs.Letters.{of_requests}
 use Rattle.terms.specs.Limits.{request_lines}
-use Rattle.text_rules.specs.declared.Reading.{Reading}
-use Rattle.text_rules.specs.declared.Reading.TheVariants.{Good, Bad}
-use Rattle.text_rules.specs.Lines.{refusal_of, read_line}
+use Rattle.text_rules.specs.Lines.{refusal_of, read_line, Reading}
 use Rattle.desks.specs.declared.Answer.TheVariants.{No}
 use Rattle.desks.specs.Request.{Request}
 use Rattle.program_rules.specs.OverLines.{Told, request_in}
@@ -21,8 +19,8 @@ pub data LinesTold : ℕ → List (List ℕ) → List Told → Type 0 where
 
 -- the request in a line; a bad line has none
 unfoldable pub request_of : Reading → List Request
-request_of (Bad at) = []
-request_of (Good l job cell) = request_in (Good l job cell) ∷ []
+request_of (Err at) = []
+request_of (Ok line) = request_in (Ok line) ∷ []
 
 -- the requests in lines numbered from n on, up to line 1,000,000
 unfoldable pub requests_from : ℕ → List (List ℕ) → List Request

@@ -1,5 +1,5 @@
 -- The run of a desk over lines of text: one definition, with the answers and the history as its two views (01, Lines).
-use Rattle.std.specs.Prelude.{ℕ, ◌+◌, List, [], ◌∷◌, ◌++◌, ltb, Option, None, Some}
+use Rattle.std.specs.Prelude.{ℕ, ◌+◌, List, [], ◌∷◌, ◌++◌, ltb, Option, None, Some, Err, Ok}
 use Rattle.laws.specs.Choice.{pick}
 use Rattle.terms.specs.declared.letters.Letter.{Letter}
 use Rattle.terms.specs.declared.words.Word.TheVariants.{Wake}
@@ -7,9 +7,7 @@ use Rattle.terms.specs.declared.refusals.Refusal.{Refusal}
 use Rattle.terms.specs.Letters.{byte_of, of_requests}
 use Rattle.terms.specs.Limits.{request_lines}
 use Rattle.conflict.specs.declared.action.Action.{Action}
-use Rattle.text_rules.specs.declared.Reading.{Reading}
-use Rattle.text_rules.specs.declared.Reading.TheVariants.{Good, Bad}
-use Rattle.text_rules.specs.Lines.{refusal_of, read_line}
+use Rattle.text_rules.specs.Lines.{refusal_of, read_line, Reading}
 use Rattle.text_rules.specs.Records.{answer_record}
 use Rattle.desks.specs.declared.Answer.{Answer}
 use Rattle.desks.specs.declared.Answer.TheVariants.{No}
@@ -41,8 +39,8 @@ asked l job cell = record { kind = byte_of l; job = job; cell = cell }
 
 -- the request in a line; a bad line has none
 abbrev pub request_in : Reading → Request
-request_in (Bad at) = no_request
-request_in (Good l job cell) = asked l job cell
+request_in (Err at) = no_request
+request_in (Ok line) = asked line.letter line.job line.cell
 
 -- what is known of a line whose request led to this step
 abbrev pub told_by : {S : Type 0} → ℕ → Request → Stepped S → Told

@@ -4,11 +4,13 @@ use Prim.Native.Nat.{ℕ}
 use mathlib.Core.Path.{◌≡◌, refl, sym, subst, ◌∙◌, fun_ext}
 use mathlib.Core.List.{[], ◌++◌}
 use lib.ListN.{length, get_or, length-set, length-replicate, replicate}
+use Rattle.std.specs.Prelude.{Result, Ok, Err}
 use Rattle.laws.proofs.Copies.{copies_at}
 use Rattle.terms.specs.declared.letters.Ask.{Ask}
 use Rattle.terms.specs.declared.letters.Ask.TheVariants.{Read, Write, Increment, Update}
 use Rattle.terms.specs.Letters.{letter_of}
 use Rattle.terms.specs.Limits.{places, cells}
+use Rattle.terms.specs.declared.refusals.Refusal.{Refusal}
 use Rattle.conflict.specs.History.{History}
 use Rattle.desks.specs.Request.{Request}
 use Rattle.desks.specs.Records.{records_of, records_by}
@@ -21,7 +23,7 @@ use Rattle.stamp_rules.specs.Faithful.{Faithful}
 use Rattle.stamp_rules.proofs.Kept.{started_seats}
 use Rattle.stamp_arrays.specs.declared.state.Stamps.{Stamps}
 use Rattle.stamp_arrays.specs.declared.moves.Move.{Move}
-use Rattle.stamp_arrays.specs.declared.moves.Move.TheVariants.{Refuse, Begin, Close, SendBack, Act}
+use Rattle.stamp_arrays.specs.declared.moves.Move.TheVariants.{Begin, Close, SendBack, Act}
 use Rattle.stamp_arrays.specs.Steps.{empty_stamps, readers_after, writers_after, carried, move_of, step_of}
 use Rattle.stamp_arrays.specs.Seen.{view, on_stamps, Started}
 use Rattle.stamp_arrays.proofs.Tied.{Plain, letter_tied}
@@ -37,13 +39,13 @@ unfolding empty_stamps
 fresh_plain n = record { numbers = length-replicate {A = ℕ} places 0; readers = length-replicate {A = ℕ} cells 0; writers = length-replicate {A = ℕ} cells 0 }
 
 -- a move leaves as many
-plain_kept : (d : Stamps) → Plain d → (job c : ℕ) (m : Move) → Plain (carried d job c m)
+plain_kept : (d : Stamps) → Plain d → (job c : ℕ) (m : Result Move Refusal) → Plain (carried d job c m)
 unfolding carried
-plain_kept d p job c (Refuse why) = p
-plain_kept d p job c (Begin q n) = record { numbers = length-set d.number q n ∙ p.numbers; readers = p.readers; writers = p.writers }
-plain_kept d p job c (Close q) = record { numbers = length-set d.number q 0 ∙ p.numbers; readers = p.readers; writers = p.writers }
-plain_kept d p job c (SendBack q) = record { numbers = length-set d.number q 0 ∙ p.numbers; readers = p.readers; writers = p.writers }
-plain_kept d p job c (Act a) = record { numbers = p.numbers; readers = many_readers a ∙ p.readers; writers = many_writers a ∙ p.writers }
+plain_kept d p job c (Err why) = p
+plain_kept d p job c (Ok (Begin q n)) = record { numbers = length-set d.number q n ∙ p.numbers; readers = p.readers; writers = p.writers }
+plain_kept d p job c (Ok (Close q)) = record { numbers = length-set d.number q 0 ∙ p.numbers; readers = p.readers; writers = p.writers }
+plain_kept d p job c (Ok (SendBack q)) = record { numbers = length-set d.number q 0 ∙ p.numbers; readers = p.readers; writers = p.writers }
+plain_kept d p job c (Ok (Act a)) = record { numbers = p.numbers; readers = many_readers a ∙ p.readers; writers = many_writers a ∙ p.writers }
   where
     many_readers : (a : Ask) → length (readers_after d.reader c job a) ≡ length d.reader
     many_readers Read = unfold readers_after in length-set d.reader c _

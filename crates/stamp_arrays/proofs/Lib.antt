@@ -1,7 +1,6 @@
 pub mod Tied
 pub mod Faithful
 pub mod Starting
-pub mod Starts
 pub mod StampPromises
 pub mod ExactRefusals
 pub mod Unique

@@ -4,6 +4,7 @@ use Prim.Native.Nat.{ℕ, ◌≤◌}
 use mathlib.Core.Path.{◌≡◌, refl, sym, ap, ◌∙◌}
 use mathlib.Core.List.{[]}
 use lib.Dec.{eqb}
+use Rattle.std.specs.Prelude.{Result, Ok, Err}
 use Rattle.laws.specs.Choice.{by_test}
 use Rattle.terms.specs.declared.refusals.Refusal.{Refusal}
 use Rattle.terms.specs.declared.refusals.Refusal.TheVariants.{StartedAtZero}
@@ -13,15 +14,13 @@ use Rattle.desks.specs.Start as desks
 use Rattle.desks.specs.Start.{ready, refusing, start_at}
 use Rattle.desks.proofs.Starting.{start_refused_when, start_started}
 use Rattle.stamp_arrays.specs.declared.state.Stamps.{Stamps}
-use Rattle.stamp_arrays.specs.declared.state.Start.{Start}
-use Rattle.stamp_arrays.specs.declared.state.Start.TheVariants.{Ready, Refused}
 use Rattle.stamp_arrays.specs.Steps.{empty_stamps, start_of}
 use Rattle.stamp_arrays.specs.Seen.{on_stamps, Started}
 
 -- the code's start as any desk's
-abbrev pub as_any : Start → desks.Start Stamps
-as_any (Ready d) = ready d
-as_any (Refused why) = refusing why
+abbrev pub as_any : Result Stamps Refusal → desks.Start Stamps
+as_any (Ok d) = ready d
+as_any (Err why) = refusing why
 
 -- a start is that of every desk: 10 at 0, and else the empty desk whose next number is the one given
 pub stamps_start : (n : ℕ) → as_any (start_of n) ≡ start_at empty_stamps n
@@ -29,19 +28,19 @@ unfolding start_of start_at
 stamps_start n = by_test (eqb n 0) (λ t. rw t) (λ f. rw f)
 
 -- a desk started at 0 is refused with 10, and there is no desk (01, refusal 10)
-pub stamps_start_at_zero : (start_of 0 ≡ Refused StartedAtZero) × (number_of StartedAtZero ≡ 10)
+pub stamps_start_at_zero : (start_of 0 ≡ Err StartedAtZero) × (number_of StartedAtZero ≡ 10)
 unfolding start_of
 stamps_start_at_zero = (refl, refl)
 
 -- a start is refused only at 0, and only by refusal 10
-pub stamps_start_refused_when : (n : ℕ) (why : Refusal) → start_of n ≡ Refused why → (n ≡ 0) × (why ≡ StartedAtZero)
+pub stamps_start_refused_when : (n : ℕ) (why : Refusal) → start_of n ≡ Err why → (n ≡ 0) × (why ≡ StartedAtZero)
 stamps_start_refused_when n why e = start_refused_when empty_stamps n why (sym (stamps_start n) ∙ ap as_any e)
 
 -- a desk that is handed out at a number up to 4,294,967,295 is a started one with an empty history
-pub stamps_start_started : (n : ℕ) (d : Stamps) → n ≤ last_number → start_of n ≡ Ready d → Started d []
+pub stamps_start_started : (n : ℕ) (d : Stamps) → n ≤ last_number → start_of n ≡ Ok d → Started d []
 stamps_start_started n d last e = start_started empty_stamps on_stamps n d last (sym (stamps_start n) ∙ ap as_any e)
 
 -- the desk handed out at 1
-pub stamps_first : {d : Stamps} → Ready d ≡ start_of 1 → d ≡ empty_stamps 1
+pub stamps_first : {d : Stamps} → Ok d ≡ start_of 1 → d ≡ empty_stamps 1
 unfolding start_of
-stamps_first {d} e = let q : Ready d ≡ Ready (empty_stamps 1) = e in cc
+stamps_first {d} e = let q : ◌≡◌ {A = Result Stamps Refusal} (Ok d) (Ok (empty_stamps 1)) = e in cc

@@ -1,6 +1,5 @@
 -- One step over the arrays is the step of the request's desk that they show, letter by letter (02, No. 6).
 -- Assumes nothing.
-use Rattle.std.specs.Prelude.{Option, None, Some}
 use Prim.Native.Nat.{ℕ, ◌<◌}
 use mathlib.Core.Path.{◌≡◌, refl, sym, ap, ◌∙◌, fun_ext}
 use mathlib.Core.Bool.{true, false, not, ◌&&◌}
@@ -10,6 +9,7 @@ use lib.Dec.{eqb, ltb}
 use lib.ListN.{length, get_or, set}
 use lib.Seq.{get_or-set_same, get_or-set_other}
 use borrow.Author.Tests.{eqb-false, ltb-true}
+use Rattle.std.specs.Prelude.{Option, Some, None, Result, Ok}
 use Rattle.laws.specs.Choice.{by_test, not_both}
 use Rattle.laws.specs.Functions.{at}
 use Rattle.laws.specs.Larger.{larger}
@@ -20,6 +20,7 @@ use Rattle.terms.specs.declared.letters.Letter.{Letter}
 use Rattle.terms.specs.declared.letters.Ask.{Ask}
 use Rattle.terms.specs.declared.letters.Ask.TheVariants.{Read, Write, Increment, Update}
 use Rattle.terms.specs.declared.letters.Letter.TheVariants.{Begin as begins, Commit, GiveUp, Retry, Back as no-request, Asks}
+use Rattle.terms.specs.declared.refusals.Refusal.{Refusal}
 use Rattle.terms.specs.Limits.{places, cells, last_number}
 use Rattle.desks.specs.Begin.{refused, beginning}
 use Rattle.desks.specs.Opening.{opening_of}
@@ -29,13 +30,11 @@ use Rattle.desks.specs.Stepping.{Stepped}
 use Rattle.desks.specs.Course.{shown}
 use Rattle.desks.proofs.Places.{seated_set, vacated_set}
 use Rattle.desks.proofs.Seats.{place_found}
-use Rattle.stamp_rules.specs.Desk as paper
 use Rattle.stamp_rules.specs.Desk.{is_open}
 use Rattle.stamp_rules.specs.Rules.{late_to_read, late_to_write, late, has_read, has_written, done, close, ask, begin}
 use Rattle.stamp_rules.specs.Step.{step_begin, step_close, step_retry, step_ask, step_by}
 use Rattle.stamp_arrays.specs.declared.state.Stamps.{Stamps}
 use Rattle.desks.specs.declared.Answer.TheVariants.{Go, Back}
-use Rattle.stamp_arrays.specs.declared.moves.Found.TheVariants.{At, Nowhere}
 use Rattle.stamp_arrays.specs.declared.moves.Move.{Move}
 use Rattle.stamp_arrays.specs.declared.moves.Move.TheVariants.{SendBack, Act}
 use Rattle.stamp_arrays.specs.Steps.{late_with, opened, begin_move, found_at, close_move, retry_move, act_move, ask_move, move_for, readers_after, writers_after, carried, answer_to}
@@ -48,7 +47,7 @@ pub record Plain (d : Stamps) : Type 0 where
   pub writers : length d.writer ≡ cells
 
 -- what a move leaves and says
-abbrev pub told : Stamps → ℕ → ℕ → Move → Stepped Stamps
+abbrev pub told : Stamps → ℕ → ℕ → Result Move Refusal → Stepped Stamps
 told d job c m = record { desk = carried d job c m; said = answer_to m job; wakes = [] }
 
 -- one number of an array changes: so what is read off it changes at that number alone
@@ -83,12 +82,12 @@ module _ (d : Stamps) (p : Plain d) where
     found_seat = ap (ltb (pos d.number job)) (sym p.numbers) ∙ place_found d.number job
 
     -- an open job is found at its place
-    found_open : is_open (view d) job ≡ true → found_at d.number job ≡ At (pos d.number job)
+    found_open : is_open (view d) job ≡ true → found_at d.number job ≡ Some (pos d.number job)
     unfolding found_at
     found_open o = let s = open_place o in rw (s.0, found_seat, s.1)
 
     -- and any other nowhere
-    found_closed : is_open (view d) job ≡ false → found_at d.number job ≡ Nowhere
+    found_closed : is_open (view d) job ≡ false → found_at d.number job ≡ None
     unfolding found_at is_open
     found_closed n = by_test (eqb job 0) (λ t. rw t) (λ f. rw (f, found_seat, sym (ap (λ b. not b && member job d.number) f) ∙ n))
 
@@ -107,7 +106,7 @@ module _ (d : Stamps) (p : Plain d) where
     retry_tied c = by_test (is_open (view d) job) (λ o. rw (o, found_open o)) (λ n. rw (n, found_closed n))
 
     -- what a job that goes leaves of the cells' numbers
-    act_tied : (c : ℕ) → c < cells → (a : Ask) → view (carried d job c (Act a)) ≡ done (view d) job c a
+    act_tied : (c : ℕ) → c < cells → (a : Ask) → view (carried d job c (Ok (Act a))) ≡ done (view d) job c a
     unfolding carried readers_after writers_after done has_read has_written
     act_tied c h Read = rw (read_set d.reader c (larger (get_or d.reader c 0) job) (rw p.readers h))
     act_tied c h Write = rw (read_set d.writer c job (rw p.writers h))
@@ -124,10 +123,10 @@ module _ (d : Stamps) (p : Plain d) where
         (λ f. rw f (unfold carried answer_to in refl))))
         (λ n. rw (n, found_closed n) (unfold carried answer_to in refl))
       where
-        back_tied : is_open (view d) job ≡ true → shown view (told d job c (SendBack (pos d.number job))) ≡ close (view d) job (Back job)
+        back_tied : is_open (view d) job ≡ true → shown view (told d job c (Ok (SendBack (pos d.number job)))) ≡ close (view d) job (Back job)
         back_tied o = unfold carried answer_to close in rw (left_place once o)
 
-        gone_tied : c < cells → shown view (told d job c (Act a)) ≡ record { desk = done (view d) job c a; said = Go job; wakes = [] }
+        gone_tied : c < cells → shown view (told d job c (Ok (Act a))) ≡ record { desk = done (view d) job c a; said = Go job; wakes = [] }
         gone_tied h = unfold answer_to in rw (act_tied c h a)
 
   -- every request, by its letter

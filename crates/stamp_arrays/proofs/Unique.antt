@@ -10,9 +10,10 @@ use types.Logic.{Logic}
 use contract.Lifetimes.{Lfts}
 use contract.Monad.{Fun, fact}
 use denote.Triple.Both.{Both}
+use Rattle.std.specs.Prelude.{Result, Ok}
 use Rattle.laws.specs.Unique.{Unique}
-use Rattle.stamp_arrays.specs.declared.state.Start.{Start}
-use Rattle.stamp_arrays.specs.declared.state.Start.TheVariants.{Ready}
+use Rattle.terms.specs.declared.refusals.Refusal.{Refusal}
+use Rattle.stamp_arrays.specs.declared.state.Stamps.{Stamps}
 use Rattle.stamp_arrays.specs.Steps.{start_of}
 use Rattle.stamp_arrays.specs.contracts.state.Stamps.start as start
 use Rattle.stamp_arrays.proofs.state.Stamps.first.Reads as first
@@ -20,8 +21,8 @@ use Rattle.stamp_arrays.proofs.state.Stamps.first.Kinds as firstK
 
 -- Over the clauses of `start` as they are read off the source: its one clause says that the result is `start_of` of the number, and so there is no second one
 pub start_unique : {M : Type 1} {𝓤 : Ura M} (𝓛 : Logic 𝓤) (κs : Lfts 0) (mem : Memory → SProp 𝓤) (run : Routine → Fun 𝓤) (n : ℕ) (both : Both ℕ ℕ)
-    → ((r : Start) → start.ensures-1 𝓛 κs mem run n both r ≡ fact 𝓤 (r ≡ start_of n)) × ((x y : Start) → x ≡ start_of n → y ≡ start_of n → x ≡ y)
+    → ((r : Result Stamps Refusal) → start.ensures-1 𝓛 κs mem run n both r ≡ fact 𝓤 (r ≡ start_of n)) × ((x y : Result Stamps Refusal) → x ≡ start_of n → y ≡ start_of n → x ≡ y)
 start_unique 𝓛 κs mem run n both = (λ r. refl, λ x y p q. p ∙ sym q)
 
 pub first_unique : Unique firstK.ps firstK.r first.Post
-first_unique κs a x y e f p q = let h : Ready x ≡ Ready y = p ∙ sym q in cc
+first_unique κs a x y e f p q = let h : ◌≡◌ {A = Result Stamps Refusal} (Ok x) (Ok y) = p ∙ sym q in cc

@@ -1,12 +1,9 @@
 // What a step of the timestamp desk is to do, decided before anything changes (02, No. 6).
 use terms::letters::Ask;
-use terms::refusals::Refusal;
 
-// Refuse, open a place for a new number, close the job at a place, send it back, or let it act on the cell as it asked.
+// Open a place for a new number, close the job at a place, send it back, or let it act on the cell as it asked.
 #[derive(Clone, Copy)]
 pub enum Move {
-    // change nothing, and tell why
-    Refuse(Refusal),
     // a place gets a number
     Begin(usize, u32),
     // the job at a place is closed, by commit or give-up
@@ -15,13 +12,4 @@ pub enum Move {
     SendBack(usize),
     // the job goes on, and the cell's numbers record it
     Act(Ask),
-}
-
-// Where an open job stands; nowhere, if the job is not open.
-#[derive(Clone, Copy)]
-pub enum Found {
-    // at a place
-    At(usize),
-    // nowhere: the job is not open
-    Nowhere,
 }

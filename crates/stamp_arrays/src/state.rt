@@ -1,6 +1,5 @@
 // The timestamp desk's arrays, what a step leaves and says, and how a desk is started (02, No. 6; 01, Jobs and their numbers).
 ghost use Rattle.std.specs.Prelude.{◌≡◌};
-ghost use Rattle.stamp_arrays.specs.declared.state.Start.TheVariants.{Ready};
 ghost use Rattle.stamp_arrays.specs.Steps.{empty_stamps, start_of};
 
 use desks::Answer;
@@ -12,6 +11,7 @@ pub const ROWS: usize = CELLS as usize;
 
 // The timestamp desk: the next number; for each place the job's number, 0 if the place is free;
 // and for each cell the largest number that read it and the largest that wrote it.
+// These are arrays of plain numbers, each of its own, since the C exports of `tuyenlomac` lend them so.
 #[derive(Clone, Copy)]
 pub struct Stamps {
     pub next: u64,
@@ -25,15 +25,6 @@ pub struct Stamps {
 pub struct Stamped {
     pub stamps: Stamps,
     pub answer: Answer,
-}
-
-// A started timestamp desk, or why there is none.
-#[derive(Clone, Copy)]
-pub enum Start {
-    // started
-    Ready(Stamps),
-    // not started: refusal 10
-    Refused(Refusal),
 }
 
 impl Stamps {
@@ -52,19 +43,19 @@ impl Stamps {
 
     // The desk started at this first number; 0 is refused, with no desk (01, refusal 10).
     #[tactic(auto, unfolding(crate::specs::Steps::start_of))]
-    pub fn start(first: u32) -> Start
+    pub fn start(first: u32) -> Result<Stamps, Refusal>
         ensures { result ≡ start_of first }
     {
         if first == 0 {
-            return Start::Refused(Refusal::StartedAtZero);
+            return Err(Refusal::StartedAtZero);
         }
-        Start::Ready(Stamps::empty(first))
+        Ok(Stamps::empty(first))
     }
 
     // The desk started at 1, the smallest first number; this never fails.
     #[tactic(auto, unfolding(crate::specs::Steps::start_of))]
     pub fn first() -> Stamps
-        ensures { Ready result ≡ start_of 1 }
+        ensures { Ok result ≡ start_of 1 }
     {
         Stamps::empty(1)
     }

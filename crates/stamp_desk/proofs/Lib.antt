@@ -1,3 +1,2 @@
-pub mod Late
 pub mod Performed
 pub mod StepUnique

@@ -9,6 +9,8 @@ use Rattle.stamp_desk.proofs.step.step.Reads as step
 use Rattle.stamp_desk.proofs.step.step.Kinds as stepK
 use Rattle.stamp_desk.proofs.step.step_on.Reads as step_on
 use Rattle.stamp_desk.proofs.step.step_on.Kinds as step-onK
+use Rattle.stamp_desk.proofs.step.step_in.Reads as step-in
+use Rattle.stamp_desk.proofs.step.step_in.Kinds as step-inK
 use Rattle.stamp_desk.proofs.step.step_for.Reads as step-for
 use Rattle.stamp_desk.proofs.step.step_for.Kinds as step-forK
 
@@ -20,6 +22,9 @@ step_for_unique κs a x y e f p q = (p.said ∙ sym q.said, p.desk ∙ sym q.des
 
 pub step_on_unique : UniqueLent step-onK.ps step-onK.r step_on.Post (λ κs e. stamps_of e.0.now e.1.0.now e.1.1.0.now e.1.1.1.0.now)
 step_on_unique κs a x y e f p q = (p.said ∙ sym q.said, p.desk ∙ sym q.desk)
+
+pub step_in_unique : UniqueLent step-inK.ps step-inK.r step-in.Post (λ κs e. e.0.now)
+step_in_unique κs a x y e f p q = (p.said ∙ sym q.said, p.desk ∙ sym q.desk)
 
 pub step_unique : Unique stepK.ps stepK.r step.Post
 step_unique κs a x y e f p q = p ∙ sym q

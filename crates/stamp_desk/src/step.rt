@@ -1,12 +1,12 @@
 // One step of the timestamp desk: carries out the plan on the desk, in place (02, No. 6).
-ghost use Rattle.std.specs.Prelude.{◌<◌, ◌≡◌, length, get_or, set};
+ghost use Rattle.std.specs.Prelude.{◌<◌, ◌≡◌, get_or, set};
 ghost use Rattle.laws.specs.Larger.{larger};
 ghost use Rattle.terms.specs.Letters.{byte_of};
-ghost use Rattle.terms.specs.Limits.{cells, places};
-ghost use Rattle.stamp_arrays.specs.Steps.{stamps_of, readers_after, writers_after, step_of};
-ghost use Rattle.stamp_desk.specs.InPlace.{StepsTo};
+ghost use Rattle.terms.specs.Limits.{cells};
+ghost use Rattle.stamp_arrays.specs.Steps.{stamps_of, readers_after, writers_after, carried, answer_to, step_of};
+ghost use Rattle.stamp_desk.specs.InPlace.{Fits, StepsTo};
 
-use crate::plan::plan_for;
+use crate::plan::{Board, plan_for};
 use desks::Answer;
 use stamp_arrays::moves::Move;
 use stamp_arrays::state::{ROWS, Stamped, Stamps};
@@ -14,30 +14,13 @@ use terms::letters::{Ask, Letter, letter_of};
 use terms::limits::PLACES;
 use terms::refusals::Refusal;
 
-// Called for its contract alone: each array has an entry for each place or cell, which a lent array does not say by itself.
-fn sized(number: [u32; PLACES], reader: [u32; ROWS], writer: [u32; ROWS]) -> bool
-    ensures { (length number ≡ places) × (length reader ≡ cells) × (length writer ≡ cells) }
-{
-    true
-}
-
-// The larger of two numbers.
-#[tactic(auto, unfolding(laws::specs::Larger::larger))]
-fn larger_of(m: u32, n: u32) -> u32
-    ensures { result ≡ larger m n }
-{
-    if m < n {
-        return n;
-    }
-    m
-}
-
 // Records that a job has read the cell.
+#[tactic(auto, unfolding(laws::specs::Larger::larger))]
 fn mark_read(reader: &mut [u32; ROWS], c: usize, job: u32)
     requires { c < cells }
     ensures { reader.new ≡ set reader.old c (larger (get_or reader.old c 0) job) }
 {
-    reader[c] = larger_of(reader[c], job);
+    reader[c] = reader[c].max(job);
 }
 
 // Updates the reader numbers after a job has acted on the cell.
@@ -47,10 +30,8 @@ fn mark_reader(reader: &mut [u32; ROWS], c: usize, job: u32, a: Ask)
     ensures { reader.new ≡ readers_after reader.old c job a }
 {
     match a {
-        Ask::Read => mark_read(reader, c, job),
+        Ask::Read | Ask::Increment | Ask::Update => mark_read(reader, c, job),
         Ask::Write => {}
-        Ask::Increment => mark_read(reader, c, job),
-        Ask::Update => mark_read(reader, c, job),
     }
 }
 
@@ -61,18 +42,52 @@ fn mark_writer(writer: &mut [u32; ROWS], c: usize, job: u32, a: Ask)
     ensures { writer.new ≡ writers_after writer.old c job a }
 {
     match a {
-        Ask::Read => {}
-        Ask::Write => {
-            writer[c] = job;
-        }
-        Ask::Increment => {
-            writer[c] = job;
-        }
-        Ask::Update => {}
+        Ask::Write | Ask::Increment => writer[c] = job,
+        Ask::Read | Ask::Update => {}
     }
 }
 
-// One step by letter, job and cell, on the desk's fields, each lent and changed in place.
+// Carries out a move on the desk's fields, as `step_for` has them, and gives the answer that goes with it; a refusal changes nothing.
+#[tactic(auto, unfolding(stamp_arrays::specs::Steps::carried, stamp_arrays::specs::Steps::answer_to))]
+fn carry_out(
+    next: &mut u64,
+    number: &mut [u32; PLACES],
+    reader: &mut [u32; ROWS],
+    writer: &mut [u32; ROWS],
+    m: Result<Move, Refusal>,
+    job: u32,
+    cell: u32,
+) -> Answer
+    requires { Fits cell m }
+    ensures desk { stamps_of next.new number.new reader.new writer.new ≡ carried (stamps_of next.old number.old reader.old writer.old) job cell m }
+    ensures said { result ≡ answer_to m job }
+{
+    match m {
+        Err(why) => Answer::No(why),
+        Ok(Move::Begin(p, new)) => {
+            *next = new as u64 + 1;
+            number[p] = new;
+            Answer::Go(new)
+        }
+        Ok(Move::Close(p)) => {
+            number[p] = 0;
+            Answer::Go(job)
+        }
+        Ok(Move::SendBack(p)) => {
+            number[p] = 0;
+            Answer::Back(job)
+        }
+        Ok(Move::Act(a)) => {
+            let c = cell as usize;
+            mark_reader(reader, c, job, a);
+            mark_writer(writer, c, job, a);
+            Answer::Go(job)
+        }
+    }
+}
+
+// One step by letter, job and cell, on the desk's fields. They are lent one by one, since the C exports of `tuyenlomac` lend them so.
+#[tactic(auto, using(crate::proofs::Performed::plan_fits, crate::proofs::Performed::steps))]
 pub fn step_for(
     next: &mut u64,
     number: &mut [u32; PLACES],
@@ -84,33 +99,17 @@ pub fn step_for(
 ) -> Answer
     ensures { StepsTo (stamps_of next.old number.old reader.old writer.old) (byte_of letter) job cell (stamps_of next.new number.new reader.new writer.new) result }
 {
-    sized(*number, *reader, *writer);
-    let m = plan_for(*next, number, reader, writer, letter, job, cell);
-    match m {
-        Move::Refuse(why) => Answer::No(why),
-        Move::Begin(p, new) => {
-            *next = new as u64 + 1;
-            number[p] = new;
-            Answer::Go(new)
-        }
-        Move::Close(p) => {
-            number[p] = 0;
-            Answer::Go(job)
-        }
-        Move::SendBack(p) => {
-            number[p] = 0;
-            Answer::Back(job)
-        }
-        Move::Act(a) => {
-            let c = cell as usize;
-            mark_reader(reader, c, job, a);
-            mark_writer(writer, c, job, a);
-            Answer::Go(job)
-        }
-    }
+    let board = Board {
+        next: *next,
+        number,
+        reader,
+        writer,
+    };
+    let m = plan_for(board, letter, job, cell);
+    carry_out(next, number, reader, writer, m, job, cell)
 }
 
-// The same by a byte; a byte of no letter is refused.
+// The same by a byte; a byte of no letter is refused. The fields are lent one by one for the same reason.
 #[tactic(auto, using(crate::proofs::Performed::by_letter, crate::proofs::Performed::refused_byte))]
 pub fn step_on(
     next: &mut u64,
@@ -129,29 +128,29 @@ pub fn step_on(
     }
 }
 
-// The same by value: takes the desk, and returns the new desk and the answer.
-#[tactic(auto, using(crate::proofs::Performed::step_whole))]
-pub fn step(d: Stamps, kind: u8, job: u32, cell: u32) -> Stamped
-    ensures { result ≡ step_of d kind job cell }
+// One step by letter, job and cell, on a whole desk that is lent and changed in place.
+pub fn step_in(d: &mut Stamps, letter: Letter, job: u32, cell: u32) -> Answer
+    ensures { StepsTo d.old (byte_of letter) job cell d.new result }
 {
-    let mut next = d.next;
-    let mut number = d.number;
-    let mut reader = d.reader;
-    let mut writer = d.writer;
-    let answer = step_on(
-        &mut next,
-        &mut number,
-        &mut reader,
-        &mut writer,
-        kind,
+    step_for(
+        &mut d.next,
+        &mut d.number,
+        &mut d.reader,
+        &mut d.writer,
+        letter,
         job,
         cell,
-    );
-    let stamps = Stamps {
-        next,
-        number,
-        reader,
-        writer,
+    )
+}
+
+// One step by value, by a byte: takes the desk, and returns the new desk and the answer.
+#[tactic(auto, using(crate::proofs::Performed::by_letter, crate::proofs::Performed::refused_byte))]
+pub fn step(mut d: Stamps, kind: u8, job: u32, cell: u32) -> Stamped
+    ensures { result ≡ step_of d kind job cell }
+{
+    let answer = match letter_of(kind) {
+        None => Answer::No(Refusal::UnknownKind),
+        Some(l) => step_in(&mut d, l, job, cell),
     };
-    Stamped { stamps, answer }
+    Stamped { stamps: d, answer }
 }

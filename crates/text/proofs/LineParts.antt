@@ -1,6 +1,6 @@
 -- A line is read part by part, as the code reads it: its first letter, then the job and the cell found at their places.
 -- Assumes nothing.
-use Rattle.std.specs.Prelude.{Option, None, Some}
+use Rattle.std.specs.Prelude.{Option, None, Some, Err}
 use Prim.Native.Nat.{ℕ}
 use mathlib.Core.Path.{◌≡◌, refl, sym, ap, ◌∙◌}
 use mathlib.Core.Bool.{Bool, true, false}
@@ -15,39 +15,36 @@ use Rattle.terms.specs.declared.letters.Letter.{Letter}
 use Rattle.terms.specs.declared.refusals.Field.TheVariants.{First, Second, Third}
 use Rattle.terms.specs.Letters.{letter_of, has_job, has_cell}
 use Rattle.terms.specs.Limits.{last_number}
-use Rattle.text_rules.specs.declared.Reading.{Reading}
-use Rattle.text_rules.specs.declared.Reading.TheVariants.{Good, Bad}
 use Rattle.text_rules.specs.declared.Numeral.{Numeral}
-use Rattle.text_rules.specs.declared.Numeral.TheVariants.{Is, Missing}
-use Rattle.text_rules.specs.Lines.{parts, field_ahead, after_field, ending, last_cell, cell_part, job_part, letter_in, letter_part, read_line}
-use Rattle.text_rules.specs.Fields.{end_ahead, first_letter, number_at}
+use Rattle.text_rules.specs.Lines.{parts, field_ahead, after_field, ending, last_cell, cell_part, job_part, letter_in, letter_part, read_line, Reading, good}
+use Rattle.text_rules.specs.Fields.{end_ahead, first_letter, number_at, number}
 use Rattle.text_rules.proofs.FieldParts.{field_none}
 use Rattle.text.proofs.NumberFields.{going_on, field_at}
 
 -- a line that has a cell
-pub cell_read : (l : Letter) (job at v next : ℕ) (line : List ℕ) (n : Numeral) (r : Reading) → has_cell l ≡ true → n ≡ number_at last_cell at (drop at line) → n ≡ Is v next → r ≡ ending (drop next line) (Good l job v) → r ≡ cell_part l job (drop at line)
+pub cell_read : (l : Letter) (job at v next : ℕ) (line : List ℕ) (n : Option Numeral) (r : Reading) → has_cell l ≡ true → n ≡ number_at last_cell at (drop at line) → n ≡ number v next → r ≡ ending (drop next line) (good l job v) → r ≡ cell_part l job (drop at line)
 unfolding cell_part going_on
 cell_read l job at v next line n r h e f g =
-    rw h (g ∙ sym (ap (going_on line Third (λ cell rest. ending rest (Good l job cell))) (sym e ∙ f)) ∙ field_at last_cell Third at line _)
+    rw h (g ∙ sym (ap (going_on line Third (λ cell rest. ending rest (good l job cell))) (sym e ∙ f)) ∙ field_at last_cell Third at line _)
 
 -- a line that lacks its cell
-pub cell_missing : (l : Letter) (job at : ℕ) (line : List ℕ) (n : Numeral) → has_cell l ≡ true → n ≡ number_at last_cell at (drop at line) → n ≡ Missing → Bad Third ≡ cell_part l job (drop at line)
+pub cell_missing : (l : Letter) (job at : ℕ) (line : List ℕ) (n : Option Numeral) → has_cell l ≡ true → n ≡ number_at last_cell at (drop at line) → n ≡ None → Err Third ≡ cell_part l job (drop at line)
 unfolding cell_part going_on
 cell_missing l job at line n h e f =
-    rw h (sym (ap (going_on line Third (λ cell rest. ending rest (Good l job cell))) (sym e ∙ f)) ∙ field_at last_cell Third at line _)
+    rw h (sym (ap (going_on line Third (λ cell rest. ending rest (good l job cell))) (sym e ∙ f)) ∙ field_at last_cell Third at line _)
 
 -- a line that has no cell
-pub cell_none : (l : Letter) (job at : ℕ) (line : List ℕ) (r : Reading) → has_cell l ≡ false → r ≡ ending (drop at line) (Good l job 0) → r ≡ cell_part l job (drop at line)
+pub cell_none : (l : Letter) (job at : ℕ) (line : List ℕ) (r : Reading) → has_cell l ≡ false → r ≡ ending (drop at line) (good l job 0) → r ≡ cell_part l job (drop at line)
 unfolding cell_part
 cell_none l job at line r h g = rw h g
 
 -- a line that has a job
-pub job_read : (l : Letter) (v next : ℕ) (line : List ℕ) (n : Numeral) (r : Reading) → has_job l ≡ true → n ≡ number_at last_number 1 (drop 1 line) → n ≡ Is v next → r ≡ cell_part l v (drop next line) → r ≡ job_part l (drop 1 line)
+pub job_read : (l : Letter) (v next : ℕ) (line : List ℕ) (n : Option Numeral) (r : Reading) → has_job l ≡ true → n ≡ number_at last_number 1 (drop 1 line) → n ≡ number v next → r ≡ cell_part l v (drop next line) → r ≡ job_part l (drop 1 line)
 unfolding job_part going_on
 job_read l v next line n r h e f g = rw h (g ∙ sym (ap (going_on line Second (cell_part l)) (sym e ∙ f)) ∙ field_at last_number Second 1 line _)
 
 -- a line that lacks its job
-pub job_missing : (l : Letter) (line : List ℕ) (n : Numeral) → has_job l ≡ true → n ≡ number_at last_number 1 (drop 1 line) → n ≡ Missing → Bad Second ≡ job_part l (drop 1 line)
+pub job_missing : (l : Letter) (line : List ℕ) (n : Option Numeral) → has_job l ≡ true → n ≡ number_at last_number 1 (drop 1 line) → n ≡ None → Err Second ≡ job_part l (drop 1 line)
 unfolding job_part going_on
 job_missing l line n h e f = rw h (sym (ap (going_on line Second (cell_part l)) (sym e ∙ f)) ∙ field_at last_number Second 1 line _)
 
@@ -84,15 +81,15 @@ by_letter which (b ∷ t) =
 pub line_read : (which : Letter → Bool) (l : Letter) (line : List ℕ) (n : Option Letter) (r : Reading) → n ≡ first_letter line → n ≡ Some l → which l ≡ true → r ≡ job_part l (drop 1 line) → r ≡ read_line which line
 unfolding letter_part
 line_read which l line n r e f w g =
-    pick_then (which l) r _ (Bad First) w g ∙ ap (λ x. letter_part which x (drop 1 line)) (sym f ∙ e) ∙ by_letter which line
+    pick_then (which l) r _ (Err First) w g ∙ ap (λ x. letter_part which x (drop 1 line)) (sym f ∙ e) ∙ by_letter which line
 
 -- a line of another letter
-pub line_other : (which : Letter → Bool) (l : Letter) (line : List ℕ) (n : Option Letter) → n ≡ first_letter line → n ≡ Some l → which l ≡ false → Bad First ≡ read_line which line
+pub line_other : (which : Letter → Bool) (l : Letter) (line : List ℕ) (n : Option Letter) → n ≡ first_letter line → n ≡ Some l → which l ≡ false → Err First ≡ read_line which line
 unfolding letter_part
 line_other which l line n e f w =
-    pick_else (which l) (Bad First) (job_part l (drop 1 line)) (Bad First) w refl ∙ ap (λ x. letter_part which x (drop 1 line)) (sym f ∙ e) ∙ by_letter which line
+    pick_else (which l) (Err First) (job_part l (drop 1 line)) (Err First) w refl ∙ ap (λ x. letter_part which x (drop 1 line)) (sym f ∙ e) ∙ by_letter which line
 
 -- a line of no letter
-pub line_unknown : (which : Letter → Bool) (line : List ℕ) (n : Option Letter) → n ≡ first_letter line → n ≡ None → Bad First ≡ read_line which line
+pub line_unknown : (which : Letter → Bool) (line : List ℕ) (n : Option Letter) → n ≡ first_letter line → n ≡ None → Err First ≡ read_line which line
 unfolding letter_part
 line_unknown which line n e f = ap (λ x. letter_part which x (drop 1 line)) (sym f ∙ e) ∙ by_letter which line

@@ -7,14 +7,12 @@ use mathlib.Core.List.{List, [], ◌∷◌}
 use lib.Dec.{leb, ltb, eqb}
 use lib.ListN.{length, get_or, drop}
 use lib.Seq.{drop-drop}
+use Rattle.std.specs.Prelude.{Err, Option, None, Some}
 use Rattle.laws.specs.Choice.{pick, by_test}
 use Rattle.terms.specs.declared.refusals.Field.{Field}
 use Rattle.terms.specs.Words.{tab}
-use Rattle.text_rules.specs.declared.Reading.{Reading}
-use Rattle.text_rules.specs.declared.Reading.TheVariants.{Bad}
 use Rattle.text_rules.specs.declared.Numeral.{Numeral}
-use Rattle.text_rules.specs.declared.Numeral.TheVariants.{Is, Missing}
-use Rattle.text_rules.specs.Lines.{field_ahead, after_field, is_digit, value_from, shortest, is_number, number_then}
+use Rattle.text_rules.specs.Lines.{field_ahead, after_field, is_digit, value_from, shortest, is_number, number_then, Reading}
 use Rattle.text_rules.specs.Fields.{digits_of, after_digits, end_ahead, digits_at, number_at}
 use Rattle.text_rules.proofs.FieldParts.{digits_are, digits_whole, digits_not_whole}
 use Rattle.text_rules.proofs.Places.{by_place}
@@ -26,9 +24,9 @@ after_digits_lem [] = refl
 after_digits_lem (b ∷ t) = by_test (is_digit b) (λ d. rw d (after_digits_lem t)) (λ d. rw d)
 
 -- what the code does with a field: it goes on from the place after it, or the line is bad there
-unfoldable pub going_on : List ℕ → Field → (ℕ → List ℕ → Reading) → Numeral → Reading
-going_on line k rest (Is v next) = rest v (drop next line)
-going_on line k rest Missing = Bad k
+unfoldable pub going_on : List ℕ → Field → (ℕ → List ℕ → Reading) → Option Numeral → Reading
+going_on line k rest (Some n) = rest n.value (drop n.next line)
+going_on line k rest None = Err k
 
 -- what the digits of a field say, where they are all of it
 whole_number : (most : ℕ) (t : List ℕ) → end_ahead (after_digits t) ≡ true → is_number most (field_ahead t) ≡ (shortest (digits_of t) && leb (value_from 0 (digits_of t)) most)
@@ -41,7 +39,7 @@ unfolding is_number
 torn_number most t h = rw (digits_not_whole t h)
 
 -- the field behind a tab, which ends after its digits
-field_whole : (most at : ℕ) (k : Field) (line : List ℕ) (rest : ℕ → List ℕ → Reading) → let t = drop (at + 1) line in end_ahead (after_digits t) ≡ true → going_on line k rest (pick (shortest (digits_of t)) (digits_at most 0 (at + 1) t) Missing) ≡ pick (is_number most (field_ahead t)) (rest (value_from 0 (field_ahead t)) (after_field t)) (Bad k)
+field_whole : (most at : ℕ) (k : Field) (line : List ℕ) (rest : ℕ → List ℕ → Reading) → let t = drop (at + 1) line in end_ahead (after_digits t) ≡ true → going_on line k rest (pick (shortest (digits_of t)) (digits_at most 0 (at + 1) t) None) ≡ pick (is_number most (field_ahead t)) (rest (value_from 0 (field_ahead t)) (after_field t)) (Err k)
 unfolding going_on digits_at
 field_whole most at k line rest h =
     let t = drop (at + 1) line in
@@ -54,7 +52,7 @@ field_whole most at k line rest h =
     (λ s. rw s))
 
 -- the field behind a tab, which goes on after its digits
-field_torn : (most at : ℕ) (k : Field) (line : List ℕ) (rest : ℕ → List ℕ → Reading) → let t = drop (at + 1) line in end_ahead (after_digits t) ≡ false → going_on line k rest (pick (shortest (digits_of t)) (digits_at most 0 (at + 1) t) Missing) ≡ pick (is_number most (field_ahead t)) (rest (value_from 0 (field_ahead t)) (after_field t)) (Bad k)
+field_torn : (most at : ℕ) (k : Field) (line : List ℕ) (rest : ℕ → List ℕ → Reading) → let t = drop (at + 1) line in end_ahead (after_digits t) ≡ false → going_on line k rest (pick (shortest (digits_of t)) (digits_at most 0 (at + 1) t) None) ≡ pick (is_number most (field_ahead t)) (rest (value_from 0 (field_ahead t)) (after_field t)) (Err k)
 unfolding going_on digits_at
 field_torn most at k line rest h =
     let t = drop (at + 1) line in
@@ -76,5 +74,5 @@ pub field_at : (most : ℕ) (k : Field) (at : ℕ) (line : List ℕ) (rest : ℕ
 unfolding going_on number_at number_then
 field_at most k at line rest =
     by_place (λ t. going_on line k rest (number_at most at t)) line at
-    ∙ ap (λ x. pick (ltb at (length line)) x (Bad k)) (field_here most at (get_or line at 0) k line rest)
+    ∙ ap (λ x. pick (ltb at (length line)) x (Err k)) (field_here most at (get_or line at 0) k line rest)
     ∙ sym (by_place (λ t. number_then most k t rest) line at)

@@ -5,31 +5,23 @@ ghost use Rattle.text_rules.specs.Fields.{lacking};
 ghost use Rattle.text_rules.specs.Lines.{read_line};
 ghost use Rattle.text_rules.specs.Split.{found_at};
 
-use crate::reader::{read_request, torn_request};
+use crate::reader::{lacking, read_request};
 use terms::Field;
 use text_rules::Reading;
-use text_rules::splitter::{KEPT, Splitter};
+use text_rules::splitter::Splitter;
 
 // What the line in the splitter says.
+#[tactic(auto, using(std::proofs::lemmas::List::take_min), unfolding(text_rules::specs::Split::found_at))]
 pub fn read_held(s: Splitter) -> Reading
     ensures { result ≡ read_line of_requests (found_at s).bytes }
 {
-    let kept = s.kept;
-    let len = s.len;
-    if len < KEPT {
-        return read_request(&kept[0..len]);
-    }
-    read_request(&kept)
+    let kept = &s.kept;
+    read_request(&kept[..s.len.min(kept.len())])
 }
 
 // The field at fault of the line in the splitter, which has no newline.
 pub fn torn_held(s: Splitter) -> Field
     ensures { result ≡ lacking (read_line of_requests (found_at s).bytes) }
 {
-    let kept = s.kept;
-    let len = s.len;
-    if len < KEPT {
-        return torn_request(&kept[0..len]);
-    }
-    torn_request(&kept)
+    lacking(read_held(s))
 }

@@ -9,7 +9,6 @@ ghost use Rattle.text_rules.specs.Records.{field, answer_record, line_record, to
 
 use terms::words::{NEWLINE, TAB};
 use terms::{Letter, Refusal, Word, has_cell, has_job, spelled};
-use text_rules::Written;
 
 // How many digits a number has in shortest decimal: four at a time, then the few that are left.
 #[tactic(auto, using(text_rules::proofs::DigitLaws::counting_first, text_rules::proofs::DigitLaws::counting_four, text_rules::proofs::DigitLaws::counting_last, text_rules::proofs::DigitLaws::counting_next, text_rules::proofs::DigitLaws::counting_three, text_rules::proofs::DigitLaws::counting_two))]
@@ -170,7 +169,7 @@ pub fn write_answer(
     word: Word,
     number: u64,
     fault: u64,
-) -> Written
+) -> Result<usize, Refusal>
     ensures { (result ≡ told buf.old at (answer_record line word number fault)) × (buf.new ≡ left buf.old at (answer_record line word number fault)) }
 {
     let second = spelled(word).len();
@@ -189,15 +188,21 @@ pub fn write_answer(
             fault,
             fourth,
         );
-        Written::Next(at + n)
+        Ok(at + n)
     } else {
-        Written::Refused(Refusal::NoRoom)
+        Err(Refusal::NoRoom)
     }
 }
 
 // Writes the line of a letter with the fields that it has: a history record, or a request.
 #[tactic(auto, using(text_rules::proofs::FieldLaws::field_at_most_21, text_rules::proofs::Length::line_length, text_rules::proofs::RoomLaws::no_room_for, text_rules::proofs::RoomLaws::refused, text_rules::proofs::RoomLaws::room_for, text_rules::proofs::RoomLaws::written, text_rules::proofs::WroteLaws::lent_fits, text_rules::proofs::WroteLaws::wrote_more, text_rules::proofs::WroteLaws::wrote_none))]
-pub fn write_line(buf: &mut [u8], at: usize, letter: Letter, job: u64, cell: u64) -> Written
+pub fn write_line(
+    buf: &mut [u8],
+    at: usize,
+    letter: Letter,
+    job: u64,
+    cell: u64,
+) -> Result<usize, Refusal>
     ensures { (result ≡ told buf.old at (line_record letter job cell)) × (buf.new ≡ left buf.old at (line_record letter job cell)) }
 {
     let second = field_width(has_job(letter), job);
@@ -205,63 +210,63 @@ pub fn write_line(buf: &mut [u8], at: usize, letter: Letter, job: u64, cell: u64
     let room = buf.len();
     if has_room(room, at, second + third + 2) {
         let n = put_line(&mut buf[at..], letter, job, second, cell, third);
-        Written::Next(at + n)
+        Ok(at + n)
     } else {
-        Written::Refused(Refusal::NoRoom)
+        Err(Refusal::NoRoom)
     }
 }
 
 // Writes a word alone: the start of a verdict line.
-pub fn write_word(buf: &mut [u8], at: usize, word: Word) -> Written
+pub fn write_word(buf: &mut [u8], at: usize, word: Word) -> Result<usize, Refusal>
     ensures { (result ≡ told buf.old at (spelt word)) × (buf.new ≡ left buf.old at (spelt word)) }
 {
     let len = spelled(word).len();
     let room = buf.len();
     if has_room(room, at, len) {
         let n = put_word(&mut buf[at..], word);
-        Written::Next(at + n)
+        Ok(at + n)
     } else {
-        Written::Refused(Refusal::NoRoom)
+        Err(Refusal::NoRoom)
     }
 }
 
 // Writes a number alone, in shortest decimal: the start of a line of jobs.
-pub fn write_number(buf: &mut [u8], at: usize, n: u64) -> Written
+pub fn write_number(buf: &mut [u8], at: usize, n: u64) -> Result<usize, Refusal>
     ensures { (result ≡ told buf.old at (decimal n)) × (buf.new ≡ left buf.old at (decimal n)) }
 {
     let len = width(n);
     let room = buf.len();
     if has_room(room, at, len) {
         let k = put_number(&mut buf[at..], n, len);
-        Written::Next(at + k)
+        Ok(at + k)
     } else {
-        Written::Refused(Refusal::NoRoom)
+        Err(Refusal::NoRoom)
     }
 }
 
 // Writes a further field alone: a tab and the number.
-pub fn write_field(buf: &mut [u8], at: usize, n: u64) -> Written
+pub fn write_field(buf: &mut [u8], at: usize, n: u64) -> Result<usize, Refusal>
     ensures { (result ≡ told buf.old at (tab ∷ decimal n)) × (buf.new ≡ left buf.old at (tab ∷ decimal n)) }
 {
     let len = field_width(true, n);
     let room = buf.len();
     if has_room(room, at, len) {
         let k = put_field(&mut buf[at..], true, n, len);
-        Written::Next(at + k)
+        Ok(at + k)
     } else {
-        Written::Refused(Refusal::NoRoom)
+        Err(Refusal::NoRoom)
     }
 }
 
 // Writes the newline that ends a line.
-pub fn write_end(buf: &mut [u8], at: usize) -> Written
+pub fn write_end(buf: &mut [u8], at: usize) -> Result<usize, Refusal>
     ensures { (result ≡ told buf.old at (newline ∷ [])) × (buf.new ≡ left buf.old at (newline ∷ [])) }
 {
     let room = buf.len();
     if has_room(room, at, 1) {
         let n = put_byte(&mut buf[at..], NEWLINE);
-        Written::Next(at + n)
+        Ok(at + n)
     } else {
-        Written::Refused(Refusal::NoRoom)
+        Err(Refusal::NoRoom)
     }
 }

@@ -16,8 +16,7 @@ use Rattle.terms.specs.declared.refusals.Field.TheVariants.{Second, Third}
 use Rattle.terms.specs.Letters.{has_job, has_cell}
 use Rattle.terms.specs.Limits.{last_number}
 use Rattle.terms.specs.Words.{tab, newline}
-use Rattle.text_rules.specs.declared.Reading.{Reading}
-use Rattle.text_rules.specs.Lines.{last_cell, parts, field_ahead, after_field, value_from, is_number, number_then, ending, cell_part, job_part, letter_in, letter_part, read_line}
+use Rattle.text_rules.specs.Lines.{last_cell, parts, field_ahead, after_field, value_from, is_number, number_then, ending, cell_part, job_part, letter_in, letter_part, read_line, Reading}
 use Rattle.text_rules.specs.Split.{no_newline}
 use Rattle.text_rules.proofs.DigitLaws.{digits_at_most}
 use Rattle.text_rules.proofs.FieldParts.{field_then}

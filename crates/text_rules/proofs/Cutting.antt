@@ -12,7 +12,7 @@ use Rattle.laws.specs.Choice.{by_test}
 use Rattle.terms.specs.Words.{newline}
 use Rattle.text_rules.specs.declared.splitter.Splitter.{Splitter}
 use Rattle.text_rules.specs.declared.splitter.Cut.{Cut}
-use Rattle.text_rules.specs.Split.{kept, following, taken, under_way, through, used, part, cut_of}
+use Rattle.text_rules.specs.Split.{following, taken, under_way, through, used, part, cut_of}
 
 -- a line is no longer than the text
 pub used_within : (t : List ℕ) → used t ≤ length t

@@ -21,8 +21,7 @@ use Rattle.conflict.specs.declared.action.Mark.TheVariants.{Commit as commits, G
 use Rattle.conflict.specs.declared.action.Event.{Event}
 use Rattle.conflict.specs.declared.action.Event.TheVariants.{Does, Ends}
 use Rattle.conflict.specs.History.{History}
-use Rattle.text_rules.specs.declared.Reading.TheVariants.{Good}
-use Rattle.text_rules.specs.Lines.{read_line}
+use Rattle.text_rules.specs.Lines.{read_line, good}
 use Rattle.text_rules.specs.EventRecords.{ask_by, mark_letter, event_line, text_of, within, all_within}
 use Rattle.text_rules.proofs.ReadBack.{reads_record}
 use Rattle.text_rules.proofs.Length.{line_at_most_16}
@@ -71,14 +70,14 @@ of_history Write = refl
 of_history Increment = refl
 
 -- an action's record reads as that action
-pub reads_action : (a : Action) → within last_number (Does a) ≡ true → read_line of_histories (event_line (Does a)) ≡ Good (Asks (ask_by a.kind)) a.job a.cell
+pub reads_action : (a : Action) → within last_number (Does a) ≡ true → read_line of_histories (event_line (Does a)) ≡ good (Asks (ask_by a.kind)) a.job a.cell
 unfolding event_line
 reads_action a w =
     let b = action_within last_number a w in
     reads_record of_histories (Asks (ask_by a.kind)) a.job a.cell (of_history a.kind) (omega arith) (omega arith) (λ e. not_both refl e) (λ e. not_both refl e)
 
 -- a mark's record reads as that mark
-pub reads_mark : (m : Mark) (j : ℕ) → within last_number (Ends m j) ≡ true → read_line of_histories (event_line (Ends m j)) ≡ Good (mark_letter m) j 0
+pub reads_mark : (m : Mark) (j : ℕ) → within last_number (Ends m j) ≡ true → read_line of_histories (event_line (Ends m j)) ≡ good (mark_letter m) j 0
 unfolding event_line mark_letter
 reads_mark commits j w = let b = mark_within last_number commits j w in reads_record of_histories Commit j 0 refl (omega arith) (omega arith) (λ e. not_both refl e) (λ e. refl)
 reads_mark gives_up j w = let b = mark_within last_number gives_up j w in reads_record of_histories GiveUp j 0 refl (omega arith) (omega arith) (λ e. not_both refl e) (λ e. refl)

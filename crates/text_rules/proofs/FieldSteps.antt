@@ -8,15 +8,14 @@ use native.Mathlib.Omega.{arith}
 use lib.Dec.{eqb, leb}
 use lib.ListN.{length}
 use borrow.Author.Tests.{eqb-true, leb-true, le-leb}
+use Rattle.std.specs.Prelude.{Err}
 use Rattle.laws.specs.Choice.{pick, by_test, not_both}
 use Rattle.terms.specs.declared.refusals.Field.{Field}
 use Rattle.terms.specs.declared.refusals.Field.TheVariants.{Fourth}
 use Rattle.terms.specs.Words.{tab, newline}
-use Rattle.text_rules.specs.declared.Reading.{Reading}
-use Rattle.text_rules.specs.declared.Reading.TheVariants.{Bad}
 use Rattle.text_rules.specs.FieldFaults.{ended, field_at, Number}
 use Rattle.text_rules.specs.Fields.{end_ahead}
-use Rattle.text_rules.specs.Lines.{parts, field_ahead, after_field, value_from, is_number, number_then, ending}
+use Rattle.text_rules.specs.Lines.{parts, field_ahead, after_field, value_from, is_number, number_then, ending, Reading}
 use Rattle.text_rules.proofs.FieldLists.{more, fields_are, first_is, ended_after_lem, ended_tab}
 use Rattle.text_rules.proofs.FieldParts.{after_ends}
 use Rattle.text_rules.proofs.NumberWords.{number_test, none_no_number, by_number_lem}
@@ -76,7 +75,7 @@ past false most at t rest stop right = record {
 }
 
 -- a number field that is missing, or is not such a number
-not_there : (most : ℕ) (at : Field) (t : List ℕ) (rest : ℕ → List ℕ → Reading) → (Number most (field_at 1 (more t)) → ⊥) → number_then most at t rest ≡ Bad at
+not_there : (most : ℕ) (at : Field) (t : List ℕ) (rest : ℕ → List ℕ → Reading) → (Number most (field_at 1 (more t)) → ⊥) → number_then most at t rest ≡ Err at
 unfolding more number_then
 not_there most at [] rest wrong = refl
 not_there most at (b ∷ t) rest wrong =
@@ -87,7 +86,7 @@ not_there most at (b ∷ t) rest wrong =
     (λ e. rw e)
 
 -- the line is bad at a field that is not right
-pub not_past : (there : Bool) (most : ℕ) (at : Field) (t : List ℕ) (rest : ℕ → List ℕ → Reading) → (NextRight there most t → ⊥) → next_then there most at t rest ≡ Bad at
+pub not_past : (there : Bool) (most : ℕ) (at : Field) (t : List ℕ) (rest : ℕ → List ℕ → Reading) → (NextRight there most t → ⊥) → next_then there most at t rest ≡ Err at
 not_past true most at t rest wrong = not_there most at t rest (λ k. wrong (λ h. k))
 not_past false most at t rest wrong = absurd (wrong (λ h. not_both h refl))
 
@@ -108,7 +107,7 @@ ending_right (b ∷ c ∷ t) good stop few e =
     (λ k. not_both stop (rw (k, n))))
 
 -- and not otherwise
-pub ending_wrong : (t : List ℕ) (good : Reading) → ((length (more t) ≤ 0) × (ended t ≡ true) → ⊥) → ending t good ≡ Bad Fourth
+pub ending_wrong : (t : List ℕ) (good : Reading) → ((length (more t) ≤ 0) × (ended t ≡ true) → ⊥) → ending t good ≡ Err Fourth
 unfolding more ended ending
 ending_wrong [] good wrong = refl
 ending_wrong (b ∷ []) good wrong =

@@ -7,6 +7,7 @@ use mathlib.Core.Bool.{Bool, true}
 use mathlib.Core.List.{List, [], ◌∷◌}
 use native.Mathlib.Omega.{arith}
 use lib.ListN.{length}
+use Rattle.std.specs.Prelude.{Err}
 use Rattle.laws.specs.Choice.{pick, by_test, not_both}
 use Rattle.terms.specs.declared.letters.Letter.{Letter}
 use Rattle.terms.specs.declared.letters.Letter.TheVariants.{Begin, Commit, GiveUp, Retry, Back, Asks}
@@ -14,9 +15,8 @@ use Rattle.terms.specs.declared.refusals.Field.TheVariants.{First, Second, Third
 use Rattle.terms.specs.Letters.{byte_of, has_job, has_cell}
 use Rattle.terms.specs.Limits.{last_number}
 use Rattle.terms.proofs.Alphabet.{letter_of_byte}
-use Rattle.text_rules.specs.declared.Reading.TheVariants.{Good, Bad}
 use Rattle.text_rules.specs.FieldFaults.{fields_of, ended, field_at, LetterRight, JobRight, CellRight, EndRight}
-use Rattle.text_rules.specs.Lines.{last_cell, field_ahead, after_field, ending, cell_part, job_part, letter_in, letter_part, read_line}
+use Rattle.text_rules.specs.Lines.{last_cell, field_ahead, after_field, ending, cell_part, job_part, letter_in, letter_part, read_line, good}
 use Rattle.text_rules.proofs.FieldLists.{more, fields_are, first_is, second_is, third_is, ended_after_lem}
 use Rattle.text_rules.proofs.FieldParts.{after_ends, letter_field}
 use Rattle.text_rules.proofs.FieldSteps.{Past, past, not_past, ending_right, ending_wrong}
@@ -34,7 +34,7 @@ unfolding read_line letter_part
 past_letter which bytes l r = rw (letter_known which bytes l r, r.0)
 
 -- the first field is right for some letter; or for none, and then the line is bad at it
-pub by_letter : {P : Type 0} (which : Letter → Bool) (bytes : List ℕ) → ((l : Letter) → LetterRight which bytes l → P) → (((l : Letter) → LetterRight which bytes l → ⊥) → read_line which bytes ≡ Bad First → P) → P
+pub by_letter : {P : Type 0} (which : Letter → Bool) (bytes : List ℕ) → ((l : Letter) → LetterRight which bytes l → P) → (((l : Letter) → LetterRight which bytes l → ⊥) → read_line which bytes ≡ Err First → P) → P
 unfolding read_line letter_part
 by_letter {P} which bytes right wrong = go (letter_in (field_ahead bytes)) refl
   where
@@ -57,7 +57,7 @@ cell_job (Asks a) h = refl
 -- a line that begins with a letter that it may begin with
 module _ (which : Letter → Bool) (bytes : List ℕ) (l : Letter) (known : LetterRight which bytes l) where
   -- the reading of a line whose job is not right
-  pub job_bad : (JobRight bytes l → ⊥) → read_line which bytes ≡ Bad Second
+  pub job_bad : (JobRight bytes l → ⊥) → read_line which bytes ≡ Err Second
   unfolding job_part
   job_bad wrong =
       past_letter which bytes l known
@@ -79,7 +79,7 @@ module _ (which : Letter → Bool) (bytes : List ℕ) (l : Letter) (known : Lett
     cell_is h = third_is bytes ∙ behind_job.others (cell_job l h)
 
     -- the reading of a line whose cell is not right
-    pub cell_bad : (CellRight bytes l → ⊥) → read_line which bytes ≡ Bad Third
+    pub cell_bad : (CellRight bytes l → ⊥) → read_line which bytes ≡ Err Third
     unfolding cell_part
     cell_bad wrong =
         past_job ∙ not_past (has_cell l) last_cell Third behind_job.left _ (λ r. wrong (λ h. rw (cell_is h) (r h)))
@@ -87,11 +87,11 @@ module _ (which : Letter → Bool) (bytes : List ℕ) (l : Letter) (known : Lett
     -- a cell that is right
     module _ (cell : CellRight bytes l) where
       -- what is left after it
-      behind_cell : Past (has_cell l) last_cell Third behind_job.left (λ n t. ending t (Good l behind_job.number n))
+      behind_cell : Past (has_cell l) last_cell Third behind_job.left (λ n t. ending t (good l behind_job.number n))
       behind_cell = past (has_cell l) last_cell Third behind_job.left _ behind_job.stops (λ h. rw (cell_is h) at (cell h))
 
       -- the line ends there or is bad
-      past_cell : read_line which bytes ≡ ending behind_cell.left (Good l behind_job.number behind_cell.number)
+      past_cell : read_line which bytes ≡ ending behind_cell.left (good l behind_job.number behind_cell.number)
       unfolding cell_part
       past_cell = past_job ∙ behind_cell.reads
 
@@ -104,12 +104,12 @@ module _ (which : Letter → Bool) (bytes : List ℕ) (l : Letter) (known : Lett
       all_ended = ended_after_lem bytes ∙ behind_job.ends ∙ behind_cell.ends
 
       -- the reading of a line whose end is not right
-      pub end_bad : (EndRight bytes l → ⊥) → read_line which bytes ≡ Bad Fourth
+      pub end_bad : (EndRight bytes l → ⊥) → read_line which bytes ≡ Err Fourth
       end_bad wrong =
           past_cell ∙ ending_wrong behind_cell.left _ (λ r. let few = r.0 in wrong (omega (arith, all_fields), all_ended ∙ r.1))
 
       -- the reading of a line that is all right
-      pub all_good : EndRight bytes l → (job cell : ℕ) × (read_line which bytes ≡ Good l job cell)
+      pub all_good : EndRight bytes l → (job cell : ℕ) × (read_line which bytes ≡ good l job cell)
       all_good end =
           let few = end.0 in
           let stop : length (more behind_cell.left) ≤ 0 = omega (arith, all_fields) in

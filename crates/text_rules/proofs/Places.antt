@@ -10,12 +10,10 @@ use lib.Dec.{ltb, eqb}
 use lib.ListN.{length, get_or, drop, drop_of_length-le}
 use lib.Seq.{drop-cons}
 use borrow.Author.Tests.{ltb-true, ltb-false}
+use Rattle.std.specs.Prelude.{Err, Option, None}
 use Rattle.laws.specs.Choice.{pick, by_test}
-use Rattle.text_rules.specs.declared.Reading.{Reading}
-use Rattle.text_rules.specs.declared.Reading.TheVariants.{Bad}
 use Rattle.text_rules.specs.declared.Numeral.{Numeral}
-use Rattle.text_rules.specs.declared.Numeral.TheVariants.{Missing}
-use Rattle.text_rules.specs.Lines.{parts, is_digit, shortest, ending}
+use Rattle.text_rules.specs.Lines.{parts, is_digit, shortest, ending, Reading}
 use Rattle.text_rules.specs.Fields.{digits_of, digit_ahead, end_ahead, first_letter, digits_at, number_at}
 use Rattle.terms.specs.declared.letters.Letter.{Letter}
 use Rattle.terms.specs.Words.{tab, newline}
@@ -61,17 +59,17 @@ unfolding shortest digits_of
 shortest_placed line at r e = e ∙ sym (by_place (λ t. shortest (digits_of t)) line at ∙ ap (λ x. pick (ltb at (length line)) x false) (first_decides _ _))
 
 -- the number field at a place
-pub number_placed : (most : ℕ) (line : List ℕ) (at : ℕ) (r : Numeral) → r ≡ pick (ltb at (length line)) (pick (eqb (get_or line at 0) tab) (pick (shortest (digits_of (drop (at + 1) line))) (digits_at most 0 (at + 1) (drop (at + 1) line)) Missing) Missing) Missing → r ≡ number_at most at (drop at line)
+pub number_placed : (most : ℕ) (line : List ℕ) (at : ℕ) (r : Option Numeral) → r ≡ pick (ltb at (length line)) (pick (eqb (get_or line at 0) tab) (pick (shortest (digits_of (drop (at + 1) line))) (digits_at most 0 (at + 1) (drop (at + 1) line)) None) None) None → r ≡ number_at most at (drop at line)
 unfolding number_at
 number_placed most line at r e = e ∙ sym (by_place (number_at most at) line at)
 
 -- the end of a line at a place: it is the last place, and a newline stands there
-pub ending_placed : (line : List ℕ) (at : ℕ) (good r : Reading) → r ≡ pick (ltb at (length line)) (pick (ltb (at + 1) (length line)) (Bad Fourth) (pick (eqb (get_or line at 0) newline) good (Bad Fourth))) (Bad Fourth) → r ≡ ending (drop at line) good
+pub ending_placed : (line : List ℕ) (at : ℕ) (good r : Reading) → r ≡ pick (ltb at (length line)) (pick (ltb (at + 1) (length line)) (Err Fourth) (pick (eqb (get_or line at 0) newline) good (Err Fourth))) (Err Fourth) → r ≡ ending (drop at line) good
 unfolding ending
 ending_placed line at good r e =
     e
     ∙ sym (by_place (λ t. ending t good) line at
-    ∙ ap (λ x. pick (ltb at (length line)) x (Bad Fourth)) (by_place (λ t. ending (get_or line at 0 ∷ t) good) line (at + 1)))
+    ∙ ap (λ x. pick (ltb at (length line)) x (Err Fourth)) (by_place (λ t. ending (get_or line at 0 ∷ t) good) line (at + 1)))
 
 -- the letter that a line begins with, if its field ends after it
 pub letter_placed : (line : List ℕ) (r : Option Letter) → r ≡ pick (ltb 0 (length line)) (pick (end_ahead (drop 1 line)) (letter_of (get_or line 0 0)) None) None → r ≡ first_letter line

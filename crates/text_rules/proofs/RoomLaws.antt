@@ -8,9 +8,9 @@ use native.Mathlib.Omega.{arith}
 use borrow.Author.Tests.{le-leb, lt-leb, leb-true, leb-false}
 use lib.Dec.{leb}
 use lib.ListN.{length}
+use Rattle.std.specs.Prelude.{Ok, Err}
 use Rattle.laws.specs.Choice.{by_test}
 use Rattle.terms.specs.declared.refusals.Refusal.TheVariants.{NoRoom}
-use Rattle.text_rules.specs.declared.Written.TheVariants.{Next, Refused}
 use Rattle.text_rules.specs.Records.{fits, told, left}
 use Rattle.text_rules.specs.Wrote.{Wrote}
 
@@ -33,15 +33,15 @@ pub no_room_for : {r : Bool} (room at len k : ℕ) → r ≡ leb (at + len) room
 no_room_for room at len k e t n = let h = leb-false (at + len) room (sym e ∙ t) in omega arith
 
 -- a record that was written: the place after it is told, and the buffer is left with it
-pub written : {at a : ℕ} {bs b m : List ℕ} → Wrote at a bs b m → (Next a ≡ told b at bs) × (m ≡ left b at bs)
+pub written : {at a : ℕ} {bs b m : List ℕ} → Wrote at a bs b m → (Ok a ≡ told b at bs) × (m ≡ left b at bs)
 unfolding told left fits
 written {at} {a} {bs} {b} {m} w =
     let e = w.ends in
     let h = w.within in
     let t = le-leb (at + length bs) (length b) (omega arith) in
-    (rw t (ap Next e), rw (t, ← e) w.holds)
+    (rw t (ap Ok e), rw (t, ← e) w.holds)
 
 -- a record that does not fit: refusal 15 is told, and the buffer stays as it was
-pub refused : (b : List ℕ) (at : ℕ) (bs : List ℕ) → length b < at + length bs → (Refused NoRoom ≡ told b at bs) × (b ≡ left b at bs)
+pub refused : (b : List ℕ) (at : ℕ) (bs : List ℕ) → length b < at + length bs → (Err NoRoom ≡ told b at bs) × (b ≡ left b at bs)
 unfolding told left fits
 refused b at bs h = let t = lt-leb (at + length bs) (length b) h in (rw t, rw t)

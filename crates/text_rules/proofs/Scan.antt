@@ -1,36 +1,39 @@
--- The place after a line, one byte at a time: at the text's end, at a newline, and at any other byte.
+-- The place after a line: after the first newline from a place on, or at the text's end.
 -- Assumes nothing.
-use Prim.Native.Nat.{ℕ, suc, ◌+◌, ◌≤◌, ◌<◌}
-use mathlib.Core.Path.{◌≡◌, sym}
-use mathlib.Core.List.{List, ◌∷◌}
-use native.Mathlib.Nat.{add-zero}
-use native.Mathlib.Numerals.{add-one}
-use native.Mathlib.Omega.{arith}
-use borrow.Author.Tests.{eq-eqb, ne_eqb}
-use lib.ListN.{length, drop, get_or, drop_of_length-le}
-use lib.Seq.{drop-cons}
+use Rattle.std.proofs.Common.{◌≡◌, ◌==◌, ℕ, suc, ◌+◌, ◌≤◌, ◌<◌, min, Bool, true, false, List, [], ◌∷◌, Option, Some, None, cond, length, drop, eqb, ltb, refl, arith, length-drop, drop_of_length-le, add-zero, sym}
+use Rattle.std.specs.List.{position, position_or_len}
+use borrow.Author.Tests.{ltb-true, ltb-false}
+use Rattle.laws.specs.Choice.{by_test}
 use Rattle.terms.specs.Words.{newline}
 use Rattle.text_rules.specs.Split.{used}
 
--- a newline is the line's last byte
-used_newline : (b : ℕ) (t : List ℕ) → b ≡ newline → used (b ∷ t) ≡ 1
+-- whether a byte is a newline, as the code asks it
+abbrev ends : ℕ → Bool
+ends b = b == newline
+
+-- a line's bytes are those before the first newline and the newline, or all if there is none
+used_is : (t : List ℕ) → used t ≡ min (position_or_len ends t + 1) (length t)
 unfolding used
-used_newline b t e = rw (eq-eqb b newline e)
+used_is [] = refl
+used_is (b ∷ t) = by_test (eqb b newline) (λ e. rw e (omega arith)) (λ e. rw e (omega (arith, used_is t)))
 
--- any other byte is followed by the rest of the line
-used_other : (b : ℕ) (t : List ℕ) → (b ≡ newline → ⊥) → used (b ∷ t) ≡ suc (used t)
+-- where a newline is found, the line ends after it
+pub line_found : (t : List ℕ) (i : ℕ) → position ends t ≡ Some i → i + 1 ≡ used t
+line_found t i h =
+    let n = position_or_len ends t in
+    by_test (ltb n (length t))
+    (λ e. let k : n ≡ i = cc (rw e at h) in omega (arith, used_is t, ltb-true n (length t) e))
+    (λ e. let z : ◌≡◌ {A = ℕ} 0 1 = cc (rw e at h) in absurd (omega arith))
+
+-- where none is found, the text is one line
+pub line_whole : (t : List ℕ) → position ends t ≡ None → length t ≡ used t
+line_whole t h =
+    let n = position_or_len ends t in
+    by_test (ltb n (length t))
+    (λ e. let z : ◌≡◌ {A = ℕ} 0 1 = cc (rw e at h) in absurd (omega arith))
+    (λ e. omega (arith, used_is t, ltb-false n (length t) e))
+
+-- past the text's end there is no line
+pub end_past : (t : List ℕ) (from : ℕ) → length t ≤ from → from ≡ from + used (drop from t)
 unfolding used
-used_other b t e = rw (ne_eqb b newline e)
-
--- at the end of the text, or past it, the line ends there
-pub end_at_end : (t : List ℕ) (at : ℕ) → length t ≤ at → at ≡ at + used (drop at t)
-unfolding used
-end_at_end t at h = rw (drop_of_length-le t h) (sym (add-zero at))
-
--- at a newline the line ends after it
-pub end_at_newline : (t : List ℕ) (at : ℕ) → at < length t → get_or t at 0 ≡ newline → at + 1 ≡ at + used (drop at t)
-end_at_newline t at h e = rw (drop-cons t at 0 h, used_newline (get_or t at 0) (drop (suc at) t) e)
-
--- at any other byte the line's end is the one found from the next place
-pub end_past : (t : List ℕ) (at : ℕ) → at < length t → (get_or t at 0 ≡ newline → ⊥) → (at + 1) + used (drop (at + 1) t) ≡ at + used (drop at t)
-end_past t at h e = rw (drop-cons t at 0 h, used_other (get_or t at 0) (drop (suc at) t) e, add-one) (omega arith)
+end_past t from h = rw (drop_of_length-le t h) (sym (add-zero from))

@@ -1,6 +1,6 @@
 -- The first bytes of a line, as many as the longest good line has, decide it: a longer line is bad, at the field that they tell (01, Lines; 02, No. 5).
 -- Assumes nothing.
-use Prim.Native.Nat.{ℕ, ◌+◌, ◌≤◌}
+use Prim.Native.Nat.{ℕ, ◌≤◌}
 use mathlib.Core.Path.{◌≡◌, refl, sym, ap, ◌∙◌}
 use mathlib.Core.Bool.{Bool, true}
 use mathlib.Core.List.{List, [], ◌∷◌, ◌++◌, append-nil, map}

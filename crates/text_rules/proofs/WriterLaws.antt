@@ -10,58 +10,57 @@ use borrow.Author.Tests.{ltb-true, ltb-false, leb-true, leb-false, le-leb, lt-le
 use lib.Dec.{ltb, leb}
 use lib.ListN.{length, take, drop, get_or, length-drop}
 use lib.Seq.{get_or-take, get_or-drop}
+use Rattle.std.specs.Prelude.{Result, Ok, Err}
 use Rattle.laws.specs.Choice.{by_test}
 use Rattle.terms.specs.declared.letters.Letter.{Letter}
 use Rattle.terms.specs.declared.refusals.Refusal.{Refusal}
 use Rattle.terms.specs.declared.refusals.Refusal.TheVariants.{NoRoom}
 use Rattle.terms.specs.declared.words.Word.{Word}
-use Rattle.text_rules.specs.declared.Written.{Written}
-use Rattle.text_rules.specs.declared.Written.TheVariants.{Next, Refused}
 use Rattle.text_rules.specs.Records.{answer_record, line_record, fits, told, left}
 use Rattle.text_rules.specs.Wrote.{Wrote}
 use Rattle.text_rules.proofs.Length.{answer_length, line_length}
 use Rattle.text_rules.proofs.WroteLaws.{wrote_before, wrote_take, wrote_drop, wrote_length}
 
 -- for a record that fits, the place after it is told
-pub told_next : (b : List ℕ) (at : ℕ) (bs : List ℕ) → fits b at bs ≡ true → told b at bs ≡ Next (at + length bs)
+pub told_next : (b : List ℕ) (at : ℕ) (bs : List ℕ) → fits b at bs ≡ true → told b at bs ≡ Ok (at + length bs)
 unfolding told
 told_next b at bs t = rw t
 
 -- for a record that does not fit, refusal 15 is told
-pub told_refused : (b : List ℕ) (at : ℕ) (bs : List ℕ) → fits b at bs ≡ false → told b at bs ≡ Refused NoRoom
+pub told_refused : (b : List ℕ) (at : ℕ) (bs : List ℕ) → fits b at bs ≡ false → told b at bs ≡ Err NoRoom
 unfolding told
 told_refused b at bs f = rw f
 
 -- a place is told only for a record that fits, and it is the place after the record, within the buffer
-pub next_told : (b : List ℕ) (at : ℕ) (bs : List ℕ) (n : ℕ) → told b at bs ≡ Next n → (n ≡ at + length bs) × (n ≤ length b)
+pub next_told : (b : List ℕ) (at : ℕ) (bs : List ℕ) (n : ℕ) → told b at bs ≡ Ok n → (n ≡ at + length bs) × (n ≤ length b)
 unfolding fits
 next_told b at bs n e =
     by_test (fits b at bs) (λ t. let k : at + length bs ≡ n = cc (told_next b at bs t) in let h = leb-true (at + length bs) (length b) t in (omega arith, omega arith))
     (λ f. let z : ◌≡◌ {A = ℕ} 0 1 = cc (told_refused b at bs f) in absurd (omega arith))
 
 -- a place past the end is refused, whatever the record
-pub past_the_end : (b : List ℕ) (at : ℕ) (bs : List ℕ) → length b < at → told b at bs ≡ Refused NoRoom
+pub past_the_end : (b : List ℕ) (at : ℕ) (bs : List ℕ) → length b < at → told b at bs ≡ Err NoRoom
 unfolding fits
 past_the_end b at bs h = told_refused b at bs (lt-leb (at + length bs) (length b) (omega arith))
 
 -- a record that is longer than what is left is refused
-pub too_long : (b : List ℕ) (at : ℕ) (bs : List ℕ) → length b < at + length bs → told b at bs ≡ Refused NoRoom
+pub too_long : (b : List ℕ) (at : ℕ) (bs : List ℕ) → length b < at + length bs → told b at bs ≡ Err NoRoom
 unfolding fits
 too_long b at bs h = told_refused b at bs (lt-leb (at + length bs) (length b) h)
 
 -- a record that has room is not refused
-pub not_refused : {P : Type 0} {w : Written} {why : Refusal} (b : List ℕ) (at : ℕ) (bs : List ℕ) → w ≡ told b at bs → w ≡ Refused why → at + length bs ≤ length b → P
+pub not_refused : {P : Type 0} {w : Result ℕ Refusal} {why : Refusal} (b : List ℕ) (at : ℕ) (bs : List ℕ) → w ≡ told b at bs → w ≡ Err why → at + length bs ≤ length b → P
 unfolding fits
 not_refused b at bs e f h =
-    let t : told b at bs ≡ Next (at + length bs) = told_next b at bs (le-leb (at + length bs) (length b) h) in
+    let t : told b at bs ≡ Ok (at + length bs) = told_next b at bs (le-leb (at + length bs) (length b) h) in
     let z : ◌≡◌ {A = ℕ} 0 1 = cc in
     absurd (omega arith)
 
 -- FIFTEEN EXACTLY IF THERE IS NO ROOM: a record is refused exactly if the place is past the end, or the buffer from there on is shorter than the record (01, refusal 15)
-pub no_room_exactly : (b : List ℕ) (at : ℕ) (bs : List ℕ) → (told b at bs ≡ Refused NoRoom) ↔ ((length b < at) ⊎ (length (drop at b) < length bs))
+pub no_room_exactly : (b : List ℕ) (at : ℕ) (bs : List ℕ) → (told b at bs ≡ Err NoRoom) ↔ ((length b < at) ⊎ (length (drop at b) < length bs))
 no_room_exactly b at bs = (refused_there, ⊎_elim (past_the_end b at bs) (λ h. let n = length-drop at b in too_long b at bs (omega arith)))
   where
-    refused_there : told b at bs ≡ Refused NoRoom → (length b < at) ⊎ (length (drop at b) < length bs)
+    refused_there : told b at bs ≡ Err NoRoom → (length b < at) ⊎ (length (drop at b) < length bs)
     refused_there e =
         by_test (ltb (length b) at) (λ t. inl (ltb-true (length b) at t))
         (λ f.
@@ -71,11 +70,11 @@ no_room_exactly b at bs = (refused_there, ⊎_elim (past_the_end b at bs) (λ h.
         (λ g. let h = leb-false (at + length bs) (length b) g in inr (omega arith)))
 
 -- at the end of the buffer every answer record is refused
-pub answer_at_the_end : (b : List ℕ) (line : ℕ) (word : Word) (number fault : ℕ) → told b (length b) (answer_record line word number fault) ≡ Refused NoRoom
+pub answer_at_the_end : (b : List ℕ) (line : ℕ) (word : Word) (number fault : ℕ) → told b (length b) (answer_record line word number fault) ≡ Err NoRoom
 answer_at_the_end b line word number fault = too_long b (length b) (answer_record line word number fault) (let n = answer_length line word number fault in omega arith)
 
 -- and so is every letter's line
-pub line_at_the_end : (b : List ℕ) (l : Letter) (job cell : ℕ) → told b (length b) (line_record l job cell) ≡ Refused NoRoom
+pub line_at_the_end : (b : List ℕ) (l : Letter) (job cell : ℕ) → told b (length b) (line_record l job cell) ≡ Err NoRoom
 line_at_the_end b l job cell = too_long b (length b) (line_record l job cell) (let n = line_length l job cell in omega arith)
 
 -- a record that fits is written
@@ -84,7 +83,7 @@ unfolding left fits
 left_wrote b at bs t = record { ends = refl; within = leb-true (at + length bs) (length b) t; holds = rw t }
 
 -- if a place is told, the record was written up to it
-pub next_wrote : {w : Written} {b : List ℕ} {at : ℕ} {bs : List ℕ} {n : ℕ} {m : List ℕ} → w ≡ told b at bs → w ≡ Next n → m ≡ left b at bs → Wrote at n bs b m
+pub next_wrote : {w : Result ℕ Refusal} {b : List ℕ} {at : ℕ} {bs : List ℕ} {n : ℕ} {m : List ℕ} → w ≡ told b at bs → w ≡ Ok n → m ≡ left b at bs → Wrote at n bs b m
 unfolding left fits
 next_wrote {w} {b} {at} {bs} {n} {m} e f g =
     let k = next_told b at bs n (sym e ∙ f) in

@@ -7,14 +7,14 @@ use mathlib.Core.List.{List, [], ◌∷◌, ◌++◌}
 use native.Mathlib.Omega.{arith}
 use lib.Dec.{eqb}
 use borrow.Author.Tests.{eqb-true, le-leb, leb-true}
+use Rattle.std.specs.Prelude.{Err, Ok}
 use Rattle.laws.specs.Choice.{by_test, not_both}
 use Rattle.terms.specs.declared.letters.Letter.{Letter}
 use Rattle.terms.specs.declared.refusals.Field.{Field}
 use Rattle.terms.specs.Words.{tab, newline}
-use Rattle.text_rules.specs.declared.Reading.{Reading}
-use Rattle.text_rules.specs.declared.Reading.TheVariants.{Good, Bad}
+use Rattle.text_rules.specs.declared.Line.{Line}
 use Rattle.text_rules.specs.Decimal.{decimal}
-use Rattle.text_rules.specs.Lines.{field_ahead, after_field, digits_only, value_from, shortest, is_number, number_then, ending}
+use Rattle.text_rules.specs.Lines.{field_ahead, after_field, digits_only, value_from, shortest, is_number, number_then, ending, Reading, good}
 use Rattle.text_rules.specs.Fields.{end_ahead}
 use Rattle.text_rules.proofs.DecimalLaws.{decimal_digits, decimal_shortest, decimal_value, decimal_unique}
 use Rattle.text_rules.proofs.FieldParts.{field_then, digits_before}
@@ -42,19 +42,26 @@ reads_number most n at t rest small stop =
     rw (e.0, e.1, number_is most n small, decimal_value n)
 
 -- what a good line's number field tells: the number, what is left after it, that the field was written this way, and that what is left leads to the good line
-pub record NumberField (most : ℕ) (t : List ℕ) (rest : ℕ → List ℕ → Reading) (good : Reading) : Type 0 where
+pub record NumberField (most : ℕ) (t : List ℕ) (rest : ℕ → List ℕ → Reading) (r : Reading) : Type 0 where
   pub number : ℕ
   pub left : List ℕ
   pub written : t ≡ tab ∷ decimal number ++ left
   pub small : number ≤ most
-  pub goes_on : rest number left ≡ good
+  pub goes_on : rest number left ≡ r
 
 -- a good line is not bad
-pub not_bad : {P : Type 0} {at : Field} {l : Letter} {job cell : ℕ} → Bad at ≡ Good l job cell → P
+pub not_bad : {P : Type 0} {at : Field} {l : Letter} {job cell : ℕ} → Err at ≡ good l job cell → P
 not_bad e = let z : ◌≡◌ {A = ℕ} 0 1 = cc in absurd (omega arith)
 
+-- equal good readings have equal parts
+pub same_good : (l m : Letter) (job₁ job₂ cell₁ cell₂ : ℕ) → good l job₁ cell₁ ≡ good m job₂ cell₂ → (l ≡ m) × (job₁ ≡ job₂) × (cell₁ ≡ cell₂)
+same_good l m job₁ job₂ cell₁ cell₂ e = (ap (λ x. x.letter) (same_line _ _ e), ap (λ x. x.job) (same_line _ _ e), ap (λ x. x.cell) (same_line _ _ e))
+  where
+    same_line : (x y : Line) → ◌≡◌ {A = Reading} (Ok x) (Ok y) → x ≡ y
+    same_line x y e = cc
+
 -- a number that is read was written
-pub number_written : (most : ℕ) (at : Field) (t : List ℕ) (rest : ℕ → List ℕ → Reading) (l : Letter) (job cell : ℕ) → number_then most at t rest ≡ Good l job cell → NumberField most t rest (Good l job cell)
+pub number_written : (most : ℕ) (at : Field) (t : List ℕ) (rest : ℕ → List ℕ → Reading) (l : Letter) (job cell : ℕ) → number_then most at t rest ≡ good l job cell → NumberField most t rest (good l job cell)
 unfolding number_then
 number_written most at [] rest l job cell e = not_bad e
 number_written most at (b ∷ t) rest l job cell e =
@@ -71,9 +78,9 @@ number_written most at (b ∷ t) rest l job cell e =
     (λ k. not_bad (rw k at e))
 
 -- a line that ends well ends in one newline
-pub ending_written : (t : List ℕ) (good : Reading) (l : Letter) (job cell : ℕ) → ending t good ≡ Good l job cell → (t ≡ newline ∷ []) × (good ≡ Good l job cell)
+pub ending_written : (t : List ℕ) (r : Reading) (l : Letter) (job cell : ℕ) → ending t r ≡ good l job cell → (t ≡ newline ∷ []) × (r ≡ good l job cell)
 unfolding ending
-ending_written [] good l job cell e = not_bad e
-ending_written (b ∷ []) good l job cell e =
+ending_written [] r l job cell e = not_bad e
+ending_written (b ∷ []) r l job cell e =
     by_test (eqb b newline) (λ k. (ap (λ x. x ∷ []) (eqb-true b newline k), rw k at e)) (λ k. not_bad (rw k at e))
-ending_written (b ∷ c ∷ t) good l job cell e = not_bad e
+ending_written (b ∷ c ∷ t) r l job cell e = not_bad e

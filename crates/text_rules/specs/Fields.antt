@@ -1,16 +1,17 @@
 -- A field as the code finds it at a place of a line: a number and the place after it, or none (01, Lines).
-use Rattle.std.specs.Prelude.{ℕ, ◌+◌, Bool, true, false, ◌&&◌, List, [], ◌∷◌, eqb, leb, length, Option, None}
+use Rattle.std.specs.Prelude.{ℕ, ◌+◌, Bool, true, false, ◌&&◌, List, [], ◌∷◌, eqb, leb, length, Option, None, Err, Some, Ok}
 use Rattle.laws.specs.Choice.{pick}
 use Rattle.terms.specs.declared.letters.Letter.{Letter}
 use Rattle.terms.specs.declared.refusals.Field.{Field}
 use Rattle.terms.specs.declared.refusals.Field.TheVariants.{Fourth}
 use Rattle.terms.specs.Letters.{letter_of}
 use Rattle.terms.specs.Words.{tab}
-use Rattle.text_rules.specs.declared.Reading.{Reading}
-use Rattle.text_rules.specs.declared.Reading.TheVariants.{Good, Bad}
 use Rattle.text_rules.specs.declared.Numeral.{Numeral}
-use Rattle.text_rules.specs.declared.Numeral.TheVariants.{Is, Missing}
-use Rattle.text_rules.specs.Lines.{parts, is_digit, value_from, shortest}
+use Rattle.text_rules.specs.Lines.{parts, is_digit, value_from, shortest, Reading}
+
+-- a number field, by its number and the place after it
+abbrev pub number : ℕ → ℕ → Option Numeral
+number value next = Some (record { value = value; next = next })
 
 -- the digits that a text begins with
 unfoldable pub digits_of : List ℕ → List ℕ
@@ -38,16 +39,16 @@ first_letter [] = None
 first_letter (b ∷ t) = pick (end_ahead t) (letter_of b) None
 
 -- the digits that a text begins with, read on from v: their number and the place after them, or none if the number is too large or the field goes on
-unfoldable pub digits_at : ℕ → ℕ → ℕ → List ℕ → Numeral
+unfoldable pub digits_at : ℕ → ℕ → ℕ → List ℕ → Option Numeral
 digits_at most v at t =
-    pick (leb (value_from v (digits_of t)) most && end_ahead (after_digits t)) (Is (value_from v (digits_of t)) (at + length (digits_of t))) Missing
+    pick (leb (value_from v (digits_of t)) most && end_ahead (after_digits t)) (number (value_from v (digits_of t)) (at + length (digits_of t))) None
 
 -- a tab, then a number in shortest decimal that is not above the limit, and the field's end; or none
-unfoldable pub number_at : ℕ → ℕ → List ℕ → Numeral
-number_at most at [] = Missing
-number_at most at (b ∷ t) = pick (eqb b tab) (pick (shortest (digits_of t)) (digits_at most 0 (at + 1) t) Missing) Missing
+unfoldable pub number_at : ℕ → ℕ → List ℕ → Option Numeral
+number_at most at [] = None
+number_at most at (b ∷ t) = pick (eqb b tab) (pick (shortest (digits_of t)) (digits_at most 0 (at + 1) t) None) None
 
 -- the field at fault of a line that lacks its newline, by how its bytes read; a good line has its newline (02, No. 5: a missing newline being 4)
 unfoldable pub lacking : Reading → Field
-lacking (Bad at) = at
-lacking (Good l job cell) = Fourth
+lacking (Err at) = at
+lacking (Ok line) = Fourth

@@ -1,5 +1,5 @@
 -- The records, and what writing one into a lent buffer tells and leaves (01, Lines).
-use Rattle.std.specs.Prelude.{ℕ, ◌+◌, Bool, true, false, List, [], ◌∷◌, ◌++◌, ltb, leb, length}
+use Rattle.std.specs.Prelude.{ℕ, ◌+◌, Bool, true, false, List, [], ◌∷◌, ◌++◌, ltb, leb, length, Result, Ok, Err}
 use Rattle.laws.specs.Choice.{pick}
 use Rattle.terms.specs.declared.letters.Letter.{Letter}
 use Rattle.terms.specs.declared.words.Word.{Word}
@@ -7,10 +7,9 @@ use Rattle.terms.specs.declared.words.Word.TheVariants.{Go, Wait, Back, No, Wake
 use Rattle.terms.specs.declared.refusals.Refusal.TheVariants.{NoRoom}
 use Rattle.terms.specs.Letters.{byte_of, has_job, has_cell}
 use Rattle.terms.specs.Words.{tab, newline, spelt}
-use Rattle.text_rules.specs.declared.Written.{Written}
-use Rattle.text_rules.specs.declared.Written.TheVariants.{Next, Refused}
 use Rattle.text_rules.specs.Decimal.{decimal}
 use Rattle.text_rules.specs.Wrote.{put_from}
+use Rattle.terms.specs.declared.refusals.Refusal.{Refusal}
 
 -- the words of answer records: go, wait, back, no and wake (01, Lines)
 abbrev pub of_answers : Word → Bool
@@ -66,8 +65,8 @@ unfoldable pub fits : List ℕ → ℕ → List ℕ → Bool
 fits buffer at bytes = leb (at + length bytes) (length buffer)
 
 -- what the writer tells: the place after the record, or refusal 15 (01, Lines)
-unfoldable pub told : List ℕ → ℕ → List ℕ → Written
-told buffer at bytes = pick (fits buffer at bytes) (Next (at + length bytes)) (Refused NoRoom)
+unfoldable pub told : List ℕ → ℕ → List ℕ → Result ℕ Refusal
+told buffer at bytes = pick (fits buffer at bytes) (Ok (at + length bytes)) (Err NoRoom)
 
 -- what the buffer then holds: the record from the place given and not before it, and all other bytes as they were; after a refusal, every byte as it was (01, Lines)
 unfoldable pub left : List ℕ → ℕ → List ℕ → List ℕ

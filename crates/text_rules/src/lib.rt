@@ -4,31 +4,22 @@
 pub mod splitter;
 
 pub use splitter::{Cut, Splitter, line_end};
-use terms::{Field, Letter, Refusal};
+use terms::{Field, Letter};
 
-// What a line says.
+// A good line: its letter, job and cell, 0 for a field that the letter does not have.
 #[derive(Clone, Copy)]
-pub enum Reading {
-    // a good line with its letter, job and cell, 0 for a field that the letter does not have
-    Good { letter: Letter, job: u32, cell: u32 },
-    // a bad line, which is refusal 9, with the field at fault
-    Bad(Field),
+pub struct Line {
+    pub letter: Letter,
+    pub job: u32,
+    pub cell: u32,
 }
 
-// A number field of a line.
-#[derive(Clone, Copy)]
-pub enum Numeral {
-    // the number, and the place after it
-    Is { value: u32, next: usize },
-    // no field stands there, or it is not a number, or the number is too large
-    Missing,
-}
+// What a line says: a good line, or the field at fault of a bad one, which is refusal 9.
+pub type Reading = Result<Line, Field>;
 
-// What writing a record tells.
+// A number field of a line: the number, and the place after it.
 #[derive(Clone, Copy)]
-pub enum Written {
-    // the place after the record
-    Next(usize),
-    // the record does not fit, and every byte of the buffer stays
-    Refused(Refusal),
+pub struct Numeral {
+    pub value: u32,
+    pub next: usize,
 }

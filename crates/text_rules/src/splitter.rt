@@ -1,6 +1,7 @@
 // The splitter: cuts chunks of input into lines of any length, in fixed memory (01, Lines).
-ghost use Rattle.std.specs.Prelude.{◌≡◌, ◌+◌, ◌-◌, ◌≤◌, ◌<◌, min, length, take, drop};
+ghost use Rattle.std.specs.Prelude.{◌≡◌, ◌==◌, ◌+◌, ◌-◌, ◌≤◌, ◌<◌, min, length, take, drop, position};
 ghost use Rattle.std.proofs.lemmas.List.Edits.{sets};
+ghost use Rattle.terms.specs.Words.{newline};
 ghost use Rattle.text_rules.specs.Split.{kept, fresh, following, under_way, through, used, cut_of};
 
 use terms::words::NEWLINE;
@@ -24,19 +25,32 @@ pub struct Cut {
     pub next: usize,
 }
 
+// How many bytes of a text stand before its first newline, if it has one.
+fn before_newline(text: &[u8]) -> Option<usize>
+    ensures { result ≡ position (λ b. b == newline) text.now }
+{
+    text.iter().position(|byte| *byte == NEWLINE)
+}
+
+// How many bytes a text's first line has: those up to and including the first newline, or all if there is none.
+fn line_length(text: &[u8]) -> usize
+    ensures { result ≡ used text.now }
+{
+    match before_newline(text) {
+        Some(before) => before + 1,
+        None => text.len(),
+    }
+}
+
 // The place after the line that starts at a place of a text: after its newline, or at the text's end if it has none. A place past the end stays.
-#[tactic(auto, using(crate::proofs::Scan::end_at_end, crate::proofs::Scan::end_at_newline, crate::proofs::Scan::end_past))]
+#[tactic(auto, using(crate::proofs::Cutting::used_within, crate::proofs::Scan::end_past))]
 pub fn line_end(text: &[u8], from: usize) -> usize
     ensures { result ≡ from + used (drop from text.now) }
 {
-    let mut at = from;
-    while at < text.len() {
-        if text[at] == NEWLINE {
-            return at + 1;
-        }
-        at += 1;
+    match text.get(from..) {
+        Some(rest) => from + line_length(rest),
+        None => from,
     }
-    at
 }
 
 // The number after a line's.
@@ -44,18 +58,14 @@ pub fn line_end(text: &[u8], from: usize) -> usize
 fn next_line(line: u64) -> u64
     ensures { result ≡ following line }
 {
-    if line < u64::MAX { line + 1 } else { line }
+    line.saturating_add(1)
 }
 
 // How many of n bytes there is room for when len are kept.
 fn room(len: usize, n: usize) -> usize
     ensures { result ≡ min n (kept - len) }
 {
-    if KEPT <= len {
-        return 0;
-    }
-    let left = KEPT - len;
-    if n < left { n } else { left }
+    n.min(KEPT.saturating_sub(len))
 }
 
 // The kept bytes with the first n of a part put in from place len on.
@@ -65,10 +75,8 @@ fn filled(bytes: [u8; KEPT], len: usize, part: &[u8], n: usize) -> [u8; KEPT]
     ensures { result ≡ sets bytes len (take n part.now) }
 {
     let mut all = bytes;
-    let mut i = 0;
-    while i < n {
+    for i in 0..n {
         all[len + i] = part[i];
-        i += 1;
     }
     all
 }
@@ -80,11 +88,10 @@ fn grown(bytes: [u8; KEPT], len: usize, line: u64, part: &[u8]) -> Splitter
 {
     let n = room(len, part.len());
     let all = filled(bytes, len, part, n);
-    let last = part.len() - 1;
     Splitter {
         kept: all,
         len: len + n,
-        ended: part[last] == NEWLINE,
+        ended: part[part.len() - 1] == NEWLINE,
         line,
     }
 }
@@ -115,13 +122,12 @@ impl Splitter {
                 next,
             };
         }
-        let kept = self.kept;
         let part = &chunk[from..next];
-        if self.ended {
-            let splitter = grown(kept, 0, next_line(self.line), part);
-            return Cut { splitter, next };
-        }
-        let splitter = grown(kept, self.len, self.line, part);
+        let splitter = if self.ended {
+            grown(self.kept, 0, next_line(self.line), part)
+        } else {
+            grown(self.kept, self.len, self.line, part)
+        };
         Cut { splitter, next }
     }
 }

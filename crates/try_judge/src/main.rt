@@ -10,7 +10,6 @@ use judge_rules::verdict::Verdict;
 use terms::limits::JUDGED_BYTES;
 use terms::refusals::{Refusal, field_of};
 use terms::words::NEWLINE;
-use text_rules::Written;
 
 // As many bytes are read at once.
 const BUFFER: usize = 65_536;
@@ -71,10 +70,10 @@ fn put_mark(rt: &HostRuntime) {
 fn put_verdict(rt: &HostRuntime, said: Verdict, order: &[u8; ORDER_PLACES]) {
     let mut out = [0u8; ROOM];
     match write_verdict(said, order, &mut out) {
-        Written::Next(next) => {
+        Ok(next) => {
             put_bytes(rt, &out[0..next]);
         }
-        Written::Refused(_) => put_mark(rt),
+        Err(_) => put_mark(rt),
     }
 }
 

@@ -2,24 +2,33 @@
 // The first byte of the input selects the desk: `t` the timestamp desk, any other byte the lock desk. The text begins behind it.
 #![tactic(auto)]
 
-ghost use Rattle.std.specs.Prelude.{◌-◌, ◌≤◌, length};
-ghost use Rattle.terms.specs.Limits.{request_lines};
+ghost use Rattle.std.specs.Prelude.{◌≤◌};
 
-use conflict::action::Action;
 use desk_arrays::state::{Desk, Said};
 use desks::Answer;
+use lent::night::{Requests, all_night};
 use stamp_arrays::state::Stamps;
-use terms::limits::{PLACES, REQUEST_LINES};
+use terms::limits::REQUEST_LINES;
 use terms::refusals::{Refusal, field_of};
 use terms::words::Word;
 use text::held::{read_held, torn_held};
 use text::writer::write_answer;
 use text_rules::splitter::Splitter;
-use text_rules::{Reading, Written};
 
-// The next request: how many lines may still be answered, this one included (0 if there is no request); what it asks; and its line.
+// A desk that is kept for the whole text: how it is lent to a request, and how what it says is written out.
+trait Kept {
+    type Said;
+
+    fn step_lent(&mut self, kind: u8, job: u32, cell: u32) -> Self::Said;
+
+    // Writes the records of what it said; tells whether all were taken.
+    fn put_said(rt: &HostRuntime, line: u64, said: Self::Said) -> bool;
+}
+
+// The next request: where the text comes from; how many lines may still be answered, this one included (0 if there is no request); what it asks; and its line.
 #[derive(Clone, Copy)]
-struct Asked {
+struct Asked<'a> {
+    rt: &'a HostRuntime,
     left: u64,
     kind: u8,
     job: u32,
@@ -27,75 +36,42 @@ struct Asked {
     splitter: Splitter,
 }
 
-// A byte of the input, and whether there was one.
-#[derive(Clone, Copy)]
-struct Byte {
-    byte: u8,
-    there: bool,
-}
-
-// The input up to the next newline, and whether one came; if not, the input has ended or cannot be read.
-#[derive(Clone, Copy)]
-struct Heard {
-    splitter: Splitter,
-    whole: bool,
-}
-
 // The first byte that selects the timestamp desk.
-const STAMPS: u8 = 116;
+const STAMPS: u8 = b't';
 // More bytes than any record has.
 const ROOM: usize = 32;
 
 // The next byte of the input, if there is one.
-fn next_byte(rt: &HostRuntime) -> Byte {
+fn next_byte(rt: &HostRuntime) -> Option<u8> {
     let mut one = [0u8; 1];
-    let got = match streams::read(rt, &mut one) {
-        Ok(n) => n,
+    match streams::read(rt, &mut one) {
+        Ok(0) => None,
+        Ok(_) => Some(one[0]),
         Err(e) => {
             streams::fail(rt, "try_lent: cannot read", &e);
-            0
+            None
         }
-    };
-    Byte {
-        byte: one[0],
-        there: got > 0,
     }
 }
 
-// The next line, cut byte by byte. Nothing guarantees that the input ends, so the turns are counted down.
-fn hear_line(rt: &HostRuntime, before: Splitter) -> Heard {
+// The next line, cut byte by byte; an `Err` holds what was heard until the input ended or could not be read. Nothing guarantees that the input ends, so the turns are counted.
+fn hear_line(rt: &HostRuntime, before: Splitter) -> Result<Splitter, Splitter> {
     let mut splitter = before;
-    let mut turns = u64::MAX;
-    while turns > 0 {
-        let next = next_byte(rt);
-        if !next.there {
-            return Heard {
-                splitter,
-                whole: false,
-            };
-        }
-        let one = [next.byte];
-        let cut = splitter.cut(&one, 0);
-        splitter = cut.splitter;
+    for _ in 0..u64::MAX {
+        let Some(byte) = next_byte(rt) else {
+            return Err(splitter);
+        };
+        splitter = splitter.cut(&[byte], 0).splitter;
         if splitter.ended {
-            return Heard {
-                splitter,
-                whole: true,
-            };
+            return Ok(splitter);
         }
-        turns -= 1;
     }
-    Heard {
-        splitter,
-        whole: false,
-    }
+    Err(splitter)
 }
 
-// Writes out what stands before this place; tells whether it was taken.
-fn put_out(rt: &HostRuntime, out: &[u8], at: usize) -> bool
-    requires { at ≤ length out.now }
-{
-    match streams::write_all(rt, &out[0..at]) {
+// Writes out a record; tells whether it was taken.
+fn put_out(rt: &HostRuntime, record: &[u8]) -> bool {
+    match streams::write_all(rt, record) {
         Ok(()) => true,
         Err(e) => {
             streams::fail(rt, "try_lent: cannot write", &e);
@@ -108,8 +84,8 @@ fn put_out(rt: &HostRuntime, out: &[u8], at: usize) -> bool
 fn put_record(rt: &HostRuntime, line: u64, word: Word, number: u64, fault: u64) -> bool {
     let mut out = [0u8; ROOM];
     match write_answer(&mut out, 0, line, word, number, fault) {
-        Written::Next(at) => put_out(rt, &out, at),
-        Written::Refused(_) => false,
+        Ok(at) => put_out(rt, &out[..at]),
+        Err(_) => false,
     }
 }
 
@@ -119,52 +95,55 @@ fn put_no(rt: &HostRuntime, line: u64, why: Refusal) -> bool {
         rt,
         line,
         Word::No,
-        u8::from(why) as u64,
-        field_of(why) as u64,
+        u64::from(u8::from(why)),
+        u64::from(field_of(why)),
     )
 }
 
 // Writes an answer's record; tells whether it was taken.
 fn put_answer(rt: &HostRuntime, line: u64, answer: Answer) -> bool {
     match answer {
-        Answer::Go(job) => put_record(rt, line, Word::Go, job as u64, 0),
-        Answer::Wait(job) => put_record(rt, line, Word::Wait, job as u64, 0),
-        Answer::Back(job) => put_record(rt, line, Word::Back, job as u64, 0),
+        Answer::Go(job) => put_record(rt, line, Word::Go, u64::from(job), 0),
+        Answer::Wait(job) => put_record(rt, line, Word::Wait, u64::from(job), 0),
+        Answer::Back(job) => put_record(rt, line, Word::Back, u64::from(job), 0),
         Answer::No(why) => put_no(rt, line, why),
     }
 }
 
-// Writes one record for each of the `count` wakes; tells whether all were taken.
-fn put_wakes(rt: &HostRuntime, line: u64, wakes: [Action; PLACES], count: usize) -> bool {
-    let mut i: usize = 0;
-    while i < PLACES {
-        if count <= i {
-            return true;
-        }
-        let a = wakes[i];
-        if !put_record(rt, line, Word::Wake, a.job as u64, 0) {
-            return false;
-        }
-        i += 1;
+// What the lock desk says is an answer, and a record for each wake.
+impl Kept for Desk {
+    type Said = Said;
+
+    fn step_lent(&mut self, kind: u8, job: u32, cell: u32) -> Said {
+        lent::locks::step_lent(self, kind, job, cell)
     }
-    true
+
+    fn put_said(rt: &HostRuntime, line: u64, said: Said) -> bool {
+        let mut woken = said.wakes.iter().take(said.count);
+        put_answer(rt, line, said.answer)
+            && woken.all(|a| put_record(rt, line, Word::Wake, u64::from(a.job), 0))
+    }
 }
 
-// Writes the records of what the lock desk said; tells whether all were taken.
-fn put_said(rt: &HostRuntime, line: u64, said: Said) -> bool {
-    let answer = said.answer;
-    let wakes = said.wakes;
-    if !put_answer(rt, line, answer) {
-        return false;
+// On the timestamp desk nobody waits or wakes.
+impl Kept for Stamps {
+    type Said = Answer;
+
+    fn step_lent(&mut self, kind: u8, job: u32, cell: u32) -> Answer {
+        lent::stamps::step_lent(self, kind, job, cell)
     }
-    put_wakes(rt, line, wakes, said.count)
+
+    fn put_said(rt: &HostRuntime, line: u64, said: Answer) -> bool {
+        put_answer(rt, line, said)
+    }
 }
 
 // No further request.
-fn none(splitter: Splitter) -> Asked
+fn none(rt: &HostRuntime, splitter: Splitter) -> Asked<'_>
     ensures { result.left ≤ 0 }
 {
     Asked {
+        rt,
         left: 0,
         kind: 0,
         job: 0,
@@ -174,112 +153,80 @@ fn none(splitter: Splitter) -> Asked
 }
 
 // The input has ended: a line under way has no newline and is bad; there is no further request.
-fn at_end(rt: &HostRuntime, s: Splitter) -> Asked
+fn at_end(rt: &HostRuntime, s: Splitter) -> Asked<'_>
     ensures { result.left ≤ 0 }
 {
     if !s.ended {
         put_no(rt, s.line, Refusal::BadLine(torn_held(s)));
     }
-    none(s)
+    none(rt, s)
 }
 
 // The next good line, with this many lines still to be answered. Bad lines before it are answered here, since the desk is not asked about them.
-fn next_request(rt: &HostRuntime, before: Splitter, lines: u64) -> Asked
+fn next_request(rt: &HostRuntime, before: Splitter, lines: u64) -> Asked<'_>
     ensures { result.left ≤ lines }
 {
     let mut splitter = before;
-    let mut left = lines;
-    while left > 0 {
-        let heard = hear_line(rt, splitter);
-        splitter = heard.splitter;
-        if !heard.whole {
-            return at_end(rt, splitter);
-        }
+    for done in 0..lines {
+        splitter = match hear_line(rt, splitter) {
+            Ok(s) => s,
+            Err(s) => return at_end(rt, s),
+        };
         match read_held(splitter) {
-            Reading::Good { letter, job, cell } => {
+            Ok(good) => {
                 return Asked {
-                    left,
-                    kind: u8::from(letter),
-                    job,
-                    cell,
+                    rt,
+                    left: lines - done,
+                    kind: u8::from(good.letter),
+                    job: good.job,
+                    cell: good.cell,
                     splitter,
                 };
             }
-            Reading::Bad(field) => {
+            Err(field) => {
                 if !put_no(rt, splitter.line, Refusal::BadLine(field)) {
-                    return none(splitter);
+                    return none(rt, splitter);
                 }
             }
         }
-        left -= 1;
     }
-    none(splitter)
+    none(rt, splitter)
 }
 
-// The first request of the text.
-fn first_request(rt: &HostRuntime) -> Asked
-    ensures { result.left ≤ request_lines }
-{
-    next_request(rt, Splitter::started(), REQUEST_LINES)
-}
+// The requests of a text, which ask a desk one by one.
+impl<D: Kept> Requests<D> for Asked<'_> {
+    type Said = D::Said;
 
-// The request after an answered one, if its records were taken and a line may still be answered.
-fn request_after(rt: &HostRuntime, a: Asked, taken: bool) -> Asked
-    ensures { result.left ≤ a.left - 1 }
-{
-    let splitter = a.splitter;
-    if !taken {
-        return none(splitter);
+    ghost left_of = { λ asked. asked.left };
+
+    fn left(&self) -> u64 {
+        self.left
     }
-    if a.left == 0 {
-        return none(splitter);
+
+    fn lend(&self, d: &mut D) -> D::Said {
+        d.step_lent(self.kind, self.job, self.cell)
     }
-    next_request(rt, splitter, a.left - 1)
-}
 
-// Writes out what the lock desk said, and reads the next request.
-fn after_said(rt: &HostRuntime, a: Asked, said: Said) -> Asked
-    ensures { result.left ≤ a.left - 1 }
-{
-    let splitter = a.splitter;
-    let taken = put_said(rt, splitter.line, said);
-    request_after(rt, a, taken)
-}
-
-// Writes out what the timestamp desk answered, and reads the next request.
-fn after_answer(rt: &HostRuntime, a: Asked, answer: Answer) -> Asked
-    ensures { result.left ≤ a.left - 1 }
-{
-    let splitter = a.splitter;
-    let taken = put_answer(rt, splitter.line, answer);
-    request_after(rt, a, taken)
-}
-
-// One lock desk, lent to every request of the text.
-fn serve_locks(rt: &HostRuntime) {
-    let mut d = Desk::first();
-    let mut a = first_request(rt);
-    while a.left > 0 {
-        let said = lent::locks::step_lent(&mut d, a.kind, a.job, a.cell);
-        a = after_said(rt, a, said);
+    // Writes out what the desk said. The next request follows if all was taken and a line may still be answered.
+    fn after(self, said: D::Said) -> Self {
+        if D::put_said(self.rt, self.splitter.line, said) {
+            next_request(self.rt, self.splitter, self.left.saturating_sub(1))
+        } else {
+            none(self.rt, self.splitter)
+        }
     }
 }
 
-// One timestamp desk, lent to every request of the text.
-fn serve_stamps(rt: &HostRuntime) {
-    let mut d = Stamps::first();
-    let mut a = first_request(rt);
-    while a.left > 0 {
-        let answer = lent::stamps::step_lent(&mut d, a.kind, a.job, a.cell);
-        a = after_answer(rt, a, answer);
-    }
+// One desk, lent to every request of the text.
+fn serve<D: Kept + Drop>(rt: &HostRuntime, desk: D) {
+    let first = next_request(rt, Splitter::started(), REQUEST_LINES);
+    all_night(desk, first);
 }
 
 fn main(rt: HostRuntime) {
-    let first = next_byte(&rt);
-    if first.byte == STAMPS {
-        serve_stamps(&rt);
-        return;
+    if matches!(next_byte(&rt), Some(STAMPS)) {
+        serve(&rt, Stamps::first());
+    } else {
+        serve(&rt, Desk::first());
     }
-    serve_locks(&rt);
 }

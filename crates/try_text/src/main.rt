@@ -6,7 +6,7 @@ ghost use Rattle.text_rules.specs.Split.{Sized};
 
 use terms::{Field, Letter, Refusal, Word, has_cell, has_job};
 use text::{read_history, read_request, write_answer, write_line};
-use text_rules::{Reading, Splitter, Written};
+use text_rules::Splitter;
 
 // As many bytes are read at once, and as many have room before they are written out.
 const BUFFER: usize = 65_536;
@@ -39,8 +39,8 @@ fn answer(
         return at;
     }
     match write_answer(out, at, line, word, number, fault) {
-        Written::Next(next) => next,
-        Written::Refused(_) => at,
+        Ok(next) => next,
+        Err(_) => at,
     }
 }
 
@@ -71,8 +71,8 @@ fn request(out: &mut [u8], at: usize, line: u64, bytes: &[u8]) -> usize
     ensures { result ≤ length out.new }
 {
     match read_request(bytes) {
-        Reading::Good { letter, job, cell } => good_request(out, at, line, letter, job, cell),
-        Reading::Bad(field) => bad(out, at, line, Word::No, field),
+        Ok(good) => good_request(out, at, line, good.letter, good.job, good.cell),
+        Err(field) => bad(out, at, line, Word::No, field),
     }
 }
 
@@ -83,8 +83,8 @@ fn good_history(out: &mut [u8], at: usize, letter: Letter, job: u32, cell: u32) 
     ensures { result ≤ length out.new }
 {
     match write_line(out, at, letter, job as u64, cell as u64) {
-        Written::Next(next) => next,
-        Written::Refused(_) => at,
+        Ok(next) => next,
+        Err(_) => at,
     }
 }
 
@@ -94,8 +94,8 @@ fn history(out: &mut [u8], at: usize, line: u64, bytes: &[u8]) -> usize
     ensures { result ≤ length out.new }
 {
     match read_history(bytes) {
-        Reading::Good { letter, job, cell } => good_history(out, at, letter, job, cell),
-        Reading::Bad(field) => bad(out, at, line, Word::Wake, field),
+        Ok(good) => good_history(out, at, good.letter, good.job, good.cell),
+        Err(field) => bad(out, at, line, Word::Wake, field),
     }
 }
 

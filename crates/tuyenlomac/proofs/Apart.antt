@@ -5,6 +5,7 @@ use Prim.Native.Nat.{ℕ}
 use mathlib.Core.Path.{◌≡◌, refl, sym, ap, ◌∙◌}
 use mathlib.Core.List.{[], ◌∷◌}
 use lib.ListN.{get_or}
+use Rattle.std.specs.Prelude.{Err, Ok}
 use Rattle.terms.specs.declared.words.Word.{Word}
 use Rattle.terms.specs.declared.words.Word.TheVariants.{Go, Wait, Back, No, Wake, Orderly, Knot, Dirty}
 use Rattle.terms.specs.declared.letters.Letter.{Letter}
@@ -12,8 +13,6 @@ use Rattle.terms.specs.declared.letters.Letter.TheVariants.{Begin}
 use Rattle.terms.specs.declared.refusals.Field.TheVariants.{First, Second, Third, Fourth}
 use Rattle.terms.specs.Letters.{letter_of}
 use Rattle.terms.proofs.Alphabet.{letter_of_byte}
-use Rattle.text_rules.specs.declared.Reading.{Reading}
-use Rattle.text_rules.specs.declared.Reading.TheVariants.{Good, Bad}
 use Rattle.desks.specs.declared.Answer.{Answer}
 use Rattle.desks.specs.declared.Answer.TheVariants.{Go as goes, Wait as waits, Back as back, No as refuses}
 use Rattle.desks.specs.AnswerWords.{word_of, field_beside}
@@ -22,6 +21,7 @@ use Rattle.tuyenlomac.specs.declared.answers.Answered.{Answered}
 use Rattle.tuyenlomac.specs.declared.lines.Line.{Line}
 use Rattle.tuyenlomac.specs.Numbers.{word_number, word_at, in_three}
 use Rattle.tuyenlomac.specs.Texts.{line_in}
+use Rattle.text_rules.specs.Lines.{Reading, good}
 
 -- the word of a number, among the eight
 abbrev word_by : ℕ → Word
@@ -57,15 +57,15 @@ letter_by (Some l) = l
 letter_by None = Begin
 
 abbrev reading_by : Line → Reading
-reading_by l = get_or (Good (letter_by (letter_of l.kind)) l.job l.cell ∷ Bad First ∷ Bad Second ∷ Bad Third ∷ []) l.field (Bad Fourth)
+reading_by l = get_or (good (letter_by (letter_of l.kind)) l.job l.cell ∷ Err First ∷ Err Second ∷ Err Third ∷ []) l.field (Err Fourth)
 
 at_reading : (r : Reading) → reading_by (line_in r) ≡ r
 unfolding line_in
-at_reading (Good l job cell) = ap (λ x. Good (letter_by x) job cell) (letter_of_byte l)
-at_reading (Bad First) = refl
-at_reading (Bad Second) = refl
-at_reading (Bad Third) = refl
-at_reading (Bad Fourth) = refl
+at_reading (Ok line) = ap (λ x. good (letter_by x) line.job line.cell) (letter_of_byte line.letter)
+at_reading (Err First) = refl
+at_reading (Err Second) = refl
+at_reading (Err Third) = refl
+at_reading (Err Fourth) = refl
 
 -- EQUAL NUMBERS, EQUAL LINES
 pub same_line : (r s : Reading) → line_in r ≡ line_in s → r ≡ s

@@ -1,6 +1,6 @@
 -- What callers are told and what they pass in, as literal numbers and bytes: wakes, answers, words, lines and records, each shown on an example that any other reading of the numbers makes false (01, Lines; 01, rule 4; 02, No. 5).
 -- Assumes nothing.
-use Rattle.std.specs.Prelude.{None, Some}
+use Rattle.std.specs.Prelude.{None, Some, Ok, Err}
 use Prim.Native.Nat.{ℕ}
 use mathlib.Core.Path.{◌≡◌, refl}
 use mathlib.Core.List.{List, [], ◌∷◌, map}
@@ -9,7 +9,6 @@ use Rattle.terms.specs.declared.words.Word.TheVariants.{Go, Wait, Back, No, Wake
 use Rattle.terms.specs.declared.refusals.Refusal.TheVariants.{NotOpen, NoRoom}
 use Rattle.terms.specs.Letters.{letter_of, of_requests}
 use Rattle.conflict.specs.declared.action.Kind.TheVariants.{Read, Write, Increment}
-use Rattle.text_rules.specs.declared.Written.TheVariants.{Next, Refused}
 use Rattle.text_rules.specs.Decimal.{digits_in, decimal}
 use Rattle.text_rules.specs.EventRecords.{ask_by}
 use Rattle.text_rules.specs.Lines.{parts, field_ahead, after_field, is_digit, digits_only, value_from, shortest, is_number, number_then, ending, cell_part, job_part, letter_in, letter_part, read_line}
@@ -62,7 +61,7 @@ unfolding line_bytes line_record field decimal digits_in bytes
 line_bytes_are = refl
 
 -- what writing tells: the refusal's number, or 0, and then the place after the record; a record that does not exist gets 1, and every byte stays, whatever the buffer and the place
-pub written_are : map written_numbers (Next 9 ∷ Refused NoRoom ∷ []) ≡ (0 ∷ 9 ∷ []) ∷ (15 ∷ 0 ∷ []) ∷ []
+pub written_are : map written_numbers (Ok 9 ∷ Err NoRoom ∷ []) ≡ (0 ∷ 9 ∷ []) ∷ (15 ∷ 0 ∷ []) ∷ []
 unfolding written_numbers
 written_are = refl
 

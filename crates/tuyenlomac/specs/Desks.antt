@@ -1,38 +1,35 @@
 -- What a start answers and leaves in a desk that the caller keeps, and how the wakes of a step are told in three lists of numbers (01, refusal 10; 01, rule 4).
-use Rattle.std.specs.Prelude.{ℕ, List, map}
+use Rattle.std.specs.Prelude.{ℕ, List, map, Result, Ok, Err}
 use Rattle.laws.specs.Lists.{filled}
 use Rattle.terms.specs.declared.letters.Letter.TheVariants.{Asks}
 use Rattle.terms.specs.Letters.{byte_of}
+use Rattle.terms.specs.declared.refusals.Refusal.{Refusal}
 use Rattle.terms.specs.Refusals.{number_of}
 use Rattle.conflict.specs.declared.action.Action.{Action}
 use Rattle.conflict.specs.declared.action.Kind.{Kind}
 use Rattle.text_rules.specs.EventRecords.{ask_by}
 use Rattle.desk_arrays.specs.declared.state.Desk.{Desk}
-use Rattle.desk_arrays.specs.declared.state.Start.{Start}
-use Rattle.desk_arrays.specs.declared.state.Start.TheVariants.{Ready, Refused}
 use Rattle.stamp_arrays.specs.declared.state.Stamps.{Stamps}
-use Rattle.stamp_arrays.specs.declared.state.Start.{Start as StampsStart}
-use Rattle.stamp_arrays.specs.declared.state.Start.TheVariants.{Ready as made, Refused as not_made}
 
 -- the answer to a start: 0, or the refusal's number (01, refusal 10)
-unfoldable pub start_number : Start → ℕ
-start_number (Ready d) = 0
-start_number (Refused why) = number_of why
+unfoldable pub start_number : Result Desk Refusal → ℕ
+start_number (Ok d) = 0
+start_number (Err why) = number_of why
 
 -- what is then in the desk's place: the started desk, or what was there
-unfoldable pub start_leaves : Desk → Start → Desk
-start_leaves before (Ready d) = d
-start_leaves before (Refused why) = before
+unfoldable pub start_leaves : Desk → Result Desk Refusal → Desk
+start_leaves before (Ok d) = d
+start_leaves before (Err why) = before
 
 -- the answer to the start of a timestamp desk
-unfoldable pub stamps_number : StampsStart → ℕ
-stamps_number (made d) = 0
-stamps_number (not_made why) = number_of why
+unfoldable pub stamps_number : Result Stamps Refusal → ℕ
+stamps_number (Ok d) = 0
+stamps_number (Err why) = number_of why
 
 -- and what is then in its place
-unfoldable pub stamps_leaves : Stamps → StampsStart → Stamps
-stamps_leaves before (made d) = d
-stamps_leaves before (not_made why) = before
+unfoldable pub stamps_leaves : Stamps → Result Stamps Refusal → Stamps
+stamps_leaves before (Ok d) = d
+stamps_leaves before (Err why) = before
 
 -- three lists that a caller lends for the wakes: their jobs, their cells, and the bytes of what they do there
 pub record Lists : Type 0 where

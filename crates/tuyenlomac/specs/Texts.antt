@@ -1,26 +1,24 @@
 -- Lines and records in numbers: what a line says, and what writing a record tells and leaves, also for a number that stands for no word or letter (01, Lines; 02, No. 5).
-use Rattle.std.specs.Prelude.{ℕ, List, [], ◌∷◌, Option, None, Some}
+use Rattle.std.specs.Prelude.{ℕ, List, [], ◌∷◌, Option, None, Some, Err, Result, Ok}
 use Rattle.terms.specs.declared.letters.Letter.{Letter}
 use Rattle.terms.specs.declared.refusals.Refusal.TheVariants.{UnknownKind}
 use Rattle.terms.specs.Letters.{byte_of}
 use Rattle.terms.specs.Refusals.{number_of, field_number}
-use Rattle.text_rules.specs.declared.Reading.{Reading}
-use Rattle.text_rules.specs.declared.Reading.TheVariants.{Good, Bad}
-use Rattle.text_rules.specs.declared.Written.{Written}
-use Rattle.text_rules.specs.declared.Written.TheVariants.{Next, Refused}
 use Rattle.text_rules.specs.Records.{answer_record, line_record, told, left}
 use Rattle.tuyenlomac.specs.declared.lines.Line.{Line}
 use Rattle.terms.specs.declared.words.Word.{Word}
+use Rattle.text_rules.specs.Lines.{Reading}
+use Rattle.terms.specs.declared.refusals.Refusal.{Refusal}
 
 -- what a line says: for a good line its letter's byte, job and cell, and 0; for a bad line the field at fault (02, No. 5)
 unfoldable pub line_in : Reading → Line
-line_in (Good letter job cell) = record { job = job; cell = cell; kind = byte_of letter; field = 0 }
-line_in (Bad which) = record { job = 0; cell = 0; kind = 0; field = field_number which }
+line_in (Ok line) = record { job = line.job; cell = line.cell; kind = byte_of line.letter; field = 0 }
+line_in (Err which) = record { job = 0; cell = 0; kind = 0; field = field_number which }
 
 -- what writing tells: 0 and the place after the record, or the refusal's number and 0
-unfoldable pub written_numbers : Written → List ℕ
-written_numbers (Next place) = 0 ∷ place ∷ []
-written_numbers (Refused why) = number_of why ∷ 0 ∷ []
+unfoldable pub written_numbers : (Result ℕ Refusal) → List ℕ
+written_numbers (Ok place) = 0 ∷ place ∷ []
+written_numbers (Err why) = number_of why ∷ 0 ∷ []
 
 -- the bytes of an answer record, if there is such a word
 unfoldable pub answer_bytes : ℕ → Option Word → ℕ → ℕ → Option (List ℕ)
@@ -33,8 +31,8 @@ line_bytes (Some l) job cell = Some (line_record l job cell)
 line_bytes None job cell = None
 
 -- what writing tells: the same as for any record, and 1 if there is none
-unfoldable pub told_of : List ℕ → ℕ → Option (List ℕ) → Written
-told_of buffer at None = Refused UnknownKind
+unfoldable pub told_of : List ℕ → ℕ → Option (List ℕ) → Result ℕ Refusal
+told_of buffer at None = Err UnknownKind
 told_of buffer at (Some bytes) = told buffer at bytes
 
 -- and what the buffer then holds: all as it was if there is none

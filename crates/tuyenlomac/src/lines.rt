@@ -10,7 +10,7 @@ use terms::refusals::Refusal;
 use terms::words::Word;
 use text::reader::{read_history, read_request};
 use text::writer::{write_answer, write_line};
-use text_rules::{Reading, Written};
+use text_rules::Reading;
 
 // What a line says. For a good line `field` is 0 and `kind` is its letter's byte; `job` and `cell` are 0 if the letter has none. For a bad line `field` is the field at fault, 1 to 4, and the others are 0.
 #[repr(C)]
@@ -49,13 +49,13 @@ fn line_in(r: Reading) -> Line
     ensures { result ≡ line_in r }
 {
     match r {
-        Reading::Good { letter, job, cell } => Line {
-            job,
-            cell,
-            kind: u8::from(letter),
+        Ok(good) => Line {
+            job: good.job,
+            cell: good.cell,
+            kind: u8::from(good.letter),
             field: 0,
         },
-        Reading::Bad(field) => Line {
+        Err(field) => Line {
             job: 0,
             cell: 0,
             kind: 0,
@@ -65,12 +65,12 @@ fn line_in(r: Reading) -> Line
 }
 
 // What writing tells, in two numbers.
-fn placed_at(w: Written) -> Placed
+fn placed_at(w: Result<usize, Refusal>) -> Placed
     ensures { (result.refusal ∷ result.next ∷ []) ≡ written_numbers w }
 {
     match w {
-        Written::Next(next) => Placed { refusal: 0, next },
-        Written::Refused(why) => Placed {
+        Ok(next) => Placed { refusal: 0, next },
+        Err(why) => Placed {
             refusal: u8::from(why) as u32,
             next: 0,
         },
@@ -105,7 +105,7 @@ pub fn tuyenlomac_write_answer(
 {
     match word_at(word) {
         Some(w) => placed_at(write_answer(buffer, at, line, w, number, field)),
-        None => placed_at(Written::Refused(Refusal::UnknownKind)),
+        None => placed_at(Err(Refusal::UnknownKind)),
     }
 }
 
@@ -116,6 +116,6 @@ pub fn tuyenlomac_write_line(buffer: &mut [u8], at: usize, kind: u8, job: u64, c
 {
     match letter_of(kind) {
         Some(l) => placed_at(write_line(buffer, at, l, job, cell)),
-        None => placed_at(Written::Refused(Refusal::UnknownKind)),
+        None => placed_at(Err(Refusal::UnknownKind)),
     }
 }

@@ -8,7 +8,6 @@ ghost use Rattle.verdict.specs.Taking.{fitting, kept, Took, Judges};
 
 use judge_line::verdict::verdict_line;
 use terms::limits::JUDGED_BYTES;
-use text_rules::Written;
 
 // As many bytes as are read: one more than a text may have shows that it is too long.
 const READ: usize = JUDGED_BYTES + 1;
@@ -33,8 +32,8 @@ fn put_line(text: &[u8], out: &mut [u8]) -> usize
     ensures { (result ≤ length out.new) × (take result out.new ≡ verdict_of text.now) }
 {
     match verdict_line(text, out) {
-        Written::Next(next) => next,
-        Written::Refused(_) => 0,
+        Ok(next) => next,
+        Err(_) => 0,
     }
 }
 

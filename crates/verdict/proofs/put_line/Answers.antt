@@ -4,5 +4,5 @@ use mathlib.Core.Path.{refl}
 use Rattle.verdict.proofs.Written.{not_refused}
 use Rattle.verdict.proofs.put_line.Goals as goal
 
-pub returns-in-Refused : goal.returns-in-Refused
-returns-in-Refused c = not_refused _ _ _ c.requires c.in-Refused.ensures.0 _ refl
+pub returns-in-Err : goal.returns-in-Err
+returns-in-Err c = not_refused _ _ _ c.requires c.in-Err.ensures.0 _ refl

@@ -6,8 +6,8 @@ use Rattle.clerk.proofs.Adding.{added_next, never_refused}
 use borrow.Author.Rules.{rules}
 use Rattle.clerk.proofs.chains.put_end.Goals as goal
 
-pub returns-in-Next : goal.returns-in-Next
-returns-in-Next c = added_next c.write_end.ensures.0 c.in-Next.is c.write_end.ensures.1 (omega arith)
+pub returns-in-Ok : goal.returns-in-Ok
+returns-in-Ok c = added_next c.write_end.ensures.0 c.in-Ok.is c.write_end.ensures.1 (omega arith)
 
-pub returns-in-Refused : goal.returns-in-Refused
-returns-in-Refused c = never_refused _ _ _ 1 c.write_end.ensures.0 c.in-Refused.is (omega arith) (search rules)
+pub returns-in-Err : goal.returns-in-Err
+returns-in-Err c = never_refused _ _ _ 1 c.write_end.ensures.0 c.in-Err.is (omega arith) (search rules)

@@ -5,8 +5,8 @@ use Rattle.text_rules.specs.Records.{longest_record}
 use Rattle.clerk.proofs.Adding.{added_next, never_refused}
 use Rattle.clerk.proofs.records.put_answer.Goals as goal
 
-pub returns-in-Next : goal.returns-in-Next
-returns-in-Next c = added_next c.write_answer.ensures.0 c.in-Next.is c.write_answer.ensures.1 (answer_at_most_24 _ _ _ _ c.requires.0 c.requires.1 c.requires.2.0 c.requires.2.1 c.requires.2.2)
+pub returns-in-Ok : goal.returns-in-Ok
+returns-in-Ok c = added_next c.write_answer.ensures.0 c.in-Ok.is c.write_answer.ensures.1 (answer_at_most_24 _ _ _ _ c.requires.0 c.requires.1 c.requires.2.0 c.requires.2.1 c.requires.2.2)
 
-pub returns-in-Refused : goal.returns-in-Refused
-returns-in-Refused c = never_refused _ _ _ longest_record c.write_answer.ensures.0 c.in-Refused.is (answer_at_most_24 _ _ _ _ c.requires.0 c.requires.1 c.requires.2.0 c.requires.2.1 c.requires.2.2) c.requires.3
+pub returns-in-Err : goal.returns-in-Err
+returns-in-Err c = never_refused _ _ _ longest_record c.write_answer.ensures.0 c.in-Err.is (answer_at_most_24 _ _ _ _ c.requires.0 c.requires.1 c.requires.2.0 c.requires.2.1 c.requires.2.2) c.requires.3

@@ -6,8 +6,8 @@ use Rattle.clerk.proofs.Adding.{added_next, never_refused, line_at_most_24}
 use borrow.Author.Rules.{rules}
 use Rattle.clerk.proofs.records.put_line.Goals as goal
 
-pub returns-in-Next : goal.returns-in-Next
-returns-in-Next c = added_next c.write_line.ensures.0 c.in-Next.is c.write_line.ensures.1 (line_at_most_24 _ _ _ (search rules) (search rules))
+pub returns-in-Ok : goal.returns-in-Ok
+returns-in-Ok c = added_next c.write_line.ensures.0 c.in-Ok.is c.write_line.ensures.1 (line_at_most_24 _ _ _ (search rules) (search rules))
 
-pub returns-in-Refused : goal.returns-in-Refused
-returns-in-Refused c = never_refused _ _ _ longest_record c.write_line.ensures.0 c.in-Refused.is (line_at_most_24 _ _ _ (search rules) (search rules)) c.requires
+pub returns-in-Err : goal.returns-in-Err
+returns-in-Err c = never_refused _ _ _ longest_record c.write_line.ensures.0 c.in-Err.is (line_at_most_24 _ _ _ (search rules) (search rules)) c.requires

@@ -38,4 +38,4 @@ pub loop-preserved : goal.loop-preserved
 loop-preserved c =
     let e : length (take c.args.count c.args.woken.now) ≡ c.args.count = length-take-le c.args.count c.args.woken.now (omega arith) in
     let b : c.loop.k < 32 = turn_room _ _ _ _ _ c.requires.0 _ c.loop.invariant c.front_grant.ensures c.in-Some.is (rw e c.requires.1) in
-    turn_granted _ _ _ _ _ c.requires.0 _ c.loop.invariant c.front_grant.ensures c.in-Some.is c.code_of.ensures (omega arith)
+    turn_granted _ _ _ _ _ c.requires.0 _ c.loop.invariant c.front_grant.ensures c.in-Some.is c.from.ensures (omega arith)

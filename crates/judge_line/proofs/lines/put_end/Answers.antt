@@ -4,8 +4,8 @@ use Rattle.std.proofs.Common.{arith}
 use Rattle.text_rules.proofs.WriterLaws.{next_wrote, not_refused}
 use Rattle.judge_line.proofs.lines.put_end.Goals as goal
 
-pub returns-in-Next : goal.returns-in-Next
-returns-in-Next c = search next_wrote
+pub returns-in-Ok : goal.returns-in-Ok
+returns-in-Ok c = search next_wrote
 
-pub returns-in-Refused : goal.returns-in-Refused
-returns-in-Refused c = not_refused _ _ _ c.write_end-w.ensures.0 c.in-Refused.is (omega (arith, c.requires))
+pub returns-in-Err : goal.returns-in-Err
+returns-in-Err c = not_refused _ _ _ c.write_end-w.ensures.0 c.in-Err.is (omega (arith, c.requires))

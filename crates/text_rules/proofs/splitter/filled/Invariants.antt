@@ -1,6 +1,5 @@
 -- `text_rules::splitter::filled` meets its contract. The loop's invariant: the first i bytes of the part are put in.
--- The measure is how many are left to put in. Assumes nothing.
-use Prim.Native.Nat.{◌-◌}
+-- Assumes nothing.
 use Prim.Native.Nat.{◌≤◌}
 use mathlib.Core.Path.{◌≡◌}
 use lib.ListN.{take}
@@ -9,6 +8,3 @@ use Rattle.text_rules.proofs.splitter.filled.Given as goal
 
 abbrev pub invariant-loop-i : goal.invariant-loop-i
 invariant-loop-i l = (l.i ≤ l.n) × (l.all ≡ sets l.initial.all l.len (take l.i l.part))
-
-abbrev pub decreases-loop-i : goal.decreases-loop-i
-decreases-loop-i l = l.n - l.i

@@ -3,8 +3,8 @@
 use Rattle.tuyenlomac.proofs.InNumbers.{next_told, refused_told}
 use Rattle.tuyenlomac.proofs.lines.placed_at.Goals as goal
 
-pub returns-in-Next : goal.returns-in-Next
-returns-in-Next c = search next_told
+pub returns-in-Ok : goal.returns-in-Ok
+returns-in-Ok c = search next_told
 
-pub returns-in-Refused : goal.returns-in-Refused
-returns-in-Refused c = search refused_told
+pub returns-in-Err : goal.returns-in-Err
+returns-in-Err c = search refused_told
