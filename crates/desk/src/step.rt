@@ -1,7 +1,7 @@
 // One step of the desk: carries out the plan on the desk, in place (01, The desk's rules).
 ghost use Rattle.std.specs.Prelude.{◌<◌, ◌≡◌};
 ghost use Rattle.terms.specs.Letters.{byte_of};
-ghost use Rattle.desk_arrays.specs.Steps.{desk_of, retried_job, numbers_after, answer_after, answer_to, step_of};
+ghost use Rattle.desk_arrays.specs.Steps.{desk_of, numbers_after, answer_after, answer_to, step_of};
 ghost use Rattle.desk.specs.InPlace.{StepsTo};
 ghost use Rattle.terms.specs.Limits.{places};
 
@@ -31,16 +31,13 @@ fn answer_after(e: Ending, job: u32) -> Answer
 // The answer that goes with a move.
 #[tactic(auto, unfolding(desk_arrays::specs::Steps::answer_to))]
 fn answer_to(m: Move, job: u32) -> Answer
-    ensures { result ≡ answer_to m job }
+    ensures { result ≡ answer_to (Ok m) job }
 {
     match m {
-        Move::Refuse(why) => Answer::No(why),
         Move::Begin(_, n) => Answer::Go(n),
-        Move::Keep => Answer::Go(job),
-        Move::Take(_, _) => Answer::Go(job),
         Move::Stay(_, _) => Answer::Wait(job),
         Move::End(_, e) => answer_after(e, job),
-        Move::Retry => Answer::Go(job),
+        Move::Keep | Move::Take(_, _) | Move::Retry(_) => Answer::Go(job),
     }
 }
 
@@ -58,16 +55,9 @@ fn leave_place(number: &mut [u32; PLACES], p: usize, e: Ending)
     }
 }
 
-// What the places are doing after a retry, by the desk's own method.
-fn status_retried(d: Desk, job: u32) -> [u8; PLACES]
-    ensures { result ≡ (retried_job d job).status }
-{
-    let after = d.retry(job);
-    after.status
-}
-
 // One step by letter, job and cell, on the desk's fields, each lent and changed in place.
 // The woken places go into the first places of a lent list, and the result tells how many there are.
+#[tactic(auto, using(crate::proofs::Performed::begin_place, crate::proofs::Performed::end_place, crate::proofs::Performed::retry_place, crate::proofs::Performed::stay_spot, crate::proofs::Performed::take_spot))]
 pub fn step_for(
     next: &mut u64,
     number: &mut [u32; PLACES],
@@ -89,26 +79,34 @@ pub fn step_for(
         ask,
         held,
     };
-    let m = plan_for(*next, b, letter, job, cell);
+    let m = match plan_for(*next, b, letter, job, cell) {
+        Ok(m) => m,
+        Err(why) => {
+            return Told {
+                answer: Answer::No(why),
+                count: 0,
+            };
+        }
+    };
     let answer = answer_to(m, job);
+    let quiet = Told { answer, count: 0 };
     match m {
-        Move::Refuse(_) => Told { answer, count: 0 },
+        Move::Keep => quiet,
         Move::Begin(p, new) => {
-            *next = new as u64 + 1;
+            *next = u64::from(new) + 1;
             number[p] = new;
             status[p] = RUNNING;
-            Told { answer, count: 0 }
+            quiet
         }
-        Move::Keep => Told { answer, count: 0 },
         Move::Take(p, mode) => {
             held[cell as usize * PLACES + p] = u8::from(mode);
-            Told { answer, count: 0 }
+            quiet
         }
         Move::Stay(p, a) => {
             status[p] = WAITING;
             at[p] = cell as u8;
             ask[p] = ask_code(a);
-            Told { answer, count: 0 }
+            quiet
         }
         Move::End(p, e) => {
             let w = Waits {
@@ -120,17 +118,9 @@ pub fn step_for(
             leave_place(number, p, e);
             Told { answer, count }
         }
-        Move::Retry => {
-            let d = Desk {
-                next: *next,
-                number: *number,
-                status: *status,
-                cell: *at,
-                ask: *ask,
-                held: *held,
-            };
-            *status = status_retried(d, job);
-            Told { answer, count: 0 }
+        Move::Retry(p) => {
+            status[p] = RUNNING;
+            quiet
         }
     }
 }

@@ -10,6 +10,7 @@ use native.Mathlib.Numerals.{add-one}
 use lib.Dec.{ltb}
 use lib.ListN.{get_or, set, length-set}
 use lib.Seq.{get_or-set_same, get_or-set_other}
+use Rattle.std.specs.Prelude.{Ok, Err}
 use Rattle.laws.specs.Choice.{pick, by_test}
 use Rattle.laws.specs.Lists.{member, pos}
 use Rattle.terms.specs.Limits.{places, last_number}
@@ -25,7 +26,7 @@ use Rattle.desk_rules.specs.Step.{step_begin}
 use Rattle.desk_rules.specs.Invariant.{Inv}
 use Rattle.laws.proofs.Functions.{at_same, at_other, at_each}
 use Rattle.desk_arrays.specs.declared.state.Desk.{Desk}
-use Rattle.desk_arrays.specs.declared.moves.Move.TheVariants.{Refuse, Begin}
+use Rattle.desk_arrays.specs.declared.moves.Move.TheVariants.{Begin}
 use Rattle.desk_arrays.specs.Codes.{running_code}
 use Rattle.desk_arrays.specs.Places.{mode_at}
 use Rattle.desk_arrays.specs.Moves.{opened, begin_move}
@@ -40,7 +41,7 @@ use Rattle.desk_arrays.proofs.Telling.{quiet_tied}
 use Rattle.desk_arrays.proofs.Reading.{paper_of, plain_stands, refuse_tied, pick_tied}
 
 -- a begin's move, test by test
-pub begin_picks : (next : ℕ) (number : List ℕ) → begin_move next number ≡ pick (ltb last_number next) (Refuse NoNumberLeft) (pick (ltb (pos number 0) places) (Begin (pos number 0) next) (Refuse AllOpen))
+pub begin_picks : (next : ℕ) (number : List ℕ) → begin_move next number ≡ pick (ltb last_number next) (Err NoNumberLeft) (pick (ltb (pos number 0) places) (Ok (Begin (pos number 0) next)) (Err AllOpen))
 unfolding begin_move opened opening_of
 begin_picks next number = by_test (ltb last_number next) (λ t. rw t) (λ f. rw f (by_test (ltb (pos number 0) places) (λ t. rw t) (λ g. rw g)))
 
@@ -105,7 +106,7 @@ module _ {d : Desk} {q : ℕ → List Waiter} (plain : Plain d) (v : Inv (paper_
         was r e = sym (get_or-set_other d.number p r d.next 0 (other r e)) ∙ e
 
     -- so where a place is free, begin is tied
-    begun_tied : (j c : ℕ) → Tied (performed d j c (Begin (pos d.number 0) d.next)) (begin (paper_of d q))
+    begun_tied : (j c : ℕ) → Tied (performed d j c (Ok (Begin (pos d.number 0) d.next))) (begin (paper_of d q))
     unfolding performed carried answer_to begin
     begun_tied j c = quiet_tied (Go d.next) begun_stands
 
@@ -114,6 +115,6 @@ module _ {d : Desk} {q : ℕ → List Waiter} (plain : Plain d) (v : Inv (paper_
   unfolding step_begin beginning
   begin_tied j c =
       rw (begin_picks d.next d.number)
-      (pick_tied d j c (ltb last_number d.next) (ltb last_number d.next) _ _ refl (λ _. refuse_tied d j c _ (plain_stands plain q))
-      (λ _. pick_tied d j c (ltb (pos d.number 0) places) (member 0 d.number) _ _ (ap (ltb (pos d.number 0)) (sym plain.numbers) ∙ free_place d.number)
+      (pick_tied d j c (λ m. m) (ltb last_number d.next) (ltb last_number d.next) _ _ refl (λ _. refuse_tied d j c _ (plain_stands plain q))
+      (λ _. pick_tied d j c (λ m. m) (ltb (pos d.number 0) places) (member 0 d.number) _ _ (ap (ltb (pos d.number 0)) (sym plain.numbers) ∙ free_place d.number)
       (λ room. begun_tied room j c) (λ _. refuse_tied d j c _ (plain_stands plain q))))

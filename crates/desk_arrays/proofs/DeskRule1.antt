@@ -7,6 +7,7 @@ use native.Mathlib.Omega.{arith}
 use lib.Dec.{eqb}
 use borrow.Author.Tests.{lt-ltb}
 use mathlib.Core.List.{[]}
+use Rattle.std.specs.Prelude.{Result, Ok}
 use Rattle.laws.specs.Choice.{by_test}
 use Rattle.laws.specs.Lists.{pos}
 use Rattle.terms.specs.declared.letters.Ask.{Ask}
@@ -14,6 +15,7 @@ use Rattle.terms.specs.Limits.{cells}
 use Rattle.conflict.specs.declared.modes.Mode.TheVariants.{Free}
 use Rattle.conflict.specs.Modes.{needed, covers}
 use Rattle.conflict.specs.History.{History}
+use Rattle.terms.specs.declared.refusals.Refusal.{Refusal}
 use Rattle.desks.specs.declared.Answer.TheVariants.{Go}
 use Rattle.desk_rules.specs.Desk.{Status, closed, running, waiting, sentback}
 use Rattle.desk_rules.specs.Asked.{Asking}
@@ -35,7 +37,7 @@ runs_only : {P : Type 0} (s : Status) → s ≡ closed → s ≡ running → P
 runs_only s p q = let z : ◌≡◌ {A = ℕ} 0 1 = cc in absurd (omega arith)
 
 -- a job whose code says that it runs goes on
-running_goes : (code c : ℕ) (a : Ask) (goes : Move) → status_for code c a ≡ running → if_runs (standing_of code) goes ≡ goes
+running_goes : (code c : ℕ) (a : Ask) (goes : Result Move Refusal) → status_for code c a ≡ running → if_runs (standing_of code) goes ≡ goes
 unfolding status_for if_runs standing_of
 running_goes code c a goes e =
     by_test (eqb code free_code) (λ t. let q : closed ≡ running = rw t at e in runs_only running (sym q) refl)
@@ -50,7 +52,7 @@ module _ {d : Desk} {h : History} (s : Started d h) (kind job c : ℕ) (a : Ask)
       has_seat closed d.number (status_at d.status d.cell d.ask) job (λ e. runs_only (status_by d job) e k.runs) (seat_has Free d.number (mode_at d.held c))
 
   -- a running job's request for a cell below 64 is decided by rules 1 to 3
-  pub desk_asking_move : move_of d kind job c ≡ decided d.number d.status d.cell d.held (pos d.number job) c job a
+  pub desk_asking_move : move_of d kind job c ≡ Ok (decided d.number d.status d.cell d.held (pos d.number job) c job a)
   unfolding move_of move_for ask_move found_at
   desk_asking_move =
       let (D, g, t) = stands_for_paper s in
@@ -66,4 +68,4 @@ module _ {d : Desk} {h : History} (s : Started d h) (kind job c : ℕ) (a : Ask)
   -- a job that holds a covering mode: go. Nothing changes (01, rule 1)
   pub desk_rule_1 : covers (mode_by d c job) (needed a) ≡ true → step_of d kind job c ≡ record { desk = d; said = saying d (Go job) [] }
   unfolding step_of performed carried answer_to
-  desk_rule_1 e = ap (performed d job c) (desk_asking_move ∙ keeps e)
+  desk_rule_1 e = ap (performed d job c) (desk_asking_move ∙ ap Ok (keeps e))

@@ -6,6 +6,7 @@ use mathlib.Core.List.{List, [], map}
 use native.Mathlib.Omega.{arith}
 use lib.ListN.{length, get_or, set, length-set}
 use lib.Seq.{get_or-set_same, get_or-set_other}
+use Rattle.std.specs.Prelude.{Ok}
 use Rattle.terms.specs.Limits.{places, cells}
 use Rattle.conflict.specs.declared.modes.Mode.TheVariants.{Free}
 use Rattle.desks.specs.declared.Answer.TheVariants.{Go, Back}
@@ -36,7 +37,7 @@ use Rattle.desk_arrays.proofs.Reading.{paper_of}
 
 module _ {d : Desk} {q : ℕ → List Waiter} (plain : Plain d) (v : Inv (paper_of d q)) {j p : ℕ} (seat : Seat d.number j p) where
   -- a job that is sent back keeps its place
-  pub sent_tied : (c : ℕ) → Tied (performed d j c (End p SentBack)) (send_back (paper_of d q) j)
+  pub sent_tied : (c : ℕ) → Tied (performed d j c (Ok (End p SentBack))) (send_back (paper_of d q) j)
   unfolding performed carried ended code_after numbers_after answer_to answer_after send_back rule4 status_by mode_by status_for
   sent_tied c = said_tied (Back j) (settled d p sent_back_code).woken (record {
     next = refl;
@@ -83,7 +84,7 @@ module _ {d : Desk} {q : ℕ → List Waiter} (plain : Plain d) (v : Inv (paper_
         (λ n. g.sound.free_held r l (sym (get_or-set_other d.number p r 0 0 n) ∙ e) c)
 
   -- a job that is closed frees its place
-  pub close_tied : (c : ℕ) → Tied (performed d j c (End p Closed)) (close (paper_of d q) j)
+  pub close_tied : (c : ℕ) → Tied (performed d j c (Ok (End p Closed))) (close (paper_of d q) j)
   unfolding performed carried ended code_after numbers_after answer_to answer_after close rule4 status_by mode_by status_for
   close_tied c = said_tied (Go j) s.woken (record {
     next = refl;

@@ -3,48 +3,35 @@
 use Prim.Native.Nat.{ℕ}
 use mathlib.Core.Path.{◌≡◌, ap}
 use mathlib.Core.List.{[]}
-use native.Mathlib.Omega.{arith}
+use Rattle.std.specs.Prelude.{Result, Ok, Err}
 use Rattle.terms.specs.declared.refusals.Refusal.{Refusal}
-use Rattle.desks.specs.declared.Answer.TheVariants.{Go, Wait, Back, No}
+use Rattle.desks.specs.declared.Answer.TheVariants.{No}
 use Rattle.desk_arrays.specs.declared.state.Desk.{Desk}
 use Rattle.desk_arrays.specs.declared.state.Outcome.{Outcome}
 use Rattle.desk_arrays.specs.declared.moves.Ending.TheVariants.{Closed, SentBack}
 use Rattle.desk_arrays.specs.declared.moves.Move.{Move}
-use Rattle.desk_arrays.specs.declared.moves.Move.TheVariants.{Refuse, Begin, Keep, Take, Stay, End, Retry}
+use Rattle.desk_arrays.specs.declared.moves.Move.TheVariants.{Begin, Keep, Take, Stay, End, Retry}
 use Rattle.desk_arrays.specs.Steps.{carried, answer_after, answer_to, saying, performed, move_of, step_of}
 
 -- a refusal, and nothing else
 abbrev pub refusing : Desk → Refusal → Outcome
 refusing d why = record { desk = d; said = saying d (No why) [] }
 
-module _ {P : Type 0} (j : ℕ) (why : Refusal) where
-  -- go is no refusal
-  go_no : Go j ≡ No why → P
-  go_no e = let z : ◌≡◌ {A = ℕ} 0 1 = cc in absurd (omega arith)
-
-  -- nor is wait
-  wait_no : Wait j ≡ No why → P
-  wait_no e = let z : ◌≡◌ {A = ℕ} 0 1 = cc in absurd (omega arith)
-
-  -- nor is back
-  back_no : Back j ≡ No why → P
-  back_no e = let z : ◌≡◌ {A = ℕ} 0 1 = cc in absurd (omega arith)
-
 -- equal answers refuse for the same reason
 same_refusal : (x y : Refusal) → No x ≡ No y → x ≡ y
 same_refusal x y e = cc
 
 -- a move whose answer is a refusal is that refusal
-refuses : (d : Desk) (job c : ℕ) (m : Move) (why : Refusal) → answer_to m job ≡ No why → performed d job c m ≡ refusing d why
+refuses : (d : Desk) (job c : ℕ) (m : Result Move Refusal) (why : Refusal) → answer_to m job ≡ No why → performed d job c m ≡ refusing d why
 unfolding performed carried answer_to answer_after
-refuses d job c (Refuse x) why e = ap (refusing d) (same_refusal x why e)
-refuses d job c (Begin p n) why e = go_no n why e
-refuses d job c Keep why e = go_no job why e
-refuses d job c (Take p m) why e = go_no job why e
-refuses d job c (Stay p a) why e = wait_no job why e
-refuses d job c (End p Closed) why e = go_no job why e
-refuses d job c (End p SentBack) why e = back_no job why e
-refuses d job c Retry why e = go_no job why e
+refuses d job c (Err x) why e = ap (refusing d) (same_refusal x why e)
+refuses d job c (Ok (Begin p n)) why e = cc
+refuses d job c (Ok Keep) why e = cc
+refuses d job c (Ok (Take p m)) why e = cc
+refuses d job c (Ok (Stay p a)) why e = cc
+refuses d job c (Ok (End p Closed)) why e = cc
+refuses d job c (Ok (End p SentBack)) why e = cc
+refuses d job c (Ok (Retry p)) why e = cc
 
 module _ (d : Desk) (kind job c : ℕ) (why : Refusal) (refused : (step_of d kind job c).said.answer ≡ No why) where
   -- a step that answers with a refusal is that refusal and nothing else

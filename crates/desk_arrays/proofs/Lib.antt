@@ -1,6 +1,5 @@
 pub mod Unique
 pub mod Cases
-pub mod Starts
 pub mod Telling
 pub mod ByNumber
 pub mod SeatsChanged

@@ -4,6 +4,7 @@ use Prim.Native.Nat.{ℕ}
 use mathlib.Core.Path.{◌≡◌, refl, sym, subst, fun_ext}
 use mathlib.Core.Bool.{Bool, true, false}
 use mathlib.Core.List.{List}
+use Rattle.std.specs.Prelude.{Result, Err}
 use Rattle.laws.specs.Choice.{pick, by_test}
 use Rattle.terms.specs.declared.refusals.Refusal.{Refusal}
 use Rattle.desk_rules.specs.Desk as paper
@@ -12,7 +13,6 @@ use Rattle.desks.specs.Begin.{refused}
 use Rattle.desk_rules.specs.Rules as rules
 use Rattle.desk_arrays.specs.declared.state.Desk.{Desk}
 use Rattle.desk_arrays.specs.declared.moves.Move.{Move}
-use Rattle.desk_arrays.specs.declared.moves.Move.TheVariants.{Refuse}
 use Rattle.desk_arrays.specs.Steps.{carried, answer_to, performed}
 use Rattle.desk_arrays.specs.Stands.{status_by, mode_by, Plain, Stands, Tied}
 use Rattle.desk_arrays.proofs.Telling.{quiet_tied}
@@ -42,11 +42,11 @@ plain_stands p q = record { next = refl; jobs = refl; stat = λ j. refl; held = 
 
 module _ (d : Desk) (j c : ℕ) where
   -- a refusal is tied
-  pub refuse_tied : {D : paper.Desk} (why : Refusal) → Stands d D → Tied (performed d j c (Refuse why)) (refused D why)
+  pub refuse_tied : {D : paper.Desk} (why : Refusal) → Stands d D → Tied (performed d j c (Err why)) (refused D why)
   unfolding performed carried answer_to refused
   refuse_tied why s = quiet_tied _ s
 
-  -- moves that are chosen by the same test are tied where each is
-  pub pick_tied : (s t : Bool) (x y : Move) {X Y : rules.Outcome} → s ≡ t → (t ≡ true → Tied (performed d j c x) X) → (t ≡ false → Tied (performed d j c y) Y) →
-      Tied (performed d j c (pick s x y)) (pick t X Y)
-  pick_tied s t x y e f g = rw e (by_test t (λ h. rw h (f h)) (λ h. rw h (g h)))
+  -- moves, or moves and refusals, that are chosen by the same test are tied where each is
+  pub pick_tied : {A : Type 0} (as_move : A → Result Move Refusal) (s t : Bool) (x y : A) {X Y : rules.Outcome} → s ≡ t → (t ≡ true → Tied (performed d j c (as_move x)) X) → (t ≡ false → Tied (performed d j c (as_move y)) Y) →
+      Tied (performed d j c (as_move (pick s x y))) (pick t X Y)
+  pick_tied as_move s t x y e f g = rw e (by_test t (λ h. rw h (f h)) (λ h. rw h (g h)))

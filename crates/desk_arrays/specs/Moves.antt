@@ -1,5 +1,5 @@
 -- What a request is to do, decided over the arrays before anything changes: the refusals in their order, then rules 1 to 3 (01, The desk's rules; 01, Refusals by number).
-use Rattle.std.specs.Prelude.{ℕ, ◌&&◌, List, eqb, ltb, get_or, Option, None, Some, Result, Ok, Err}
+use Rattle.std.specs.Prelude.{ℕ, ◌&&◌, List, Result, Ok, Err, eqb, ltb, get_or, Option, None, Some}
 use Rattle.laws.specs.Choice.{pick}
 use Rattle.laws.specs.Lists.{pos}
 use Rattle.terms.specs.declared.letters.Letter.{Letter}
@@ -12,11 +12,9 @@ use Rattle.conflict.specs.Modes.{needed, covers, asked, is_free}
 use Rattle.desks.specs.declared.finding.Opening.{Opening}
 use Rattle.desks.specs.Opening.{opening_of}
 use Rattle.desk_arrays.specs.declared.moves.Found.{Found}
-use Rattle.desk_arrays.specs.declared.moves.Standing.{Standing}
-use Rattle.desk_arrays.specs.declared.moves.Standing.TheVariants.{Runs, Against}
 use Rattle.desk_arrays.specs.declared.moves.Ending.TheVariants.{Closed, SentBack}
 use Rattle.desk_arrays.specs.declared.moves.Move.{Move}
-use Rattle.desk_arrays.specs.declared.moves.Move.TheVariants.{Refuse, Begin, Keep, Take, Stay, End, Retry}
+use Rattle.desk_arrays.specs.declared.moves.Move.TheVariants.{Begin, Keep, Take, Stay, End, Retry}
 use Rattle.desk_arrays.specs.Codes.{free_code, waiting_code, sent_back_code}
 use Rattle.desk_arrays.specs.Places.{mode_at, agrees_at, older_at, nobody_waits, oldest_of}
 
@@ -28,39 +26,39 @@ status_of number status job = pick (eqb job 0) free_code (get_or status (pos num
 unfoldable pub found_at : List ℕ → List ℕ → ℕ → Found
 found_at number status job = record { place = pos number job; code = status_of number status job }
 
--- refusals 3, 4 and 5, by what the job is doing (01, Refusals by number)
-unfoldable pub standing_of : ℕ → Standing
+-- whether the job runs: refusals 3, 4 and 5, by what it is doing (01, Refusals by number)
+unfoldable pub standing_of : ℕ → Result (Unit {0}) Refusal
 standing_of code =
-    pick (eqb code free_code) (Against NotOpen)
-    (pick (eqb code waiting_code) (Against Waiting) (pick (eqb code sent_back_code) (Against was_sent_back) Runs))
+    pick (eqb code free_code) (Err NotOpen)
+    (pick (eqb code waiting_code) (Err Waiting) (pick (eqb code sent_back_code) (Err was_sent_back) (Ok tt)))
 
--- the move of a request that only a running job may make
-unfoldable pub if_runs : Standing → Move → Move
-if_runs (Against why) goes = Refuse why
-if_runs Runs goes = goes
+-- the move of a request that only a running job may make, or why it is refused
+unfoldable pub if_runs : Result (Unit {0}) Refusal → Result Move Refusal → Result Move Refusal
+if_runs (Err why) goes = Err why
+if_runs (Ok u) goes = goes
 
 -- begin, given where the new job is opened (01, Refusals by number)
-unfoldable pub opened : Result Opening Refusal → Move
-opened (Ok o) = Begin o.place o.number
-opened (Err why) = Refuse why
+unfoldable pub opened : Result Opening Refusal → Result Move Refusal
+opened (Ok o) = Ok (Begin o.place o.number)
+opened (Err why) = Err why
 
 -- begin: refusal 7, then 6, else the next number at the first free place (01, Refusals by number)
-unfoldable pub begin_move : ℕ → List ℕ → Move
+unfoldable pub begin_move : ℕ → List ℕ → Result Move Refusal
 begin_move next number = opened (opening_of next number)
 
 -- commit: refusals 3, 4, 5, else the run ends
-unfoldable pub commit_move : Found → Move
-commit_move f = if_runs (standing_of f.code) (End f.place Closed)
+unfoldable pub commit_move : Found → Result Move Refusal
+commit_move f = if_runs (standing_of f.code) (Ok (End f.place Closed))
 
 -- give-up: refusal 3, else the run ends
-unfoldable pub give_up_move : Found → Move
-give_up_move f = pick (eqb f.code free_code) (Refuse NotOpen) (End f.place Closed)
+unfoldable pub give_up_move : Found → Result Move Refusal
+give_up_move f = pick (eqb f.code free_code) (Err NotOpen) (Ok (End f.place Closed))
 
 -- retry: refusals 3, 4, 8, else the job runs again (01, rule 5)
-unfoldable pub retry_move : Found → Move
+unfoldable pub retry_move : Found → Result Move Refusal
 retry_move f =
-    pick (eqb f.code free_code) (Refuse NotOpen)
-    (pick (eqb f.code waiting_code) (Refuse Waiting) (pick (eqb f.code sent_back_code) Retry (Refuse Running)))
+    pick (eqb f.code free_code) (Err NotOpen)
+    (pick (eqb f.code waiting_code) (Err Waiting) (pick (eqb f.code sent_back_code) (Ok (Retry f.place)) (Err Running)))
 
 -- rule 2, for a job that holds another mode: go if the new mode agrees with the other holders; wait if older than each of them; else back (01, rule 2; 02, No. 1)
 unfoldable pub promotes : List ℕ → List ℕ → ℕ → ℕ → ℕ → Ask → Move
@@ -83,15 +81,15 @@ module _ (number status cell held : List ℕ) where
       (pick (is_free (mode_at held c p)) (enters p c job a) (promotes number held p c job a))
 
   -- read, write, increment and u: refusals 3, 4, 5, 2, else what rules 1 to 3 decide
-  unfoldable pub ask_move : ℕ → ℕ → Ask → Move
+  unfoldable pub ask_move : ℕ → ℕ → Ask → Result Move Refusal
   ask_move job c a =
       let f = found_at number status job in
-      if_runs (standing_of f.code) (pick (ltb c cells) (decided f.place c job a) (Refuse CellAbove))
+      if_runs (standing_of f.code) (pick (ltb c cells) (Ok (decided f.place c job a)) (Err CellAbove))
 
 -- the move of a request, by its letter; refusal 1 if no request has the letter
-unfoldable pub move_for : ℕ → List ℕ → List ℕ → List ℕ → List ℕ → ℕ → ℕ → Option Letter → Move
-move_for next number status cell held job c None = Refuse UnknownKind
-move_for next number status cell held job c (Some no-request) = Refuse UnknownKind
+unfoldable pub move_for : ℕ → List ℕ → List ℕ → List ℕ → List ℕ → ℕ → ℕ → Option Letter → Result Move Refusal
+move_for next number status cell held job c None = Err UnknownKind
+move_for next number status cell held job c (Some no-request) = Err UnknownKind
 move_for next number status cell held job c (Some begins) = begin_move next number
 move_for next number status cell held job c (Some Commit) = commit_move (found_at number status job)
 move_for next number status cell held job c (Some GiveUp) = give_up_move (found_at number status job)

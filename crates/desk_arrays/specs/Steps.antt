@@ -1,8 +1,9 @@
 -- One step of the desk over its arrays: the decided move, carried out. The contracts cite it (01, The desk's rules).
-use Rattle.std.specs.Prelude.{ℕ, ◌+◌, ◌-◌, ◌*◌, List, [], ◌++◌, map, eqb, length, get_or, set, replicate}
+use Rattle.std.specs.Prelude.{ℕ, Result, Ok, Err, ◌+◌, ◌-◌, ◌*◌, List, [], ◌++◌, map, eqb, length, get_or, set, replicate}
 use Rattle.laws.specs.Choice.{pick}
 use Rattle.laws.specs.Lists.{pos}
 use Rattle.terms.specs.declared.letters.Ask.{Ask}
+use Rattle.terms.specs.declared.refusals.Refusal.{Refusal}
 use Rattle.terms.specs.declared.refusals.Refusal.TheVariants.{StartedAtZero}
 use Rattle.terms.specs.Letters.{letter_of}
 use Rattle.terms.specs.Limits.{places, cells}
@@ -15,12 +16,10 @@ use Rattle.desks.specs.declared.Answer.TheVariants.{Go, Wait, Back, No}
 use Rattle.desk_arrays.specs.declared.state.Desk.{Desk}
 use Rattle.desk_arrays.specs.declared.state.Said.{Said}
 use Rattle.desk_arrays.specs.declared.state.Outcome.{Outcome}
-use Rattle.desk_arrays.specs.declared.state.Start.{Start}
-use Rattle.desk_arrays.specs.declared.state.Start.TheVariants.{Ready, Refused}
 use Rattle.desk_arrays.specs.declared.moves.Ending.{Ending}
 use Rattle.desk_arrays.specs.declared.moves.Ending.TheVariants.{Closed, SentBack}
 use Rattle.desk_arrays.specs.declared.moves.Move.{Move}
-use Rattle.desk_arrays.specs.declared.moves.Move.TheVariants.{Refuse, Begin, Keep, Take, Stay, End, Retry}
+use Rattle.desk_arrays.specs.declared.moves.Move.TheVariants.{Begin, Keep, Take, Stay, End, Retry}
 use Rattle.desk_arrays.specs.Codes.{free_code, running_code, waiting_code, sent_back_code, ask_code, ask_of}
 use Rattle.desk_arrays.specs.Places.{spot}
 use Rattle.desk_arrays.specs.Settling.{Settling, dropped_by, settle_all}
@@ -35,8 +34,8 @@ unfoldable pub empty_desk : ℕ → Desk
 empty_desk n = desk_of n (replicate places 0) (replicate places free_code) (replicate places 0) (replicate places 0) (replicate (cells * places) 0)
 
 -- a start at a first number: refusal 10 for 0, with no desk (01, refusal 10)
-unfoldable pub start_of : ℕ → Start
-start_of n = pick (eqb n 0) (Refused StartedAtZero) (Ready (empty_desk n))
+unfoldable pub start_of : ℕ → Result Desk Refusal
+start_of n = pick (eqb n 0) (Err StartedAtZero) (Ok (empty_desk n))
 
 -- the desk with another next number, and other numbers at the places
 abbrev pub with_numbers : Desk → ℕ → List ℕ → Desk
@@ -114,24 +113,24 @@ ended d p e =
     }
 
 -- a move carried out; a refusal leaves the desk unchanged
-unfoldable pub carried : Desk → ℕ → ℕ → Move → Left
-carried d job c (Refuse why) = quietly d
-carried d job c (Begin p n) = quietly (begun d p n)
-carried d job c Keep = quietly d
-carried d job c (Take p m) = quietly (with_mode d p c m)
-carried d job c (Stay p a) = quietly (waiting_for d p c a)
-carried d job c (End p e) = ended d p e
-carried d job c Retry = quietly (retried_job d job)
+unfoldable pub carried : Desk → ℕ → Result Move Refusal → Left
+carried d c (Err why) = quietly d
+carried d c (Ok (Begin p n)) = quietly (begun d p n)
+carried d c (Ok Keep) = quietly d
+carried d c (Ok (Take p m)) = quietly (with_mode d p c m)
+carried d c (Ok (Stay p a)) = quietly (waiting_for d p c a)
+carried d c (Ok (End p e)) = ended d p e
+carried d c (Ok (Retry p)) = quietly (retried d p)
 
--- the answer that goes with a move; begin tells the new number (01, The desk's rules)
-unfoldable pub answer_to : Move → ℕ → Answer
-answer_to (Refuse why) job = No why
-answer_to (Begin p n) job = Go n
-answer_to Keep job = Go job
-answer_to (Take p m) job = Go job
-answer_to (Stay p a) job = Wait job
-answer_to (End p e) job = answer_after e job
-answer_to Retry job = Go job
+-- the answer that goes with a move, or with a refusal; begin tells the new number (01, The desk's rules)
+unfoldable pub answer_to : Result Move Refusal → ℕ → Answer
+answer_to (Err why) job = No why
+answer_to (Ok (Begin p n)) job = Go n
+answer_to (Ok Keep) job = Go job
+answer_to (Ok (Take p m)) job = Go job
+answer_to (Ok (Stay p a)) job = Wait job
+answer_to (Ok (End p e)) job = answer_after e job
+answer_to (Ok (Retry p)) job = Go job
 
 -- the filler for unused places in the list of wakes
 unfoldable pub no_action : Action
@@ -150,13 +149,13 @@ unfoldable pub saying : Desk → Answer → List ℕ → Said
 saying d a woken = record { answer = a; wakes = listed (map (wake_at d.number d.cell d.ask) woken); count = length woken }
 
 -- a move carried out, with its answer
-unfoldable pub performed : Desk → ℕ → ℕ → Move → Outcome
+unfoldable pub performed : Desk → ℕ → ℕ → Result Move Refusal → Outcome
 performed d job c m =
-    let l = carried d job c m in
+    let l = carried d c m in
     record { desk = l.desk; said = saying l.desk (answer_to m job) l.woken }
 
--- the move of a request by numbers
-unfoldable pub move_of : Desk → ℕ → ℕ → ℕ → Move
+-- the move of a request by numbers, or why it is refused
+unfoldable pub move_of : Desk → ℕ → ℕ → ℕ → Result Move Refusal
 move_of d kind job c = move_for d.next d.number d.status d.cell d.held job c (letter_of kind)
 
 -- one step by numbers

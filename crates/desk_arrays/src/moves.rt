@@ -1,7 +1,6 @@
 // What a step is to do, decided before anything changes (01, The desk's rules; 01, Refusals by number).
 use conflict::modes::Mode;
 use terms::letters::Ask;
-use terms::refusals::Refusal;
 
 // How a run ends: the job is closed, or it is sent back.
 #[derive(Clone, Copy)]
@@ -12,12 +11,10 @@ pub enum Ending {
     SentBack,
 }
 
-// A step's move: refuse, open a place for a new number, let the job go as it is, give it a mode, let it wait,
-// end the run at a place, or let the job run again.
+// A step's move: open a place for a new number, let the job go as it is, give it a mode, let it wait,
+// end the run at a place, or let the job there run again.
 #[derive(Clone, Copy)]
 pub enum Move {
-    // change nothing, and tell why
-    Refuse(Refusal),
     // a place gets a number, and its job runs
     Begin(usize, u32),
     // change nothing: the job has what it needs
@@ -28,17 +25,8 @@ pub enum Move {
     Stay(usize, Ask),
     // the run at a place ends
     End(usize, Ending),
-    // the job runs again
-    Retry,
-}
-
-// Whether a job may make a request that only a running job may make.
-#[derive(Clone, Copy)]
-pub enum Standing {
-    // it may
-    Runs,
-    // it may not, and why
-    Against(Refusal),
+    // the job at a place runs again
+    Retry(usize),
 }
 
 // The place of a job, and what the job is doing.

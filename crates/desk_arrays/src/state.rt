@@ -1,11 +1,11 @@
 // The desk's arrays, what a step says, and the small changes that a step is made of (01, The desk's rules).
 ghost use Rattle.std.specs.Prelude.{◌≡◌};
-ghost use Rattle.desk_arrays.specs.declared.state.Start.TheVariants.{Ready};
 ghost use Rattle.desk_arrays.specs.Steps.{empty_desk, start_of, retried_job};
 
 use crate::codes::{RUNNING, SENT_BACK};
 use conflict::action::Action;
 use desks::Answer;
+use desks::finding::place_of;
 use terms::limits::{CELLS, PLACES};
 use terms::refusals::Refusal;
 
@@ -48,23 +48,14 @@ pub struct Outcome {
     pub said: Said,
 }
 
-// A started desk, or why there is none.
-#[derive(Clone, Copy)]
-pub enum Start {
-    // started
-    Ready(Desk),
-    // not started: refusal 10
-    Refused(Refusal),
-}
-
 impl Desk {
     // A desk whose places are all free, with this next number.
     #[tactic(auto, unfolding(crate::specs::Steps::empty_desk))]
-    fn empty(first: u32) -> Desk
+    fn empty(first: u64) -> Desk
         ensures { result ≡ empty_desk first }
     {
         Desk {
-            next: first as u64,
+            next: first,
             number: [0; PLACES],
             status: [0; PLACES],
             cell: [0; PLACES],
@@ -75,40 +66,31 @@ impl Desk {
 
     // The desk started at this first number; 0 is refused, with no desk (01, refusal 10).
     #[tactic(auto, unfolding(crate::specs::Steps::start_of))]
-    pub fn start(first: u32) -> Start
+    pub fn start(first: u32) -> Result<Desk, Refusal>
         ensures { result ≡ start_of first }
     {
         if first == 0 {
-            return Start::Refused(Refusal::StartedAtZero);
+            return Err(Refusal::StartedAtZero);
         }
-        Start::Ready(Desk::empty(first))
+        Ok(Desk::empty(u64::from(first)))
     }
 
     // The desk started at 1, the smallest first number; this never fails.
     #[tactic(auto, unfolding(crate::specs::Steps::start_of))]
     pub fn first() -> Desk
-        ensures { Ready result ≡ start_of 1 }
+        ensures { Ok result ≡ start_of 1 }
     {
         Desk::empty(1)
     }
 
     // Rule 5: a sent back job runs again, still holding nothing; for any other number nothing changes.
-    #[tactic(auto, unfolding(crate::specs::Steps::retried), using(crate::proofs::Retrying::back_retries, crate::proofs::Retrying::nobody_retries, crate::proofs::Retrying::other_stays, crate::proofs::Retrying::unopened_stays, desks::proofs::Found::found_here, desks::proofs::Found::found_later, desks::proofs::Found::found_nowhere))]
+    #[tactic(auto, unfolding(crate::specs::Steps::retried), using(crate::proofs::Retrying::back_retries, crate::proofs::Retrying::nobody_retries, crate::proofs::Retrying::other_stays, crate::proofs::Retrying::unopened_stays))]
     pub fn retry(mut self, job: u32) -> Desk
         ensures { result ≡ retried_job self job }
     {
-        if job == 0 {
-            return self;
-        }
-        let mut p: usize = 0;
-        while p < PLACES {
-            if self.number[p] == job {
-                if self.status[p] == SENT_BACK {
-                    self.status[p] = RUNNING;
-                }
-                return self;
-            }
-            p += 1;
+        let p = place_of(&self.number, job);
+        if job != 0 && p < PLACES && self.status[p] == SENT_BACK {
+            self.status[p] = RUNNING;
         }
         self
     }

@@ -14,7 +14,7 @@ use Rattle.terms.specs.Limits.{places}
 use Rattle.terms.specs.declared.letters.Ask.{Ask}
 use Rattle.terms.specs.declared.refusals.Refusal.{Refusal}
 use Rattle.terms.specs.declared.refusals.Refusal.TheVariants.{NotOpen, SentBack, ShortList}
-use Rattle.desk_rules.specs.declared.Chained.TheVariants.{Jobs, No}
+use Rattle.std.specs.Prelude.{Ok, Err}
 use Rattle.desk_rules.specs.Desk.{is_open}
 use Rattle.desk_rules.specs.AskedChain.{chain_holds, chain_order, chain_due, chain_told}
 use Rattle.desk_arrays.specs.declared.state.Desk.{Desk}
@@ -63,31 +63,31 @@ module _ (d : Desk) (job : ℕ) (list : List ℕ) (n : length d.number ≡ place
       ∙ rw e
 
   -- a refusal leaves the list
-  asked_refused : (why : Refusal) → due_by f.code (length list) ≡ Some why → (No why ≡ (asked_on d job list).said) × (list ≡ (asked_on d job list).list)
+  asked_refused : (why : Refusal) → due_by f.code (length list) ≡ Some why → (Err why ≡ (asked_on d job list).said) × (list ≡ (asked_on d job list).list)
   unfolding chain_told
   asked_refused why h = let a = asked_by in (rw (a, h), rw (a, h))
 
   -- 3: the job is not open
-  pub asked_closed : f.code ≡ free_code → (No NotOpen ≡ (asked_on d job list).said) × (list ≡ (asked_on d job list).list)
+  pub asked_closed : f.code ≡ free_code → (Err NotOpen ≡ (asked_on d job list).said) × (list ≡ (asked_on d job list).list)
   asked_closed h = asked_refused NotOpen (rw h)
 
   -- 5: the job was sent back
-  pub asked_sent_back : f.code ≡ sent_back_code → (No SentBack ≡ (asked_on d job list).said) × (list ≡ (asked_on d job list).list)
+  pub asked_sent_back : f.code ≡ sent_back_code → (Err SentBack ≡ (asked_on d job list).said) × (list ≡ (asked_on d job list).list)
   asked_sent_back h = asked_refused SentBack (rw h)
 
   module _ (c : f.code ≡ free_code → ⊥) (b : f.code ≡ sent_back_code → ⊥) where
     -- 18: too few places are lent
-    pub asked_short : length list < places → (No ShortList ≡ (asked_on d job list).said) × (list ≡ (asked_on d job list).list)
+    pub asked_short : length list < places → (Err ShortList ≡ (asked_on d job list).said) × (list ≡ (asked_on d job list).list)
     asked_short h = asked_refused ShortList (rw (ne_eqb f.code free_code c, ne_eqb f.code sent_back_code b, lt-ltb (length list) places h))
 
     -- else the chain
     pub asked_told : {r : ℕ} {m : List ℕ} → places ≤ length list → (r ≡ length (chain_from d.number d.status d.cell d.held f.place)) × (m ≡ filled (chain_from d.number d.status d.cell d.held f.place) list) →
-        (Jobs r ≡ (asked_on d job list).said) × (m ≡ (asked_on d job list).list)
+        (Ok r ≡ (asked_on d job list).said) × (m ≡ (asked_on d job list).list)
     unfolding chain_told
     asked_told h t =
         let a = asked_by in
         let due : due_by f.code (length list) ≡ None = rw (ne_eqb f.code free_code c, ne_eqb f.code sent_back_code b, le-ltb (length list) places h) in
-        (rw (a, due) (ap Jobs t.0), rw (a, due) t.1)
+        (rw (a, due) (ap Ok t.0), rw (a, due) t.1)
 
 module _ (d : Desk) (last : ℕ) (list : List ℕ) {p : ℕ} (e : p ≡ waiter_above d.number d.status last places) where
   -- the chain of the waiter that was found

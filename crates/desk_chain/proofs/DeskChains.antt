@@ -7,7 +7,7 @@ use mathlib.Core.List.{List}
 use lib.ListN.{length}
 use Rattle.laws.specs.Lists.{Fills}
 use Rattle.conflict.specs.History.{History}
-use Rattle.desk_rules.specs.declared.Chained.TheVariants.{Jobs}
+use Rattle.std.specs.Prelude.{Ok}
 use Rattle.desk_rules.specs.Desk.{is_live}
 use Rattle.desk_rules.specs.Chain.{chain_of, IsChain}
 use Rattle.desk_rules.specs.Chains.{AsksChain}
@@ -23,7 +23,7 @@ module _ {d : Desk} {h : History} (s : Started d h) (j : ℕ) (list : List ℕ) 
   desk_asks = subst (AsksChain (view d) j list) (sym (asked_tied s j list)) ((desk_promises s).chains.asks j list)
 
   -- a live job, and a list of 32 places or more: how many jobs its chain has, which fill the first places
-  pub desk_told : is_live ((view d).stat j) ≡ true → 32 ≤ length list → (js : List ℕ) × IsChain (view d) j js × ((asked_on d j list).said ≡ Jobs (length js)) × Fills js list (asked_on d j list).list
+  pub desk_told : is_live ((view d).stat j) ≡ true → 32 ≤ length list → (js : List ℕ) × IsChain (view d) j js × ((asked_on d j list).said ≡ Ok (length js)) × Fills js list (asked_on d j list).list
   desk_told l n =
       let (e, f) = desk_asks.answered l n in
       let (r, z) = desk_asks.unused_stay (length (chain_of (view d) j)) e in

@@ -10,7 +10,6 @@ use desk_arrays::board::Board;
 use desk_arrays::codes::{FREE, SENT_BACK, WAITING};
 use desk_arrays::state::{Desk, ROWS};
 use desk_plan::plan::find;
-use desk_rules::Chained;
 use terms::limits::{LAST_NUMBER, PLACES};
 use terms::refusals::Refusal;
 
@@ -81,7 +80,7 @@ fn follow(b: Board, p: usize, list: &mut [u32]) -> usize
 // Asks for the chain of a job, with a lent list: refusal 3, then 5, then 18, with the list unchanged;
 // else the chain stands in the list's first places, the answer is how many jobs it has, and the unused places stay.
 #[tactic(auto, using(crate::proofs::Answering::asked_closed, crate::proofs::Answering::asked_sent_back, crate::proofs::Answering::asked_short, crate::proofs::Answering::open_place, crate::proofs::Looks::places_enough))]
-pub fn chain(d: Desk, job: u32, list: &mut [u32]) -> Chained
+pub fn chain(d: Desk, job: u32, list: &mut [u32]) -> Result<usize, Refusal>
     ensures { (result ≡ (asked_on d job list.old).said) × (list.new ≡ (asked_on d job list.old).list) }
 {
     let b = Board {
@@ -93,15 +92,15 @@ pub fn chain(d: Desk, job: u32, list: &mut [u32]) -> Chained
     };
     let f = find(b, job);
     if f.code == FREE {
-        return Chained::No(Refusal::NotOpen);
+        return Err(Refusal::NotOpen);
     }
     if f.code == SENT_BACK {
-        return Chained::No(Refusal::SentBack);
+        return Err(Refusal::SentBack);
     }
     if list.len() < PLACES {
-        return Chained::No(Refusal::ShortList);
+        return Err(Refusal::ShortList);
     }
-    Chained::Jobs(follow(b, f.place, list))
+    Ok(follow(b, f.place, list))
 }
 
 // Whether the place waits and its number is above `last` and below `least`.

@@ -10,13 +10,12 @@ use lib.ListN.{length, get_or-eq_default}
 use borrow.Author.Tests.{eqb-false, ltb-true, ltb-false}
 use Rattle.laws.specs.Choice.{by_test}
 use Rattle.laws.specs.Lists.{pos}
+use Rattle.std.specs.Prelude.{Result, Ok, Err}
+use Rattle.terms.specs.declared.refusals.Refusal.{Refusal}
 use Rattle.terms.specs.declared.refusals.Refusal.TheVariants.{NotOpen}
 use Rattle.desk_arrays.specs.Codes.{free_code}
 use Rattle.desk_arrays.specs.Moves.{status_of}
-use Rattle.desk_arrays.specs.declared.moves.Found.{Found}
-use Rattle.desk_arrays.specs.declared.moves.Standing.{Standing}
-use Rattle.desk_arrays.specs.declared.moves.Standing.TheVariants.{Runs, Against}
-use Rattle.desk_arrays.specs.Moves.{found_at, standing_of}
+use Rattle.desk_arrays.specs.Moves.{standing_of}
 
 -- a number that no place has belongs to nobody
 pub nowhere_free : (number status : List ℕ) (job : ℕ) → length status ≤ pos number job → status_of number status job ≡ free_code
@@ -31,7 +30,7 @@ open_inside number status job e h =
     (λ f. absurd (eqb-false (status_of number status job) free_code h (nowhere_free number status job (omega (arith, ltb-false (pos number job) 32 f)))))
 
 -- a running job is open
-pub runs_open : (code : ℕ) {s : Standing} → s ≡ standing_of code → s ≡ Runs → 0 < code
+pub runs_open : (code : ℕ) {s : Result (Unit {0}) Refusal} {u : Unit {0}} → s ≡ standing_of code → s ≡ Ok u → 0 < code
 unfolding standing_of
-runs_open code g h =
-    by_test (eqb code free_code) (λ t. let e : Against NotOpen ≡ Runs = rw t at (sym g ∙ h) in cc) (λ f. let z = eqb-false code 0 f in omega arith)
+runs_open code {s} {u} g h =
+    by_test (eqb code free_code) (λ t. let e : ◌≡◌ {A = Result (Unit {0}) Refusal} (Err NotOpen) (Ok u) = rw t at (sym g ∙ h) in cc) (λ f. let z = eqb-false code 0 f in omega arith)

@@ -10,7 +10,7 @@ use crate::places::{
 use conflict::modes::{Mode, asked_mode, mode_covers, mode_is_free, needed_mode};
 use desk_arrays::board::Board;
 use desk_arrays::codes::{FREE, SENT_BACK, WAITING};
-use desk_arrays::moves::{Ending, Found, Move, Standing};
+use desk_arrays::moves::{Ending, Found, Move};
 use desks::finding::{Opening, opening_for, place_of};
 use terms::letters::{Ask, Letter};
 use terms::limits::{CELLS, PLACES};
@@ -24,30 +24,25 @@ pub fn find(b: Board, job: u32) -> Found
 {
     let Board { number, status, .. } = b;
     let place = place_of(number, job);
-    if job == 0 {
-        return Found { place, code: FREE };
-    }
-    Found {
-        place,
-        code: status.get(place).copied().unwrap_or(FREE),
-    }
+    let code = if job == 0 {
+        FREE
+    } else {
+        status.get(place).copied().unwrap_or(FREE)
+    };
+    Found { place, code }
 }
 
-// Refusals 3, 4 and 5.
+// Whether a job runs: refusals 3, 4 and 5.
 #[tactic(auto, unfolding(desk_arrays::specs::Moves::standing_of))]
-fn standing_of(code: u8) -> Standing
+fn standing_of(code: u8) -> Result<(), Refusal>
     ensures { result ≡ standing_of code }
 {
-    if code == FREE {
-        return Standing::Against(Refusal::NotOpen);
+    match code {
+        FREE => Err(Refusal::NotOpen),
+        WAITING => Err(Refusal::Waiting),
+        SENT_BACK => Err(Refusal::SentBack),
+        _ => Ok(()),
     }
-    if code == WAITING {
-        return Standing::Against(Refusal::Waiting);
-    }
-    if code == SENT_BACK {
-        return Standing::Against(Refusal::SentBack);
-    }
-    Standing::Runs
 }
 
 // Rule 3, go: the queue is empty and the mode agrees with every holder.
@@ -55,10 +50,7 @@ fn may_take(b: Board, p: usize, c: usize, m: Mode) -> bool
     requires { c < cells }
     ensures { result ≡ (nobody_waits b.entry.status.now b.entry.cell.now c && agrees_at b.entry.held.now c p m) }
 {
-    if nobody_waits(b, c) {
-        return goes_beside(b.held, c, p, m);
-    }
-    false
+    nobody_waits(b, c) && goes_beside(b.held, c, p, m)
 }
 
 // Rule 3, wait: the job is older than every holder and every waiter.
@@ -66,10 +58,7 @@ fn may_wait(b: Board, p: usize, c: usize, job: u32) -> bool
     requires { c < cells }
     ensures { result ≡ (older_at b.entry.held.now b.entry.number.now c p job && oldest_of b.entry.number.now b.entry.status.now b.entry.cell.now c job) }
 {
-    if older_than_holders(b, c, p, job) {
-        return older_than_waiters(b, c, job);
-    }
-    false
+    older_than_holders(b, c, p, job) && older_than_waiters(b, c, job)
 }
 
 // Rule 3: a job new to the cell.
@@ -122,78 +111,66 @@ fn decide(b: Board, p: usize, c: usize, job: u32, a: Ask) -> Move
 
 // Begin: refusal 7, then 6, else the next number at the first free place.
 #[tactic(auto, unfolding(desk_arrays::specs::Moves::opened, desk_arrays::specs::Moves::begin_move))]
-fn begin_move(next: u64, number: &[u32; PLACES]) -> Move
+fn begin_move(next: u64, number: &[u32; PLACES]) -> Result<Move, Refusal>
     ensures { result ≡ begin_move next number.now }
 {
-    match opening_for(next, number) {
-        Ok(Opening { place, number }) => Move::Begin(place, number),
-        Err(why) => Move::Refuse(why),
-    }
+    let Opening { place, number } = opening_for(next, number)?;
+    Ok(Move::Begin(place, number))
 }
 
 // Commit: refusals 3, 4, 5, else the run ends.
 #[tactic(auto, unfolding(desk_arrays::specs::Moves::if_runs, desk_arrays::specs::Moves::commit_move))]
-fn commit_move(f: Found) -> Move
+fn commit_move(f: Found) -> Result<Move, Refusal>
     ensures { result ≡ commit_move f }
 {
-    match standing_of(f.code) {
-        Standing::Against(why) => Move::Refuse(why),
-        Standing::Runs => Move::End(f.place, Ending::Closed),
-    }
+    standing_of(f.code)?;
+    Ok(Move::End(f.place, Ending::Closed))
 }
 
 // Give-up: refusal 3, else the run ends.
 #[tactic(auto, unfolding(desk_arrays::specs::Moves::give_up_move))]
-fn give_up_move(f: Found) -> Move
+fn give_up_move(f: Found) -> Result<Move, Refusal>
     ensures { result ≡ give_up_move f }
 {
     if f.code == FREE {
-        return Move::Refuse(Refusal::NotOpen);
+        return Err(Refusal::NotOpen);
     }
-    Move::End(f.place, Ending::Closed)
+    Ok(Move::End(f.place, Ending::Closed))
 }
 
 // Retry: refusals 3, 4, 8, else the job runs again.
 #[tactic(auto, unfolding(desk_arrays::specs::Moves::retry_move))]
-fn retry_move(f: Found) -> Move
+fn retry_move(f: Found) -> Result<Move, Refusal>
     ensures { result ≡ retry_move f }
 {
-    if f.code == FREE {
-        return Move::Refuse(Refusal::NotOpen);
+    match f.code {
+        FREE => Err(Refusal::NotOpen),
+        WAITING => Err(Refusal::Waiting),
+        SENT_BACK => Ok(Move::Retry(f.place)),
+        _ => Err(Refusal::Running),
     }
-    if f.code == WAITING {
-        return Move::Refuse(Refusal::Waiting);
-    }
-    if f.code == SENT_BACK {
-        return Move::Retry;
-    }
-    Move::Refuse(Refusal::Running)
 }
 
 // Read, write, increment and u: refusals 3, 4, 5, 2, else what the rules decide.
 #[tactic(auto, unfolding(desk_arrays::specs::Moves::if_runs, desk_arrays::specs::Moves::ask_move), using(crate::proofs::Open::runs_open))]
-fn ask_move(b: Board, job: u32, c: u32, a: Ask) -> Move
+fn ask_move(b: Board, job: u32, c: u32, a: Ask) -> Result<Move, Refusal>
     ensures { result ≡ ask_move b.entry.number.now b.entry.status.now b.entry.cell.now b.entry.held.now job c a }
 {
     let f = find(b, job);
-    match standing_of(f.code) {
-        Standing::Against(why) => Move::Refuse(why),
-        Standing::Runs => {
-            if c < CELLS {
-                return decide(b, f.place, c as usize, job, a);
-            }
-            Move::Refuse(Refusal::CellAbove)
-        }
+    standing_of(f.code)?;
+    if c < CELLS {
+        return Ok(decide(b, f.place, c as usize, job, a));
     }
+    Err(Refusal::CellAbove)
 }
 
-// The move of a request, by its letter.
+// The move of a request, by its letter, or why it is refused.
 #[tactic(auto, unfolding(desk_arrays::specs::Moves::move_for))]
-pub fn plan_for(next: u64, b: Board, letter: Letter, job: u32, c: u32) -> Move
+pub fn plan_for(next: u64, b: Board, letter: Letter, job: u32, c: u32) -> Result<Move, Refusal>
     ensures { result ≡ move_for next b.entry.number.now b.entry.status.now b.entry.cell.now b.entry.held.now job c (Some letter) }
 {
     match letter {
-        Letter::Back => Move::Refuse(Refusal::UnknownKind),
+        Letter::Back => Err(Refusal::UnknownKind),
         Letter::Begin => begin_move(next, b.number),
         Letter::Commit => commit_move(find(b, job)),
         Letter::GiveUp => give_up_move(find(b, job)),

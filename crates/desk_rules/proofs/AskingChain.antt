@@ -17,7 +17,7 @@ use Rattle.terms.specs.declared.refusals.Refusal.TheVariants.{NotOpen, SentBack,
 use Rattle.terms.specs.Limits.{places}
 use Rattle.terms.specs.Refusals.{number_of}
 use Rattle.laws.proofs.Filled.{fills}
-use Rattle.desk_rules.specs.declared.Chained.TheVariants.{Jobs, No}
+use Rattle.std.specs.Prelude.{Result, Ok, Err}
 use Rattle.desk_rules.specs.Desk.{Status, closed, running, waiting, sentback, Desk, is_open, is_live}
 use Rattle.desk_rules.specs.Invariant.{Inv}
 use Rattle.desk_rules.specs.Chain.{chain_of}
@@ -29,10 +29,10 @@ use Rattle.desk_rules.proofs.AlongChain.{along_chain}
 
 -- the four outcomes of a question
 pub data Way (d : Desk) (j : ℕ) (list : List ℕ) : Type 0 where
-  not_there : d.stat j ≡ closed → ask_chain d j list ≡ record { said = No NotOpen; list = list } → Way d j list
-  went_back : d.stat j ≡ sentback → ask_chain d j list ≡ record { said = No SentBack; list = list } → Way d j list
-  too_short : is_live (d.stat j) ≡ true → length list < 32 → ask_chain d j list ≡ record { said = No ShortList; list = list } → Way d j list
-  told : is_live (d.stat j) ≡ true → 32 ≤ length list → ask_chain d j list ≡ record { said = Jobs (length (chain_of d j)); list = filled (chain_of d j) list } → Way d j list
+  not_there : d.stat j ≡ closed → ask_chain d j list ≡ record { said = Err NotOpen; list = list } → Way d j list
+  went_back : d.stat j ≡ sentback → ask_chain d j list ≡ record { said = Err SentBack; list = list } → Way d j list
+  too_short : is_live (d.stat j) ≡ true → length list < 32 → ask_chain d j list ≡ record { said = Err ShortList; list = list } → Way d j list
+  told : is_live (d.stat j) ≡ true → 32 ≤ length list → ask_chain d j list ≡ record { said = Ok (length (chain_of d j)); list = filled (chain_of d j) list } → Way d j list
 
 -- for a job that runs or waits, the places lent decide
 pub live_due : (s : Status) (n : ℕ) → is_live s ≡ true → chain_due s n ≡ pick (ltb n places) (Some ShortList) None
@@ -55,10 +55,10 @@ module _ (d : Desk) (j : ℕ) (list : List ℕ) where
   pub by_way : Way d j list
   by_way = go (d.stat j) refl
     where
-      closed_due : d.stat j ≡ closed → ask_chain d j list ≡ record { said = No NotOpen; list = list }
+      closed_due : d.stat j ≡ closed → ask_chain d j list ≡ record { said = Err NotOpen; list = list }
       closed_due e = unfold ask_chain chain_told chain_due chain_order first_of chain_holds is_open in rw e
 
-      back_due : d.stat j ≡ sentback → ask_chain d j list ≡ record { said = No SentBack; list = list }
+      back_due : d.stat j ≡ sentback → ask_chain d j list ≡ record { said = Err SentBack; list = list }
       back_due e = unfold ask_chain chain_told chain_due chain_order first_of chain_holds is_open in rw e
 
       go : (s : Status) → d.stat j ≡ s → Way d j list
@@ -68,11 +68,11 @@ module _ (d : Desk) (j : ℕ) (list : List ℕ) where
       go sentback e = went_back e (back_due e)
 
 -- equal refusals have equal numbers
-same_refusal : {x y : Refusal} → No x ≡ No y → number_of x ≡ number_of y
+same_refusal : {x y : Refusal} → ◌≡◌ {A = Result ℕ Refusal} (Err x) (Err y) → number_of x ≡ number_of y
 same_refusal e = cc
 
 -- a count of jobs is not a refusal
-jobs_no : {P : Type 0} {n : ℕ} {x : Refusal} → Jobs n ≡ No x → P
+jobs_no : {P : Type 0} {n : ℕ} {x : Refusal} → ◌≡◌ {A = Result ℕ Refusal} (Ok n) (Err x) → P
 jobs_no e = let z : ◌≡◌ {A = ℕ} 0 1 = cc in absurd (omega arith)
 
 -- a closed job was not sent back
@@ -80,18 +80,18 @@ other_status : {P : Type 0} → closed ≡ sentback → P
 other_status e = let z : ◌≡◌ {A = ℕ} 0 1 = cc in absurd (omega arith)
 
 -- equal answers tell equal counts
-same_jobs : {n m : ℕ} → Jobs n ≡ Jobs m → n ≡ m
+same_jobs : {n m : ℕ} → ◌≡◌ {A = Result ℕ Refusal} (Ok n) (Ok m) → n ≡ m
 same_jobs e = cc
 
 module _ {d : Desk} (v : Inv d) (j : ℕ) (list : List ℕ) where
   -- what the answer to a refused question is like
-  module _ (x : Refusal) (e : ask_chain d j list ≡ record { said = No x; list = list }) where
+  module _ (x : Refusal) (e : ask_chain d j list ≡ record { said = Err x; list = list }) where
     -- it is not another refusal
-    other_refusal : {P : Type 0} {y : Refusal} → (ask_chain d j list).said ≡ No y → number_of x ≢ number_of y → P
+    other_refusal : {P : Type 0} {y : Refusal} → (ask_chain d j list).said ≡ Err y → number_of x ≢ number_of y → P
     other_refusal h n = absurd (n (same_refusal (sym (ap (λ o. o.said) e) ∙ h)))
 
     -- nor a count of jobs
-    not_answered : {P : Type 0} {n : ℕ} → (ask_chain d j list).said ≡ Jobs n → P
+    not_answered : {P : Type 0} {n : ℕ} → (ask_chain d j list).said ≡ Ok n → P
     not_answered h = jobs_no (sym h ∙ ap (λ o. o.said) e)
 
     -- and the list is as it was

@@ -12,8 +12,7 @@ use Rattle.laws.proofs.Joined.{head_same, tail_same}
 use Rattle.terms.specs.declared.refusals.Refusal.{Refusal}
 use Rattle.terms.specs.declared.refusals.Refusal.TheVariants.{NotOpen, SentBack, ShortList}
 use Rattle.terms.proofs.Numbers.{same_number, within_table}
-use Rattle.desk_rules.specs.declared.Chained.{Chained}
-use Rattle.desk_rules.specs.declared.Chained.TheVariants.{Jobs, No}
+use Rattle.std.specs.Prelude.{Result, Ok, Err}
 use Rattle.desk_rules.specs.Desk.{sentback, Desk, is_open, is_live}
 use Rattle.desk_rules.specs.Chain.{chain_of}
 use Rattle.desk_rules.specs.AskedChain.{ChainTold, ask_chain, chain_numbers}
@@ -21,20 +20,20 @@ use Rattle.desk_rules.specs.Chains.{AsksChain}
 use Rattle.desk_rules.proofs.AskingChain.{Way, not_there, went_back, too_short, told, by_way}
 
 -- an answer is fixed by its two parts
-told_path : (t : ChainTold) (x : Chained) (l : List ℕ) → t.said ≡ x → t.list ≡ l → t ≡ record { said = x; list = l }
+told_path : (t : ChainTold) (x : Result ℕ Refusal) (l : List ℕ) → t.said ≡ x → t.list ≡ l → t ≡ record { said = x; list = l }
 told_path t x l e f = λ i. record { said = e i; list = f i }
 
 module _ {d : Desk} (j : ℕ) (list : List ℕ) (t : ChainTold) (k : AsksChain d j list t) where
   -- a refusal, with the list as it was
-  refused_so : (why : Refusal) → t.said ≡ No why → t ≡ record { said = No why; list = list }
-  refused_so why e = told_path t (No why) list e (k.refusal_leaves why e)
+  refused_so : (why : Refusal) → t.said ≡ Err why → t ≡ record { said = Err why; list = list }
+  refused_so why e = told_path t (Err why) list e (k.refusal_leaves why e)
 
   -- an answer, with the chain in the first places and the rest as it was
-  answered_so : is_live (d.stat j) ≡ true → 32 ≤ length list → t ≡ record { said = Jobs (length (chain_of d j)); list = filled (chain_of d j) list }
+  answered_so : is_live (d.stat j) ≡ true → 32 ≤ length list → t ≡ record { said = Ok (length (chain_of d j)); list = filled (chain_of d j) list }
   answered_so h l =
       let (e, f) = k.answered h l in
       let (r, z) = k.unused_stay (length (chain_of d j)) e in
-      told_path t (Jobs (length (chain_of d j))) (filled (chain_of d j) list) e (fills_only (chain_of d j) list t.list (record { first = f; rest = r; size = z }))
+      told_path t (Ok (length (chain_of d j))) (filled (chain_of d j) list) e (fills_only (chain_of d j) list t.list (record { first = f; rest = r; size = z }))
 
   -- so an answer that keeps the promises is the one that the definition gives
   pub only_told : t ≡ ask_chain d j list
@@ -65,9 +64,9 @@ module _ {d : Desk} (j : ℕ) (list : List ℕ) (t : ChainTold) (k : AsksChain d
   tells_how_many h l = ap chain_numbers (k.answered h l).0
 
 -- the answers' numbers tell them apart
-pub same_chained : (a b : Chained) → chain_numbers a ≡ chain_numbers b → a ≡ b
+pub same_chained : (a b : Result ℕ Refusal) → chain_numbers a ≡ chain_numbers b → a ≡ b
 unfolding chain_numbers
-same_chained (Jobs n) (Jobs m) e = ap Jobs (head_same (tail_same e))
-same_chained (Jobs n) (No y) e = let h = head_same e in let w = within_table y in absurd (omega arith)
-same_chained (No x) (Jobs m) e = let h = head_same e in let w = within_table x in absurd (omega arith)
-same_chained (No x) (No y) e = ap No (same_number x y (head_same e) (head_same (tail_same e)))
+same_chained (Ok n) (Ok m) e = ap Ok (head_same (tail_same e))
+same_chained (Ok n) (Err y) e = let h = head_same e in let w = within_table y in absurd (omega arith)
+same_chained (Err x) (Ok m) e = let h = head_same e in let w = within_table x in absurd (omega arith)
+same_chained (Err x) (Err y) e = ap Err (same_number x y (head_same e) (head_same (tail_same e)))

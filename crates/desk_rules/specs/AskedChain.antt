@@ -1,12 +1,10 @@
 -- A caller asks for a job's chain and lends a list: when the question is refused, what is answered, and what the list then holds (02, No. 3).
-use Rattle.std.specs.Prelude.{ℕ, Bool, false, List, [], ◌∷◌, ltb, length, Option, None, Some}
+use Rattle.std.specs.Prelude.{ℕ, Bool, false, List, [], ◌∷◌, ltb, length, Option, None, Some, Result, Ok, Err}
 use Rattle.laws.specs.Lists.{first_of, filled}
 use Rattle.terms.specs.declared.refusals.Refusal.{Refusal}
 use Rattle.terms.specs.declared.refusals.Refusal.TheVariants.{UnknownKind, CellAbove, NotOpen, Waiting, SentBack, AllOpen, NoNumberLeft, Running, BadLine, StartedAtZero, TooManyLines, JobOutside, Ended, ShortOrder, NoRoom, TooLong, ShortList, NoRetry}
 use Rattle.terms.specs.Refusals.{number_of, field_of}
 use Rattle.terms.specs.Limits.{places}
-use Rattle.desk_rules.specs.declared.Chained.{Chained}
-use Rattle.desk_rules.specs.declared.Chained.TheVariants.{Jobs, No}
 use Rattle.desk_rules.specs.Desk.{Status, Desk}
 use Rattle.desk_rules.specs.Table.{not_open, is_sent_back}
 use Rattle.desk_rules.specs.Chain.{chain_of}
@@ -42,19 +40,19 @@ chain_due s n = first_of (chain_holds s n) chain_order
 
 -- what is answered, and what the list then holds
 pub record ChainTold : Type 0 where
-  pub said : Chained
+  pub said : Result ℕ Refusal
   pub list : List ℕ
 
 -- a refusal leaves the list as it was; otherwise the chain is in its first places, the answer is how many jobs it has, and the unused places stay
 unfoldable pub chain_told : List ℕ → List ℕ → Option Refusal → ChainTold
-chain_told js list (Some why) = record { said = No why; list = list }
-chain_told js list None = record { said = Jobs (length js); list = filled js list }
+chain_told js list (Some why) = record { said = Err why; list = list }
+chain_told js list None = record { said = Ok (length js); list = filled js list }
 
 -- a question to a desk for the chain of job j, with a list lent for it
 unfoldable pub ask_chain : Desk → ℕ → List ℕ → ChainTold
 ask_chain d j list = chain_told (chain_of d j) list (chain_due (d.stat j) (length list))
 
 -- the answer in two numbers: 0 and how many jobs, or the refusal's number and the field of a 9, which is never given here
-unfoldable pub chain_numbers : Chained → List ℕ
-chain_numbers (Jobs n) = 0 ∷ n ∷ []
-chain_numbers (No why) = number_of why ∷ field_of why ∷ []
+unfoldable pub chain_numbers : Result ℕ Refusal → List ℕ
+chain_numbers (Ok n) = 0 ∷ n ∷ []
+chain_numbers (Err why) = number_of why ∷ field_of why ∷ []

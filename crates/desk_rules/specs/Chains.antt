@@ -6,7 +6,7 @@ use Rattle.terms.specs.declared.refusals.Refusal.{Refusal}
 use Rattle.terms.specs.declared.refusals.Refusal.TheVariants.{NotOpen, SentBack, ShortList}
 use Rattle.terms.specs.Refusals.{number_of}
 use Rattle.conflict.specs.Modes.{is_free}
-use Rattle.desk_rules.specs.declared.Chained.TheVariants.{Jobs, No}
+use Rattle.std.specs.Prelude.{Ok, Err}
 use Rattle.desk_rules.specs.Desk.{running, waiting, sentback, Waiter, Desk, is_open, is_live}
 use Rattle.desk_rules.specs.Table.{is_waiting}
 use Rattle.desks.specs.Requests.{Rising}
@@ -36,16 +36,16 @@ pub record Along (d : Desk) (j : ℕ) (js : List ℕ) : Type 0 where
 -- for the answer to a question for the chain of job j with a list lent for it
 pub record AsksChain (d : Desk) (j : ℕ) (list : List ℕ) (t : ChainTold) : Type 0 where
   -- 3 exactly if the job is not open; 5 exactly if it was sent back; 18 exactly if it runs or waits and fewer than 32 places are lent; and no other refusal
-  pub not_open : (t.said ≡ No NotOpen) ↔ (is_open (d.stat j) ≡ false)
-  pub was_sent_back : (t.said ≡ No SentBack) ↔ (d.stat j ≡ sentback)
-  pub short_list : (t.said ≡ No ShortList) ↔ ((is_live (d.stat j) ≡ true) × (length list < 32))
-  pub no_other : (why : Refusal) → t.said ≡ No why → (number_of why ≡ 3) ⊎ ((number_of why ≡ 5) ⊎ (number_of why ≡ 18))
+  pub not_open : (t.said ≡ Err NotOpen) ↔ (is_open (d.stat j) ≡ false)
+  pub was_sent_back : (t.said ≡ Err SentBack) ↔ (d.stat j ≡ sentback)
+  pub short_list : (t.said ≡ Err ShortList) ↔ ((is_live (d.stat j) ≡ true) × (length list < 32))
+  pub no_other : (why : Refusal) → t.said ≡ Err why → (number_of why ≡ 3) ⊎ ((number_of why ≡ 5) ⊎ (number_of why ≡ 18))
   -- a refusal leaves the list as it was
-  pub refusal_leaves : (why : Refusal) → t.said ≡ No why → t.list ≡ list
+  pub refusal_leaves : (why : Refusal) → t.said ≡ Err why → t.list ≡ list
   -- otherwise the answer is how many jobs the chain has, and the chain is in the first places of the list
-  pub answered : is_live (d.stat j) ≡ true → 32 ≤ length list → (t.said ≡ Jobs (length (chain_of d j))) × (take (length (chain_of d j)) t.list ≡ chain_of d j)
+  pub answered : is_live (d.stat j) ≡ true → 32 ≤ length list → (t.said ≡ Ok (length (chain_of d j))) × (take (length (chain_of d j)) t.list ≡ chain_of d j)
   -- the unused places stay
-  pub unused_stay : (n : ℕ) → t.said ≡ Jobs n → (drop n t.list ≡ drop n list) × (length t.list ≡ length list)
+  pub unused_stay : (n : ℕ) → t.said ≡ Ok n → (drop n t.list ≡ drop n list) × (length t.list ≡ length list)
 
 pub record Chains (d : Desk) : Type 0 where
   -- the chain of a live job is a chain in the request's words, and the only one; a running job's chain is itself

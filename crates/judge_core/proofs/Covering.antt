@@ -51,10 +51,6 @@ module _ (codes cells owners : List ℕ) where
               ∙ s.has y (by_test (eqb y p) (λ u. absurd (eqb-false (set_key (get_or owners y 0) (get_or codes y 0)) key g (ap (λ z. set_key (get_or owners z 0) (get_or codes z 0)) (eqb-true y p u) ∙ ap (λ z. set_key z (get_or codes p 0)) (sym o) ∙ sym q))) (λ u. omega (arith, eqb-false y p u))) k l);
         }
 
-  -- all lines
-  pub covered_all : (p n : ℕ) (sets : List ℕ) → p ≡ n → Covered codes cells owners p sets → Covered codes cells owners n sets
-  covered_all p n sets e s = rw (← e) s
-
 -- the sets of a job, by their places
 pub touched_is : (sets : List ℕ) (j a b c : ℕ) → a ≡ set_key j 0 → b ≡ set_key j 1 → c ≡ set_key j 2 → ◌≡◌ {A = Touched} (record { reads = get_or sets a 0; writes = get_or sets b 0; increments = get_or sets c 0 }) (touched_at sets j)
 unfolding touched_at
@@ -170,7 +166,3 @@ module _ (codes cells owners : List ℕ) where
             code = λ j k c a b d h. at_place codes k j k c (λ q. (one_key j k c a b d q).1) (s.code j k c a b d) h;
             cell = λ j k c a b d h. at_place cells c j k c (λ q. (one_key j k c a b d q).2) (s.cell j k c a b d) h;
           })
-
-  -- all lines
-  pub lasts_all : (p n : ℕ) (lasts : List ℕ) → p ≡ n → Lasts codes cells owners p lasts → Lasts codes cells owners n lasts
-  lasts_all p n lasts e s = rw (← e) s

@@ -12,7 +12,7 @@ use lib.Seq.{get_or-set_same, get_or-set_other}
 use borrow.Author.Tests.{eqb-true, eqb-false, eq-eqb, ne_eqb}
 use Rattle.laws.specs.Choice.{by_test, not_both}
 use Rattle.judge_core.specs.Lists.{values_of}
-use Rattle.judge_core.specs.RunEnds.{end_by, run_end, end_at, RunEnds, later_end, latest_end, reads_dirt, dirty_at, spoils_at, LastWrite}
+use Rattle.judge_core.specs.RunEnds.{end_by, run_end, end_at, later_end, latest_end, reads_dirt, dirty_at, spoils_at, LastWrite}
 use Rattle.judge_core.proofs.Tabled.{tab_at, tab_all, tab_set}
 
 -- the ends are there of the lines from p on
@@ -59,10 +59,6 @@ module _ (codes jobs : List ℕ) (n : ℕ) where
         (tab_set (λ i. run_end codes jobs i p (n - p)) (λ i. run_end codes jobs i q (suc (n - suc q))) 256 0 j v b
         (d ∙ rw (seen_at, eq-eqb (get_or jobs q 0) j (sym s)))
         (λ i a o. rw (one', ne_eqb (get_or jobs q 0) i (λ r. o (sym r ∙ sym s)))))
-
-  -- when all lines are passed all are there
-  pub ends_all : (p : ℕ) (ends : List ℕ) → p ≡ 0 → EndsFrom codes jobs n p ends → RunEnds codes jobs n ends
-  ends_all p ends e t = record { wide = t.wide; there = λ q b. t.there q (omega arith) b }
 
 module _ (codes cells ends : List ℕ) where
   -- before the first line nobody has changed a cell

@@ -42,10 +42,6 @@ module _ (codes jobs : List ℕ) where
       (tab_same (has_commit codes jobs p) (has_commit codes jobs (suc p)) 256 false
       (λ i l. rw (ne_eqb (get_or codes p 0) 3 c, and_none (eqb (get_or jobs p 0) i))))
 
-  -- when all lines are passed the table is the one of all
-  pub commits_all : (p n : ℕ) (done : List Bool) → done ≡ values_of (has_commit codes jobs p) 256 → p ≡ n → done ≡ values_of (has_commit codes jobs n) 256
-  commits_all p n done e h = rw (← h) e
-
   -- before the first line all lines count
   pub since_none : replicate 256 0 ≡ values_of (counted_from codes jobs 0) 256
   unfolding counted_from
@@ -67,10 +63,6 @@ module _ (codes jobs : List ℕ) where
       rw (e, add-one p)
       (tab_same (counted_from codes jobs p) (counted_from codes jobs (suc p)) 256 0
       (λ i l. rw (le-ltb 4 (get_or codes p 0) c, and_none (eqb (get_or jobs p 0) i))))
-
-  -- when all lines are passed the table is the one of all
-  pub since_all : (p n : ℕ) (since : List ℕ) → since ≡ values_of (counted_from codes jobs p) 256 → p ≡ n → since ≡ values_of (counted_from codes jobs n) 256
-  since_all p n since e h = rw (← h) e
 
   module _ (since : List ℕ) where
     -- a mark is nobody's action
@@ -104,7 +96,3 @@ module _ (codes jobs : List ℕ) where
         by_test (ltb i p)
         (λ t. rw (t, lt-ltb i (suc p) (omega (arith, ltb-true i p t))))
         (λ f. rw (f, le-ltb i (suc p) (omega (arith, ltb-false i p f, o))))))
-
-    -- when all lines are passed the table is the one of all
-    pub owners_all : (p n : ℕ) (all : List ℕ) → all ≡ values_of (owners_by codes jobs since p) 4096 → p ≡ n → all ≡ values_of (owners_by codes jobs since n) 4096
-    owners_all p n all e h = rw (← h) e

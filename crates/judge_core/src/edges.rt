@@ -3,7 +3,7 @@ ghost use Rattle.std.specs.Prelude.{◌≡◌, true, ℕ, ◌≤◌, ◌<◌, ge
 ghost use Rattle.laws.specs.Lists.{member};
 ghost use Rattle.judge_core.specs.Meeting.{kind_by, action_at, clashing, meetings};
 ghost use Rattle.judge_core.specs.Grouped.{Lined, part_at};
-ghost use Rattle.judge_core.specs.Reaching.{Reach, Masked, Worked, last_met, may_meet};
+ghost use Rattle.judge_core.specs.Reaching.{Masked, Worked, last_met, may_meet};
 ghost use Rattle.terms.specs.Limits.{judged_lines};
 ghost use Rattle.judge_core.specs.Sizes.{slots};
 
@@ -65,68 +65,6 @@ fn apart(xs: &[u16], ys: &[u16]) -> bool
     *last <= *first
 }
 
-// Whether job j's last action of a kind on line x's cell stands after line x and conflicts with its action.
-#[tactic(auto, using(crate::proofs::Reaching::last_early, crate::proofs::Reaching::last_late, crate::proofs::Reaching::other_made))]
-fn meets_last(kept: Kept, lasts: &[u16; KEYS], x: usize, j: usize, kind: u8) -> bool
-    requires { (x < judged_lines) × (j < slots) × (kind < 3) × (get_or kept.cells.now x 0 < 64) }
-    ensures { result ≡ last_met kept.entry.codes.now kept.entry.jobs.now kept.entry.cells.now lasts.now j x kind }
-{
-    let cell = kept.cells[x];
-    if usize::from(lasts[last_key(j, kind, cell)]) <= x + 1 {
-        return false;
-    }
-    let other = Action {
-        kind: kind_of(kind),
-        job: j as u32,
-        cell: u32::from(cell),
-    };
-    actions_conflict(action_at(kept, x), other)
-}
-
-// Whether line x is on a cell of the set, and job j's last action on that cell stands after it. The last action is tested first: for two jobs its outcome is mostly the same on all cells, unlike the set's.
-#[tactic(auto, using(crate::proofs::Reaching::may_early, crate::proofs::Reaching::may_nowhere, crate::proofs::Reaching::may_set))]
-fn may_meet(kept: Kept, lasts: &[u16; KEYS], mask: u64, x: usize, j: usize) -> bool
-    requires { (x < judged_lines) × (j < slots) }
-    ensures { result ≡ may_meet kept.entry.cells.now lasts.now mask j x }
-{
-    let cell = kept.cells[x];
-    if u32::from(cell) >= CELLS {
-        return false;
-    }
-    if usize::from(lasts[last_key(j, ANY, cell)]) <= x + 1 {
-        return false;
-    }
-    has_cell(mask, u32::from(cell))
-}
-
-// Whether a line of xs stands before a line of ys, job j's, that it conflicts with. The search stops at the first such pair.
-// Lines of xs are tried from the last back, since a job mostly writes what it has read before. It skips lines on cells where the two jobs cannot conflict,
-// or where job j's last line stands too early. Of job j's lines on a cell, the last of each kind decides.
-#[tactic(auto, using(crate::proofs::Reaching::apart_none, crate::proofs::Reaching::passed_cell, crate::proofs::Reaching::passed_none, crate::proofs::Reaching::reach_found, crate::proofs::Reaching::reach_none, crate::proofs::Searching::meets_end, crate::proofs::Searching::meets_found, crate::proofs::Searching::meets_past, crate::proofs::Searching::meets_whole, crate::proofs::Searching::member_at))]
-fn meets(kept: Kept, lasts: &[u16; KEYS], mask: u64, xs: &[u16], ys: &[u16], j: usize) -> bool
-    requires j_lt_slots { (j < slots) × Lined xs.now × Lined ys.now }
-    requires reach { Reach kept.codes.now kept.jobs.now kept.cells.now lasts.now j ys.now × Masked kept.codes.now kept.jobs.now kept.cells.now mask xs.now ys.now }
-    ensures { result ≡ meetings (clashing kept.entry.codes.now kept.entry.jobs.now kept.entry.cells.now) xs.now ys.now }
-{
-    if apart(xs, ys) {
-        return false;
-    }
-    let mut found = false;
-    'outer: for i in (0..xs.len()).rev() {
-        let x = usize::from(xs[i]);
-        if !may_meet(kept, lasts, mask, x, j) {
-            continue;
-        }
-        for kind in 0..ANY {
-            if meets_last(kept, lasts, x, j, kind) {
-                found = true;
-                break 'outer;
-            }
-        }
-    }
-    found
-}
-
 impl<'a> Graph<'a> {
     ghost use Rattle.judge_core.specs.Edges.{edges_of};
 
@@ -140,8 +78,71 @@ impl<'a> Graph<'a> {
         &lines[self.starts[j]..self.starts[j + 1]]
     }
 
+    // Whether job j's last action of a kind on line x's cell stands after line x and conflicts with its action.
+    #[tactic(auto, using(crate::proofs::Reaching::last_early, crate::proofs::Reaching::last_late, crate::proofs::Reaching::other_made))]
+    fn meets_last(self, x: usize, j: usize, kind: u8) -> bool
+        requires { (x < judged_lines) × (j < slots) × (kind < 3) × (get_or self.kept.cells.now x 0 < 64) }
+        ensures { result ≡ last_met self.entry.kept.codes.now self.entry.kept.jobs.now self.entry.kept.cells.now self.entry.lasts.now j x kind }
+    {
+        let cell = self.kept.cells[x];
+        if usize::from(self.lasts[last_key(j, kind, cell)]) <= x + 1 {
+            return false;
+        }
+        let other = Action {
+            kind: kind_of(kind),
+            job: j as u32,
+            cell: u32::from(cell),
+        };
+        actions_conflict(action_at(self.kept, x), other)
+    }
+
+    // Whether line x is on a cell of the set, and job j's last action on that cell stands after it. The last action is tested first: for two jobs its outcome is mostly the same on all cells, unlike the set's.
+    #[tactic(auto, using(crate::proofs::Reaching::may_early, crate::proofs::Reaching::may_nowhere, crate::proofs::Reaching::may_set))]
+    fn may_meet(self, mask: u64, x: usize, j: usize) -> bool
+        requires { (x < judged_lines) × (j < slots) }
+        ensures { result ≡ may_meet self.entry.kept.cells.now self.entry.lasts.now mask j x }
+    {
+        let cell = self.kept.cells[x];
+        if u32::from(cell) >= CELLS {
+            return false;
+        }
+        if usize::from(self.lasts[last_key(j, ANY, cell)]) <= x + 1 {
+            return false;
+        }
+        has_cell(mask, u32::from(cell))
+    }
+
+    // Whether a line of xs stands before a line of job j that it conflicts with. The search stops at the first such pair.
+    // Lines of xs are tried from the last back, since a job mostly writes what it has read before. It skips lines on cells where the two jobs cannot conflict,
+    // or where job j's last line stands too early. Of job j's lines on a cell, the last of each kind decides.
+    // The loops stay labelled, and are left from inside, as 01 names them.
+    #[tactic(auto, using(crate::proofs::Reaching::apart_none, crate::proofs::Searching::meets_end, crate::proofs::Searching::meets_whole))]
+    fn meets(self, mask: u64, xs: &[u16], j: usize) -> bool
+        requires j_lt_slots { (0 < j) × (j < slots) × Lined xs.now }
+        requires masked { Masked self.kept.codes.now self.kept.jobs.now self.kept.cells.now mask xs.now (part_at self.lines.now self.starts.now j) }
+        ensures { result ≡ meetings (clashing self.entry.kept.codes.now self.entry.kept.jobs.now self.entry.kept.cells.now) xs.now (part_at self.entry.lines.now self.entry.starts.now j) }
+    {
+        if apart(xs, self.part(j)) {
+            return false;
+        }
+        let mut found = false;
+        'outer: for i in (0..xs.len()).rev() {
+            let x = usize::from(xs[i]);
+            if !self.may_meet(mask, x, j) {
+                continue;
+            }
+            for kind in 0..ANY {
+                if self.meets_last(x, j, kind) {
+                    found = true;
+                    break 'outer;
+                }
+            }
+        }
+        found
+    }
+
     // Whether job i has an edge to job j, both with a c.
-    #[tactic(auto, using(crate::proofs::ByParts::edge_parts, crate::proofs::ByParts::edge_self, crate::proofs::ByParts::its_mask, crate::proofs::ByParts::its_reach, crate::proofs::ByParts::masked_apart))]
+    #[tactic(auto, using(crate::proofs::ByParts::edge_parts, crate::proofs::ByParts::edge_self, crate::proofs::ByParts::its_mask, crate::proofs::ByParts::masked_apart))]
     pub fn edge_between(self, i: usize, j: usize) -> bool
         requires { (0 < i) × (i < slots) × (0 < j) × (j < slots) }
         ensures { result ≡ edges_of self.entry i j }
@@ -153,6 +154,6 @@ impl<'a> Graph<'a> {
         if mask == 0 {
             return false;
         }
-        meets(self.kept, self.lasts, mask, self.part(i), self.part(j), j)
+        self.meets(mask, self.part(i), j)
     }
 }

@@ -1,6 +1,5 @@
 -- One step over the arrays is the step of the request's desk that they show, letter by letter (02, No. 6).
 -- Assumes nothing.
-use Rattle.std.specs.Prelude.{Option, None, Some}
 use Prim.Native.Nat.{ℕ, ◌<◌}
 use mathlib.Core.Path.{◌≡◌, refl, sym, ap, ◌∙◌, fun_ext}
 use mathlib.Core.Bool.{true, false, not, ◌&&◌}
@@ -10,7 +9,7 @@ use lib.Dec.{eqb, ltb}
 use lib.ListN.{length, get_or, set}
 use lib.Seq.{get_or-set_same, get_or-set_other}
 use borrow.Author.Tests.{eqb-false, ltb-true}
-use Rattle.std.specs.Prelude.{Some, None, Result, Ok}
+use Rattle.std.specs.Prelude.{Option, Some, None, Result, Ok}
 use Rattle.laws.specs.Choice.{by_test, not_both}
 use Rattle.laws.specs.Functions.{at}
 use Rattle.laws.specs.Larger.{larger}

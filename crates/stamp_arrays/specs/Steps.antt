@@ -38,9 +38,9 @@ unfoldable pub late_with : ℕ → ℕ → ℕ → Ask → Bool
 late_with reader writer job a = late (record { next = 0; jobs = []; reader = λ c. reader; writer = λ c. writer }) job 0 a
 
 -- begin, given where the new job is opened
-unfoldable pub opened : Opening → Result Move Refusal
-opened (At p n) = Ok (Begin p n)
-opened (not_opened why) = Err why
+unfoldable pub opened : Result Opening Refusal → Result Move Refusal
+opened (Ok o) = Ok (Begin o.place o.number)
+opened (Err why) = Err why
 
 -- begin: refusal 7, then 6, else the next number at the first free place (01, Refusals by number)
 unfoldable pub begin_move : ℕ → List ℕ → Result Move Refusal

@@ -11,6 +11,7 @@ pub const ROWS: usize = CELLS as usize;
 
 // The timestamp desk: the next number; for each place the job's number, 0 if the place is free;
 // and for each cell the largest number that read it and the largest that wrote it.
+// These are arrays of plain numbers, each of its own, since the C exports of `tuyenlomac` lend them so.
 #[derive(Clone, Copy)]
 pub struct Stamps {
     pub next: u64,

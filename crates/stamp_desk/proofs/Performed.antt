@@ -66,18 +66,18 @@ fits_ask reader writer (Some p) job c a h =
 fits_ask reader writer None job c a h = tt
 
 -- every plan fits
-pub plan_fits : (next : ℕ) (number reader writer : List ℕ) (job c : ℕ) (l : Lettered) → Fits c (move_for next number reader writer job c l)
+pub plan_fits : (next : ℕ) (number reader writer : List ℕ) (job c : ℕ) (l : Option Letter) → Fits c (move_for next number reader writer job c l)
 unfolding move_for
-plan_fits next number reader writer job c Unknown = tt
-plan_fits next number reader writer job c (Known no-request) = tt
-plan_fits next number reader writer job c (Known begins) = fits_begin next number c
-plan_fits next number reader writer job c (Known Commit) = fits_close c (found_at number job) (found_there number job)
-plan_fits next number reader writer job c (Known GiveUp) = fits_close c (found_at number job) (found_there number job)
-plan_fits next number reader writer job c (Known Retry) = fits_retry c (found_at number job)
-plan_fits next number reader writer job c (Known (Asks a)) = fits_ask reader writer (found_at number job) job c a (found_there number job)
+plan_fits next number reader writer job c None = tt
+plan_fits next number reader writer job c (Some no-request) = tt
+plan_fits next number reader writer job c (Some begins) = fits_begin next number c
+plan_fits next number reader writer job c (Some Commit) = fits_close c (found_at number job) (found_there number job)
+plan_fits next number reader writer job c (Some GiveUp) = fits_close c (found_at number job) (found_there number job)
+plan_fits next number reader writer job c (Some Retry) = fits_retry c (found_at number job)
+plan_fits next number reader writer job c (Some (Asks a)) = fits_ask reader writer (found_at number job) job c a (found_there number job)
 
 -- the plan by the letter is the plan by its byte, and carried out it is the step
-pub steps : (d : Stamps) (letter : Letter) (job c : ℕ) {m : Result Move Refusal} {e : Stamps} {x : Answer} → m ≡ move_for d.next d.number d.reader d.writer job c (Known letter) →
+pub steps : (d : Stamps) (letter : Letter) (job c : ℕ) {m : Result Move Refusal} {e : Stamps} {x : Answer} → m ≡ move_for d.next d.number d.reader d.writer job c (Some letter) →
     e ≡ carried d job c m → x ≡ answer_to m job → StepsTo d (byte_of letter) job c e x
 unfolding step_of move_of
 steps d letter job c {m} plans p q =
@@ -85,7 +85,7 @@ steps d letter job c {m} plans p q =
     record { desk = p ∙ ap (carried d job c) planned; said = q ∙ ap (λ y. answer_to y job) planned }
 
 -- a byte that is no letter's is refused
-pub refused_byte : (d : Stamps) (kind job c : ℕ) → letter_of kind ≡ Unknown → StepsTo d kind job c d (No UnknownKind)
+pub refused_byte : (d : Stamps) (kind job c : ℕ) → letter_of kind ≡ None → StepsTo d kind job c d (No UnknownKind)
 unfolding step_of move_of move_for carried answer_to
 refused_byte d kind job c h = record { desk = rw h; said = rw h }
 

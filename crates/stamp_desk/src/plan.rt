@@ -42,10 +42,8 @@ impl Board<'_> {
     fn begin(self) -> Result<Move, Refusal>
         ensures { result ≡ begin_move self.entry.next self.entry.number.now }
     {
-        match opening_for(self.next, self.number) {
-            Opening::At(p, n) => Ok(Move::Begin(p, n)),
-            Opening::Refused(why) => Err(why),
-        }
+        let Opening { place, number } = opening_for(self.next, self.number)?;
+        Ok(Move::Begin(place, number))
     }
 
     // Where a job stands; `None` for 0 and for a number at no place.

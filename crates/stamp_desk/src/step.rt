@@ -47,7 +47,7 @@ fn mark_writer(writer: &mut [u32; ROWS], c: usize, job: u32, a: Ask)
     }
 }
 
-// Carries out a move on the desk's fields and gives the answer that goes with it; a refusal changes nothing.
+// Carries out a move on the desk's fields, as `step_for` has them, and gives the answer that goes with it; a refusal changes nothing.
 #[tactic(auto, unfolding(stamp_arrays::specs::Steps::carried, stamp_arrays::specs::Steps::answer_to))]
 fn carry_out(
     next: &mut u64,
@@ -145,13 +145,12 @@ pub fn step_in(d: &mut Stamps, letter: Letter, job: u32, cell: u32) -> Answer
 
 // One step by value, by a byte: takes the desk, and returns the new desk and the answer.
 #[tactic(auto, using(crate::proofs::Performed::by_letter, crate::proofs::Performed::refused_byte))]
-pub fn step(d: Stamps, kind: u8, job: u32, cell: u32) -> Stamped
+pub fn step(mut d: Stamps, kind: u8, job: u32, cell: u32) -> Stamped
     ensures { result ≡ step_of d kind job cell }
 {
-    let mut stamps = d;
     let answer = match letter_of(kind) {
         None => Answer::No(Refusal::UnknownKind),
-        Some(l) => step_in(&mut stamps, l, job, cell),
+        Some(l) => step_in(&mut d, l, job, cell),
     };
-    Stamped { stamps, answer }
+    Stamped { stamps: d, answer }
 }

@@ -4,18 +4,105 @@
 // Writes how many steps went, waited, went back and were refused, and how many jobs woke; on the timestamp desk nobody waits or wakes.
 #![tactic(auto)]
 
-ghost use Rattle.std.specs.Prelude.{◌≡◌, ◌-◌, ◌<◌, ◌≤◌};
-
-use desk_arrays::state::{Desk, Said};
+use desk_arrays::state::Desk;
 use desks::Answer;
 use stamp_arrays::state::Stamps;
-use std::num::wrapping_add_u64;
 use terms::letters::{BEGIN, COMMIT, GIVE_UP, INCREMENT, READ, RETRY, WRITE};
 use terms::limits::{CELLS, PLACES};
-use terms::words::{NEWLINE, TAB};
 
-// How many steps got each answer.
+// How many steps are drawn, and by how many hands.
+const STEPS: u32 = 1000000;
+
+const HANDS: usize = 24;
+
+// The first byte that selects the timestamp desk; a lock desk lent whole; and a timestamp desk lent whole.
+const STAMPS: u8 = b't';
+
+const LENT_LOCKS: u8 = b'l';
+
+const LENT_STAMPS: u8 = b's';
+
+// The fixed sequence of draws, by the number that it is at.
 #[derive(Clone, Copy)]
+struct Draws {
+    at: u32,
+}
+
+impl Draws {
+    // The next draw: the upper half of the number that the sequence is at.
+    fn draw(&mut self) -> u32 {
+        let drawn = self.at / 65536;
+        self.at = self.at.wrapping_mul(1103515245).wrapping_add(12345);
+        drawn
+    }
+}
+
+// Of 32 steps, 15 read, 6 write, 4 increment, 5 commit, 1 gives up and 1 retries.
+fn drawn_kind(n: u32) -> u8 {
+    match n {
+        0..=14 => READ,
+        15..=20 => WRITE,
+        21..=24 => INCREMENT,
+        25..=29 => COMMIT,
+        30 => GIVE_UP,
+        _ => RETRY,
+    }
+}
+
+// What becomes of a job that a desk sends back.
+#[derive(Clone, Copy)]
+enum SentBack {
+    // it stays open, and is to retry
+    Retries,
+    // it is closed
+    IsClosed,
+}
+
+// A hand.
+#[derive(Clone, Copy)]
+enum Hand {
+    // without a job: it begins one
+    Free,
+    // with this job
+    Has(u32),
+    // with this job, which was sent back: it retries
+    Back(u32),
+}
+
+impl Hand {
+    // The number of its job, or 0.
+    fn job(self) -> u32 {
+        match self {
+            Hand::Free => 0,
+            Hand::Has(job) | Hand::Back(job) => job,
+        }
+    }
+
+    // What it asks, by a draw.
+    fn kind(self, drawn: u32) -> u8 {
+        match self {
+            Hand::Free => BEGIN,
+            Hand::Has(_) => drawn_kind(drawn % 32),
+            Hand::Back(_) => RETRY,
+        }
+    }
+
+    // The hand after it has asked and was answered; a begin gives the new job.
+    fn after(self, kind: u8, answer: Answer, sent_back: SentBack) -> Hand {
+        match (answer, sent_back) {
+            (Answer::Go(job), _) => match kind {
+                COMMIT | GIVE_UP => Hand::Free,
+                _ => Hand::Has(job),
+            },
+            (Answer::Back(job), SentBack::Retries) => Hand::Back(job),
+            (Answer::Back(_), SentBack::IsClosed) => Hand::Free,
+            (Answer::Wait(_), _) | (Answer::No(_), _) => self,
+        }
+    }
+}
+
+// How many steps got each answer, and how many jobs woke.
+#[derive(Clone, Copy, Default)]
 struct Tally {
     go: u64,
     wait: u64,
@@ -24,389 +111,115 @@ struct Tally {
     wakes: u64,
 }
 
-// The hands: the job of each, and whether it was sent back; the state of the sequence, the hand drawn last, and how the steps so far were answered.
-#[derive(Clone, Copy)]
-struct Hands {
-    jobs: [u32; HANDS],
-    backs: [bool; HANDS],
-    drawn: u32,
-    hand: usize,
-    tally: Tally,
+impl Tally {
+    // Counts one more answer, and its wakes.
+    fn count(&mut self, answer: Answer, wakes: usize) {
+        let counted = match answer {
+            Answer::Go(_) => &mut self.go,
+            Answer::Wait(_) => &mut self.wait,
+            Answer::Back(_) => &mut self.back,
+            Answer::No(_) => &mut self.no,
+        };
+        *counted = counted.wrapping_add(1);
+        self.wakes = self.wakes.wrapping_add(wakes as u64);
+    }
 }
 
-// The next step of a lent desk: how many are left, this one included; what is asked; and the hands.
-#[derive(Clone, Copy)]
-struct Drawn {
-    left: u64,
-    kind: u8,
-    job: u32,
-    cell: u32,
-    hands: Hands,
-}
-
-// How many steps are drawn, and by how many hands.
-const STEPS: u32 = 1000000;
-
-const HANDS: usize = 24;
-// The first byte that selects the timestamp desk, `t`; a lock desk lent whole, `l`; and a timestamp desk lent whole, `s`.
-const STAMPS: u8 = 116;
-
-const LENT_LOCKS: u8 = 108;
-
-const LENT_STAMPS: u8 = 115;
-
-// The next number of the sequence.
-fn next(x: u32) -> u32 {
-    (((x as u64) * 1103515245 + 12345) % 4294967296) as u32
-}
-
-// The hand of a draw.
-fn hand_by(x: u32) -> usize
-    ensures { result < 24 }
+// All the steps, on a desk of any kind, which `step` holds: it makes one step there, and tells the answer and how many jobs woke.
+fn draw_all<F: FnMut(u8, u32, u32) -> (Answer, usize)>(sent_back: SentBack, mut step: F) -> Tally
+    requires { F.IsAlwaysCallable step }
 {
-    (x / 65536) as usize % HANDS
+    let mut draws = Draws { at: 1 };
+    let mut hands = [Hand::Free; HANDS];
+    let mut tally = Tally::default();
+    for _ in 0..STEPS {
+        let i = draws.draw() as usize % HANDS;
+        let hand = hands[i];
+        let kind = hand.kind(draws.draw());
+        let cell = draws.draw() % CELLS;
+        let (answer, wakes) = step(kind, hand.job(), cell);
+        hands[i] = hand.after(kind, answer, sent_back);
+        tally.count(answer, wakes);
+    }
+    tally
 }
 
-// The cell of a draw.
-fn cell_by(x: u32) -> u32 {
-    x / 65536 % CELLS
-}
-
-// What a hand asks if it has a job; a hand without a job, 0, begins.
-fn kind_by(job: u32, x: u32) -> u8 {
-    if job == 0 {
-        return BEGIN;
-    }
-    drawn_kind(x / 65536 % 32)
-}
-
-// Of 32 steps, 15 read, 6 write, 4 increment, 5 commit, 1 gives up and 1 retries.
-fn drawn_kind(n: u32) -> u8 {
-    if n < 15 {
-        return READ;
-    }
-    if n < 21 {
-        return WRITE;
-    }
-    if n < 25 {
-        return INCREMENT;
-    }
-    if n < 30 {
-        return COMMIT;
-    }
-    if n < 31 {
-        return GIVE_UP;
-    }
-    RETRY
-}
-
-// The hand's job after a step: none once it has ended; a begin gives the new one. A job that was sent back stays, to retry.
-fn job_after(job: u32, kind: u8, answer: Answer) -> u32 {
-    match answer {
-        Answer::Go(named) => {
-            if kind == COMMIT {
-                return 0;
-            }
-            if kind == GIVE_UP {
-                return 0;
-            }
-            named
-        }
-        Answer::Wait(_) => job,
-        Answer::Back(_) => job,
-        Answer::No(_) => job,
-    }
-}
-
-// Whether an answer sends the job back.
-fn is_back(answer: Answer) -> bool {
-    match answer {
-        Answer::Back(_) => true,
-        Answer::Go(_) => false,
-        Answer::Wait(_) => false,
-        Answer::No(_) => false,
-    }
-}
-
-// What a hand asks; a hand whose job was sent back and is still open retries.
-fn asked_kind(job: u32, back: bool, x: u32) -> u8 {
-    if back {
-        return RETRY;
-    }
-    kind_by(job, x)
-}
-
-// The hand's job after a step of the timestamp desk: none once it was sent back, which closes it there.
-fn job_left(job: u32, kind: u8, answer: Answer) -> u32 {
-    if is_back(answer) {
-        return 0;
-    }
-    job_after(job, kind, answer)
-}
-
-// A tally with nothing counted.
-fn no_steps() -> Tally {
-    Tally {
-        go: 0,
-        wait: 0,
-        back: 0,
-        no: 0,
-        wakes: 0,
-    }
-}
-
-// The tally with one more answer and its wakes counted.
-fn counted(mut t: Tally, answer: Answer, wakes: u64) -> Tally {
-    t.wakes = wrapping_add_u64(t.wakes, wakes);
-    match answer {
-        Answer::Go(_) => {
-            t.go = wrapping_add_u64(t.go, 1);
-        }
-        Answer::Wait(_) => {
-            t.wait = wrapping_add_u64(t.wait, 1);
-        }
-        Answer::Back(_) => {
-            t.back = wrapping_add_u64(t.back, 1);
-        }
-        Answer::No(_) => {
-            t.no = wrapping_add_u64(t.no, 1);
-        }
-    }
-    t
-}
-
-// Writes a number and the byte behind it; an error tells that they were not taken.
-fn put_number(rt: &HostRuntime, n: u64, after: u8) -> std::io::Result<()> {
-    let _ = print!(rt; "{n}");
-    streams::write_all(rt, &[after])
-}
-
-// Writes the tally's five numbers.
-fn put_tally(rt: &HostRuntime, t: Tally) {
-    let _ = put_number(rt, t.go, TAB);
-    let _ = put_number(rt, t.wait, TAB);
-    let _ = put_number(rt, t.back, TAB);
-    let _ = put_number(rt, t.no, TAB);
-    if let Err(e) = put_number(rt, t.wakes, NEWLINE) {
-        streams::fail(rt, "time_desk: cannot write", &e);
-    }
-}
-
-// All the steps, on the lock desk.
-fn draw_all(d: Desk) -> Tally {
-    let mut numbered = d.next;
-    let mut number = d.number;
-    let mut status = d.status;
-    let mut cells = d.cell;
-    let mut ask = d.ask;
-    let mut held = d.held;
+// On the lock desk, with its fields lent and changed in place.
+fn on_locks() -> Tally {
+    let mut d = Desk::first();
     let mut woken = [0; PLACES];
-    let mut x: u32 = 1;
-    let mut jobs = [0u32; HANDS];
-    let mut backs = [false; HANDS];
-    let mut tally = no_steps();
-    let mut left = STEPS;
-    while left > 0 {
-        let i = hand_by(x);
-        x = next(x);
-        let job = jobs[i];
-        let kind = asked_kind(job, backs[i], x);
-        x = next(x);
-        let cell = cell_by(x);
-        let t = desk::step::step_on(
-            &mut numbered,
-            &mut number,
-            &mut status,
-            &mut cells,
-            &mut ask,
-            &mut held,
+    draw_all(SentBack::Retries, |kind, job, cell| {
+        let told = desk::step::step_on(
+            &mut d.next,
+            &mut d.number,
+            &mut d.status,
+            &mut d.cell,
+            &mut d.ask,
+            &mut d.held,
             &mut woken,
             kind,
             job,
             cell,
         );
-        x = next(x);
-        let answer = t.answer;
-        jobs[i] = job_after(job, kind, answer);
-        backs[i] = is_back(answer);
-        tally = counted(tally, answer, t.count as u64);
-        left -= 1;
-    }
-    tally
+        (told.answer, told.count)
+    })
 }
 
-// All the steps, on the timestamp desk.
-fn draw_stamps(d: Stamps) -> Tally {
-    let mut numbered = d.next;
-    let mut number = d.number;
-    let mut reader = d.reader;
-    let mut writer = d.writer;
-    let mut x: u32 = 1;
-    let mut jobs = [0u32; HANDS];
-    let mut tally = no_steps();
-    let mut left = STEPS;
-    while left > 0 {
-        let i = hand_by(x);
-        x = next(x);
-        let job = jobs[i];
-        let kind = kind_by(job, x);
-        x = next(x);
-        let cell = cell_by(x);
+// On the timestamp desk, with its fields lent and changed in place.
+fn on_stamps() -> Tally {
+    let mut d = Stamps::first();
+    draw_all(SentBack::IsClosed, |kind, job, cell| {
         let answer = stamp_desk::step::step_on(
-            &mut numbered,
-            &mut number,
-            &mut reader,
-            &mut writer,
+            &mut d.next,
+            &mut d.number,
+            &mut d.reader,
+            &mut d.writer,
             kind,
             job,
             cell,
         );
-        x = next(x);
-        jobs[i] = job_left(job, kind, answer);
-        tally = counted(tally, answer, 0);
-        left -= 1;
-    }
-    tally
+        (answer, 0)
+    })
 }
 
-// The next step that the hands draw, with this many left.
-fn draw(h: Hands, left: u64) -> Drawn
-    ensures { result.left ≡ left }
-{
-    let jobs = h.jobs;
-    let backs = h.backs;
-    let tally = h.tally;
-    let hand = hand_by(h.drawn);
-    let second = next(h.drawn);
-    let third = next(second);
-    let hands = Hands {
-        jobs,
-        backs,
-        drawn: next(third),
-        hand,
-        tally,
-    };
-    Drawn {
-        left,
-        kind: asked_kind(jobs[hand], backs[hand], second),
-        job: jobs[hand],
-        cell: cell_by(third),
-        hands,
-    }
-}
-
-// The first step, when no hand has a job.
-fn first_draw() -> Drawn
-    ensures { 0 < result.left }
-{
-    let hands = Hands {
-        jobs: [0; HANDS],
-        backs: [false; HANDS],
-        drawn: 1,
-        hand: 0,
-        tally: no_steps(),
-    };
-    draw(hands, STEPS as u64)
-}
-
-// The hands after their step was answered: with the hand's job, whether it is to retry, and how many woke.
-fn hands_after(h: Hands, job: u32, back: bool, answer: Answer, wakes: u64) -> Hands {
-    let mut jobs = h.jobs;
-    let mut backs = h.backs;
-    let tally = counted(h.tally, answer, wakes);
-    let hand = h.hand;
-    if hand < HANDS {
-        jobs[hand] = job;
-        backs[hand] = back;
-    }
-    Hands {
-        jobs,
-        backs,
-        drawn: h.drawn,
-        hand,
-        tally,
-    }
-}
-
-// The step after an answered one; after the last the tally is written out.
-fn draw_after(rt: &HostRuntime, left: u64, hands: Hands) -> Drawn
-    ensures { result.left ≤ left - 1 }
-{
-    if left > 1 {
-        return draw(hands, left - 1);
-    }
-    put_tally(rt, hands.tally);
-    draw(hands, 0)
-}
-
-// The step after one answered by the lock desk.
-fn after_said(rt: &HostRuntime, a: Drawn, said: Said) -> Drawn
-    ensures { result.left ≤ a.left - 1 }
-{
-    let answer = said.answer;
-    let job = job_after(a.job, a.kind, answer);
-    let hands = hands_after(a.hands, job, is_back(answer), answer, said.count as u64);
-    draw_after(rt, a.left, hands)
-}
-
-// The step after one answered by the timestamp desk.
-fn after_answer(rt: &HostRuntime, a: Drawn, answer: Answer) -> Drawn
-    ensures { result.left ≤ a.left - 1 }
-{
-    let job = job_left(a.job, a.kind, answer);
-    let hands = hands_after(a.hands, job, false, answer, 0);
-    draw_after(rt, a.left, hands)
-}
-
-// All the steps, on one lock desk that is lent to each.
-fn lend_locks(rt: &HostRuntime) {
+// On a lock desk that is lent whole to each step.
+fn on_lent_locks() -> Tally {
     let mut d = Desk::first();
-    let mut a = first_draw();
-    while a.left > 0 {
-        let said = lent::locks::step_lent(&mut d, a.kind, a.job, a.cell);
-        a = after_said(rt, a, said);
-    }
+    draw_all(SentBack::Retries, |kind, job, cell| {
+        let said = lent::locks::step_lent(&mut d, kind, job, cell);
+        (said.answer, said.count)
+    })
 }
 
-// All the steps, on one timestamp desk that is lent to each.
-fn lend_stamps(rt: &HostRuntime) {
+// On a timestamp desk that is lent whole to each step.
+fn on_lent_stamps() -> Tally {
     let mut d = Stamps::first();
-    let mut a = first_draw();
-    while a.left > 0 {
-        let answer = lent::stamps::step_lent(&mut d, a.kind, a.job, a.cell);
-        a = after_answer(rt, a, answer);
-    }
+    draw_all(SentBack::IsClosed, |kind, job, cell| {
+        (lent::stamps::step_lent(&mut d, kind, job, cell), 0)
+    })
 }
 
-// The first byte of the input, which selects a desk; 0 if there is none.
-fn first_byte(rt: &HostRuntime) -> u8 {
+// The first byte of the input, if there is one; it selects a desk.
+fn first_byte(rt: &HostRuntime) -> Option<u8> {
     let mut one = [0u8; 1];
-    let got = match streams::read(rt, &mut one) {
-        Ok(n) => n,
+    match streams::read(rt, &mut one) {
+        Ok(0) => None,
+        Ok(_) => Some(one[0]),
         Err(e) => {
             streams::fail(rt, "time_desk: cannot read", &e);
-            0
+            None
         }
-    };
-    if got < 1 {
-        return 0;
     }
-    one[0]
 }
 
 fn main(rt: HostRuntime) {
-    let byte = first_byte(&rt);
-    if byte == LENT_LOCKS {
-        lend_locks(&rt);
-        return;
+    let t = match first_byte(&rt) {
+        Some(STAMPS) => on_stamps(),
+        Some(LENT_LOCKS) => on_lent_locks(),
+        Some(LENT_STAMPS) => on_lent_stamps(),
+        _ => on_locks(),
+    };
+    if let Err(e) = println!(&rt; "{}\t{}\t{}\t{}\t{}", t.go, t.wait, t.back, t.no, t.wakes) {
+        streams::fail(&rt, "time_desk: cannot write", &e);
     }
-    if byte == LENT_STAMPS {
-        lend_stamps(&rt);
-        return;
-    }
-    if byte == STAMPS {
-        put_tally(&rt, draw_stamps(Stamps::first()));
-        return;
-    }
-    put_tally(&rt, draw_all(Desk::first()));
 }

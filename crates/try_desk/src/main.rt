@@ -9,7 +9,6 @@ ghost use Rattle.std.specs.Prelude.{◌≤◌};
 use conflict::action::{Action, Kind};
 use desk_arrays::state::{Desk, Said};
 use desk_chain::chain::chain;
-use desk_rules::Chained;
 use desks::Answer;
 use stamp_arrays::state::Stamps;
 use terms::letters::{INCREMENT, READ, WRITE};
@@ -229,14 +228,14 @@ fn put_list(rt: &HostRuntime, list: [u32; MOST], n: usize) {
 }
 
 // Writes how many jobs a chain has, or why there is none.
-fn put_chained(rt: &HostRuntime, answer: Chained) {
+fn put_chained(rt: &HostRuntime, answer: Result<usize, Refusal>) {
     match answer {
-        Chained::Jobs(n) => {
+        Ok(n) => {
             let _ = streams::write_all(rt, b"chain");
             put_byte(rt, TAB);
             let _ = print!(rt; "{n}");
         }
-        Chained::No(why) => put_refused(rt, why),
+        Err(why) => put_refused(rt, why),
     }
 }
 
@@ -349,8 +348,8 @@ fn put_refusal(rt: &HostRuntime, why: Refusal) {
 // Starts the lock desk at a first number, and runs all its steps.
 fn open(rt: &HostRuntime, first: u32) {
     match Desk::start(first) {
-        desk_arrays::state::Start::Ready(desk) => answer_all(rt, desk),
-        desk_arrays::state::Start::Refused(why) => put_refusal(rt, why),
+        Ok(desk) => answer_all(rt, desk),
+        Err(why) => put_refusal(rt, why),
     }
 }
 

@@ -10,8 +10,7 @@ use Rattle.terms.specs.declared.refusals.Refusal.{Refusal}
 use Rattle.terms.specs.declared.refusals.Refusal.TheVariants.{UnknownKind}
 use Rattle.terms.specs.Letters.{byte_of}
 use Rattle.terms.specs.Refusals.{number_of, field_of, field_number}
-use Rattle.desk_rules.specs.declared.Chained.{Chained}
-use Rattle.desk_rules.specs.declared.Chained.TheVariants.{Jobs, No}
+use Rattle.std.specs.Prelude.{Result, Ok, Err}
 use Rattle.desk_rules.specs.AskedChain.{chain_numbers}
 use Rattle.tuyenlomac.specs.declared.lines.Line.{Line}
 use Rattle.text_rules.specs.Records.{told, left}
@@ -38,11 +37,11 @@ unfolding written_numbers
 refused_told why e h = rw (e, h)
 
 -- a chain, and the refusal of one
-pub jobs_told : {c : Chained} (n : ℕ) → c ≡ Jobs n → (0 ∷ n ∷ []) ≡ chain_numbers c
+pub jobs_told : {c : Result ℕ Refusal} (n : ℕ) → c ≡ Ok n → (0 ∷ n ∷ []) ≡ chain_numbers c
 unfolding chain_numbers
 jobs_told n e = rw e
 
-pub no_told : {c : Chained} {m k : ℕ} (why : Refusal) → c ≡ No why → m ≡ number_of why → k ≡ field_of why → (m ∷ k ∷ []) ≡ chain_numbers c
+pub no_told : {c : Result ℕ Refusal} {m k : ℕ} (why : Refusal) → c ≡ Err why → m ≡ number_of why → k ≡ field_of why → (m ∷ k ∷ []) ≡ chain_numbers c
 unfolding chain_numbers
 no_told why e h g = rw (e, h, g)
 

@@ -9,19 +9,17 @@ use Rattle.conflict.specs.declared.action.Action.{Action}
 use Rattle.conflict.specs.declared.action.Kind.{Kind}
 use Rattle.text_rules.specs.EventRecords.{ask_by}
 use Rattle.desk_arrays.specs.declared.state.Desk.{Desk}
-use Rattle.desk_arrays.specs.declared.state.Start.{Start}
-use Rattle.desk_arrays.specs.declared.state.Start.TheVariants.{Ready, Refused}
 use Rattle.stamp_arrays.specs.declared.state.Stamps.{Stamps}
 
 -- the answer to a start: 0, or the refusal's number (01, refusal 10)
-unfoldable pub start_number : Start → ℕ
-start_number (Ready d) = 0
-start_number (Refused why) = number_of why
+unfoldable pub start_number : Result Desk Refusal → ℕ
+start_number (Ok d) = 0
+start_number (Err why) = number_of why
 
 -- what is then in the desk's place: the started desk, or what was there
-unfoldable pub start_leaves : Desk → Start → Desk
-start_leaves before (Ready d) = d
-start_leaves before (Refused why) = before
+unfoldable pub start_leaves : Desk → Result Desk Refusal → Desk
+start_leaves before (Ok d) = d
+start_leaves before (Err why) = before
 
 -- the answer to the start of a timestamp desk
 unfoldable pub stamps_number : Result Stamps Refusal → ℕ

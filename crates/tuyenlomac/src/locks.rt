@@ -16,7 +16,6 @@ use desk_arrays::board::Waits;
 use desk_arrays::codes::FREE;
 use desk_arrays::state::{Desk, SPOTS};
 use desk_chain::chain::chain;
-use desk_rules::Chained;
 use terms::letters::{INCREMENT, READ, WRITE};
 use terms::limits::PLACES;
 use terms::refusals::{Refusal, field_of};
@@ -132,15 +131,15 @@ pub fn tuyenlomac_locks_step_on(
 }
 
 // The answer to a question for a chain, in two numbers.
-fn chain_said(c: Chained) -> ChainSaid
+fn chain_said(c: Result<usize, Refusal>) -> ChainSaid
     ensures { (result.refusal ∷ result.jobs ∷ []) ≡ chain_numbers c }
 {
     match c {
-        Chained::Jobs(n) => ChainSaid {
+        Ok(n) => ChainSaid {
             refusal: 0,
             jobs: n,
         },
-        Chained::No(why) => ChainSaid {
+        Err(why) => ChainSaid {
             refusal: u8::from(why) as u32,
             jobs: field_of(why) as usize,
         },

@@ -3,8 +3,8 @@
 use Rattle.tuyenlomac.proofs.InNumbers.{jobs_told, no_told}
 use Rattle.tuyenlomac.proofs.locks.chain_said.Goals as goal
 
-pub returns-in-Jobs : goal.returns-in-Jobs
-returns-in-Jobs c = search jobs_told
+pub returns-in-Ok : goal.returns-in-Ok
+returns-in-Ok c = search jobs_told
 
-pub returns-in-No : goal.returns-in-No
-returns-in-No c = search no_told
+pub returns-in-Err : goal.returns-in-Err
+returns-in-Err c = search no_told
