@@ -11,8 +11,8 @@ use std::marker::Model;
 use terms::words::{NEWLINE, TAB};
 use terms::{Letter, Refusal, Word, has_cell, has_job, spelled};
 
-// How many digits a number has in shortest decimal: four at a time, then the few that are left.
-#[tactic(auto, using(text_rules::proofs::DigitLaws::counting_first, text_rules::proofs::DigitLaws::counting_four, text_rules::proofs::DigitLaws::counting_last, text_rules::proofs::DigitLaws::counting_next, text_rules::proofs::DigitLaws::counting_three, text_rules::proofs::DigitLaws::counting_two))]
+// How many digits a number has in shortest decimal: four at a time, then the few that are left. What is left of the number is tested, and there is no index to count.
+#[tactic(auto, using(text_rules::proofs::DigitLaws::counting_first))]
 pub fn width(n: u64) -> usize
     ensures { result ≡ length (decimal n) }
 {
@@ -75,7 +75,7 @@ impl Number {
     }
 }
 
-// How many bytes a further field takes: a tab and the number, if the field is there.
+// How many bytes a further field takes: a tab and the number, if the field is there. Whether it is there stands beside the number, as in the definition `field`.
 #[tactic(auto, using(text_rules::proofs::DigitLaws::decimal_at_most_20, text_rules::proofs::FieldLaws::field_length, text_rules::proofs::FieldLaws::no_field_length))]
 fn field_width(there: bool, n: Number) -> usize
     ensures { result ≡ length (field there n) }
@@ -84,15 +84,13 @@ fn field_width(there: bool, n: Number) -> usize
 }
 
 // Whether `len` bytes fit from place `at` on; no sum here can wrap.
-#[tactic(auto, using(text_rules::proofs::RoomLaws::no_room_past, text_rules::proofs::RoomLaws::room_left))]
 pub fn has_room(room: usize, at: usize, len: usize) -> bool
     ensures { result ≡ leb (at + len) room }
 {
-    if at <= room { len <= room - at } else { false }
+    at <= room && len <= room - at
 }
 
 // Writes one byte.
-#[tactic(auto, using(text_rules::proofs::WroteLaws::wrote_byte, text_rules::proofs::WroteLaws::wrote_none))]
 fn put_byte(part: &mut [u8], byte: u8) -> usize
     requires { 1 ≤ length part.old }
     ensures { Wrote 0 result (byte ∷ []) part.old part.new }
@@ -102,7 +100,7 @@ fn put_byte(part: &mut [u8], byte: u8) -> usize
 }
 
 // Writes a number, from its last digit to its first.
-#[tactic(auto, using(text_rules::proofs::DigitLaws::all_to_write, text_rules::proofs::DigitLaws::none_to_write, text_rules::proofs::DigitLaws::one_more))]
+#[tactic(auto, using(text_rules::proofs::DigitLaws::all_to_write))]
 fn put_number(part: &mut [u8], n: Number) -> usize
     requires { length (decimal n) ≤ length part.old }
     ensures { Wrote 0 result (decimal n) part.old part.new }
@@ -117,7 +115,7 @@ fn put_number(part: &mut [u8], n: Number) -> usize
 }
 
 // Writes a further field: a tab and the number, if the field is there.
-#[tactic(auto, using(text_rules::proofs::DigitLaws::decimal_at_most_20, text_rules::proofs::FieldLaws::field_length, text_rules::proofs::FieldLaws::field_none, text_rules::proofs::FieldLaws::field_there, text_rules::proofs::WroteLaws::lent_fits, text_rules::proofs::WroteLaws::wrote_byte, text_rules::proofs::WroteLaws::wrote_length, text_rules::proofs::WroteLaws::wrote_more, text_rules::proofs::WroteLaws::wrote_none))]
+#[tactic(auto, using(text_rules::proofs::FieldLaws::field_none, text_rules::proofs::FieldLaws::field_there))]
 fn put_field(part: &mut [u8], there: bool, n: Number) -> usize
     requires { length (field there n) ≤ length part.old }
     ensures { Wrote 0 result (field there n) part.old part.new }
@@ -142,7 +140,6 @@ fn put_word(part: &mut [u8], word: Word) -> usize
 }
 
 // Writes a word as a further field: a tab and the word.
-#[tactic(auto, using(text_rules::proofs::WroteLaws::wrote_more))]
 fn put_second(part: &mut [u8], word: Word) -> usize
     requires { length (spelt word) < length part.old }
     ensures { Wrote 0 result (tab ∷ spelt word) part.old part.new }
@@ -152,7 +149,6 @@ fn put_second(part: &mut [u8], word: Word) -> usize
 }
 
 // Writes the last field, if it is there, and the newline that ends the record.
-#[tactic(auto, using(text_rules::proofs::WroteLaws::wrote_byte))]
 fn put_last(part: &mut [u8], there: bool, n: Number) -> usize
     requires { length (field there n) < length part.old }
     ensures { Wrote 0 result (field there n ++ newline ∷ []) part.old part.new }
@@ -163,7 +159,7 @@ fn put_last(part: &mut [u8], there: bool, n: Number) -> usize
 }
 
 // Writes an answer record: each field goes into the part after the one before.
-#[tactic(auto, using(text_rules::proofs::FieldLaws::answer_is, text_rules::proofs::Length::answer_length, text_rules::proofs::WroteLaws::lent_fits, text_rules::proofs::WroteLaws::wrote_more))]
+#[tactic(auto, using(text_rules::proofs::Length::answer_length))]
 fn put_answer(part: &mut [u8], line: Number, word: Word, number: Number, fault: Number) -> usize
     requires { length (answer_record line word number fault) ≤ length part.old }
     ensures { Wrote 0 result (answer_record line word number fault) part.old part.new }
@@ -175,7 +171,7 @@ fn put_answer(part: &mut [u8], line: Number, word: Word, number: Number, fault: 
 }
 
 // Writes the line of a letter: each field goes into the part after the one before.
-#[tactic(auto, using(text_rules::proofs::FieldLaws::line_is, text_rules::proofs::Length::line_length, text_rules::proofs::WroteLaws::lent_fits, text_rules::proofs::WroteLaws::wrote_as, text_rules::proofs::WroteLaws::wrote_more))]
+#[tactic(auto, using(text_rules::proofs::Length::line_length))]
 fn put_line(part: &mut [u8], letter: Letter, job: Number, cell: Number) -> usize
     requires { length (line_record letter job cell) ≤ length part.old }
     ensures { Wrote 0 result (line_record letter job cell) part.old part.new }
@@ -185,8 +181,9 @@ fn put_line(part: &mut [u8], letter: Letter, job: Number, cell: Number) -> usize
     b + put_last(&mut part[b..], has_cell(letter), cell)
 }
 
+// Each function for callers asks whether its bytes fit, and then writes them. One function that takes the writing as a closure would be no shorter: its contract would have to name the bytes.
 // Writes an answer record: request line number, word, number, and one field more if the fourth number is not 0.
-#[tactic(auto, using(crate::proofs::WordLaws::word_at_most_7, text_rules::proofs::DigitLaws::decimal_at_most_20, text_rules::proofs::FieldLaws::field_at_most_21, text_rules::proofs::Length::answer_length, text_rules::proofs::RoomLaws::refused_there, text_rules::proofs::RoomLaws::written_from))]
+#[tactic(auto, using(crate::proofs::WordLaws::word_at_most_7, text_rules::proofs::DigitLaws::decimal_at_most_20, text_rules::proofs::FieldLaws::field_at_most_21, text_rules::proofs::Length::answer_length))]
 pub fn write_answer(
     buf: &mut [u8],
     at: usize,
@@ -209,7 +206,7 @@ pub fn write_answer(
 }
 
 // Writes the line of a letter with the fields that it has: a history record, or a request.
-#[tactic(auto, using(text_rules::proofs::FieldLaws::field_at_most_21, text_rules::proofs::Length::line_length, text_rules::proofs::RoomLaws::refused_there, text_rules::proofs::RoomLaws::written_from))]
+#[tactic(auto, using(text_rules::proofs::FieldLaws::field_at_most_21, text_rules::proofs::Length::line_length))]
 pub fn write_line(
     buf: &mut [u8],
     at: usize,
@@ -229,7 +226,6 @@ pub fn write_line(
 }
 
 // Writes a word alone: the start of a verdict line.
-#[tactic(auto, using(text_rules::proofs::RoomLaws::refused_there, text_rules::proofs::RoomLaws::written_from))]
 pub fn write_word(buf: &mut [u8], at: usize, word: Word) -> Result<usize, Refusal>
     ensures { (result ≡ told buf.old at (spelt word)) × (buf.new ≡ left buf.old at (spelt word)) }
 {
@@ -240,7 +236,6 @@ pub fn write_word(buf: &mut [u8], at: usize, word: Word) -> Result<usize, Refusa
 }
 
 // Writes a number alone, in shortest decimal: the start of a line of jobs.
-#[tactic(auto, using(text_rules::proofs::RoomLaws::refused_there, text_rules::proofs::RoomLaws::written_from))]
 pub fn write_number(buf: &mut [u8], at: usize, n: u64) -> Result<usize, Refusal>
     ensures { (result ≡ told buf.old at (decimal n)) × (buf.new ≡ left buf.old at (decimal n)) }
 {
@@ -252,7 +247,6 @@ pub fn write_number(buf: &mut [u8], at: usize, n: u64) -> Result<usize, Refusal>
 }
 
 // Writes a further field alone: a tab and the number.
-#[tactic(auto, using(text_rules::proofs::FieldLaws::field_there, text_rules::proofs::WroteLaws::wrote_as, text_rules::proofs::RoomLaws::refused_there, text_rules::proofs::RoomLaws::written_from))]
 pub fn write_field(buf: &mut [u8], at: usize, n: u64) -> Result<usize, Refusal>
     ensures { (result ≡ told buf.old at (tab ∷ decimal n)) × (buf.new ≡ left buf.old at (tab ∷ decimal n)) }
 {
@@ -264,7 +258,6 @@ pub fn write_field(buf: &mut [u8], at: usize, n: u64) -> Result<usize, Refusal>
 }
 
 // Writes the newline that ends a line.
-#[tactic(auto, using(text_rules::proofs::RoomLaws::refused_there, text_rules::proofs::RoomLaws::written_from))]
 pub fn write_end(buf: &mut [u8], at: usize) -> Result<usize, Refusal>
     ensures { (result ≡ told buf.old at (newline ∷ [])) × (buf.new ≡ left buf.old at (newline ∷ [])) }
 {

@@ -27,10 +27,6 @@ stored_more l m at i vs h lt =
     let e : length (take i vs) ≡ i = length-take-le i vs (omega arith) in
     rw h (sym (rw (add-one i, take-suc vs i 0 lt) (sets_snoc l at (take i vs) (get_or vs i 0) ∙ rw e)))
 
--- the stores are done when i is n
-pub stored_all : (l m : List ℕ) (at i n : ℕ) (vs : List ℕ) → m ≡ sets l at (take i vs) → i ≡ n → m ≡ sets l at (take n vs)
-stored_all l m at i n vs h e = rw e at h
-
 -- a byte of a line under way that does not end it
 taken_on : (bytes : List ℕ) (n line b : ℕ) → eqb b newline ≡ false → taken (under_way bytes n line) b ≡ pick (ltb n kept) (under_way (set bytes n b) (n + 1) line) (under_way bytes n line)
 unfolding taken under_way

@@ -49,10 +49,6 @@ first_decides b (c ∷ t) =
     (λ d. rw d (by_test (is_digit c) (λ e. rw e (by_test (eqb b 48) (λ z. rw z) (λ z. rw z))) (λ e. rw e (by_test (eqb b 48) (λ z. rw z) (λ z. rw z)))))
     (λ d. rw d)
 
--- an equation of tests, turned round
-pub turned : (a b : Bool) → a ≡ b → not a ≡ not b
-turned a b e = ap not e
-
 -- whether the digits at a place are shortest
 pub shortest_placed : (line : List ℕ) (at : ℕ) (r : Bool) → r ≡ pick (ltb at (length line)) (pick (is_digit (get_or line at 0)) (pick (eqb (get_or line at 0) 48) (not (digit_ahead (drop (at + 1) line))) true) false) false → r ≡ shortest (digits_of (drop at line))
 unfolding shortest digits_of

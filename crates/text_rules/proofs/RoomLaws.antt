@@ -10,21 +10,10 @@ use lib.Dec.{leb}
 use lib.ListN.{length}
 use borrow.Rule.Slice.PartMut.{mid_of, put_mid}
 use Rattle.std.specs.Prelude.{Ok, Err}
-use Rattle.laws.specs.Choice.{by_test}
 use Rattle.terms.specs.declared.refusals.Refusal.TheVariants.{NoRoom}
 use Rattle.text_rules.specs.Records.{fits, told, left}
 use Rattle.text_rules.specs.Wrote.{Wrote}
 use Rattle.text_rules.proofs.WroteLaws.{wrote_none, wrote_more}
-
--- bytes fit from a place within the room exactly if they fit into what is left of it
-pub room_left : (room at len : ℕ) → at ≤ room → leb len (room - at) ≡ leb (at + len) room
-room_left room at len h =
-    by_test (leb len (room - at)) (λ t. let f = leb-true len (room - at) t in t ∙ sym (le-leb (at + len) room (omega arith)))
-    (λ n. let g = leb-false len (room - at) n in n ∙ sym (lt-leb (at + len) room (omega arith)))
-
--- nothing fits from a place past the room
-pub no_room_past : (room at len : ℕ) → room < at → false ≡ leb (at + len) room
-no_room_past room at len h = sym (lt-leb (at + len) room (omega arith))
 
 -- the test passed, and the record has that many bytes: it fits
 pub room_for : {r : Bool} (room at len k : ℕ) → r ≡ leb (at + len) room → r ≡ true → len ≡ k → at + k ≤ room

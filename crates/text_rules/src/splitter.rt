@@ -10,6 +10,7 @@ use terms::words::NEWLINE;
 pub const KEPT: usize = 16;
 
 // The line that is being put together: its first bytes, how many they are, whether its newline has come, and its number from 1.
+// The bytes stand in an array with their number beside: memory is fixed, there is no heap.
 #[derive(Clone, Copy)]
 pub struct Splitter {
     pub kept: [u8; KEPT],
@@ -69,7 +70,7 @@ fn room(len: usize, n: usize) -> usize
 }
 
 // The kept bytes with the first n of a part put in from place len on.
-#[tactic(auto, using(crate::proofs::Keeping::stored_all, crate::proofs::Keeping::stored_more))]
+#[tactic(auto, using(crate::proofs::Keeping::stored_more))]
 fn filled(bytes: [u8; KEPT], len: usize, part: &[u8], n: usize) -> [u8; KEPT]
     requires { (n ≤ length part.now) × (n ≤ kept - len) }
     ensures { result ≡ sets bytes len (take n part.now) }
@@ -79,21 +80,6 @@ fn filled(bytes: [u8; KEPT], len: usize, part: &[u8], n: usize) -> [u8; KEPT]
         all[len + i] = part[i];
     }
     all
-}
-
-// A line under way with len bytes kept, after a part of it; the part may end the line.
-fn grown(bytes: [u8; KEPT], len: usize, line: u64, part: &[u8]) -> Splitter
-    requires { (0 < length part.now) × (used part.now ≡ length part.now) }
-    ensures { result ≡ through (under_way bytes len line) part.now }
-{
-    let n = room(len, part.len());
-    let all = filled(bytes, len, part, n);
-    Splitter {
-        kept: all,
-        len: len + n,
-        ended: part[part.len() - 1] == NEWLINE,
-        line,
-    }
 }
 
 impl Splitter {
@@ -110,6 +96,20 @@ impl Splitter {
         }
     }
 
+    // The line under way after a part of it, which may end the line.
+    fn grown(self, part: &[u8]) -> Self
+        requires { (0 < length part.now) × (used part.now ≡ length part.now) }
+        ensures { result ≡ through (under_way self.kept self.len self.line) part.now }
+    {
+        let n = room(self.len, part.len());
+        Self {
+            kept: filled(self.kept, self.len, part, n),
+            len: self.len + n,
+            ended: part[part.len() - 1] == NEWLINE,
+            line: self.line,
+        }
+    }
+
     // The splitter after a chunk's bytes from a place up to and including the next newline, and the place after them.
     #[tactic(auto, using(crate::proofs::Cutting::cut_new, crate::proofs::Cutting::cut_none, crate::proofs::Cutting::cut_on, crate::proofs::Cutting::cut_part, crate::proofs::Cutting::cut_within))]
     pub fn cut(self, chunk: &[u8], from: usize) -> Cut
@@ -122,12 +122,16 @@ impl Splitter {
                 next,
             };
         }
-        let part = &chunk[from..next];
-        let splitter = if self.ended {
-            grown(self.kept, 0, next_line(self.line), part)
+        let line = if self.ended {
+            Self {
+                len: 0,
+                line: next_line(self.line),
+                ..self
+            }
         } else {
-            grown(self.kept, self.len, self.line, part)
+            self
         };
+        let splitter = line.grown(&chunk[from..next]);
         Cut { splitter, next }
     }
 }
