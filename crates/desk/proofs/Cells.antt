@@ -24,7 +24,7 @@ use Rattle.std.specs.Prelude.{Option, Some, None}
 use Rattle.desk_plan.specs.Grants.{none_waits, wanted, next_grant}
 use Rattle.desk_plan.proofs.Wanted.{unwanted}
 use Rattle.desk.specs.InPlace.{Reached}
-use Rattle.laws.proofs.Filled.{filled_first, filled_length, filled_more, filled_again}
+use Rattle.laws.proofs.Filled.{filled_first, filled_more, filled_again}
 use Rattle.desk.proofs.Grants.{Picked, front, fronts, may_grant, grant_grants, stands_empty, none_granted, who_granted, granted_place, settle_more, settle_stop}
 use Rattle.desk.proofs.Room.{room, NoNewWaiter, cell_grows, all_room, all_waiting, wake_fits}
 
@@ -39,10 +39,6 @@ module _ {s : Settling} {l held status woken : List ℕ} {count : ℕ} (r : Reac
     where
       told : take count woken ≡ s.woken
       told = ap (λ n. take n woken) r.many ∙ ap (take (length s.woken)) r.places ∙ filled_first s.woken l
-
-  -- the list keeps its length
-  pub reached_length : length s.woken ≤ length l → length woken ≡ length l
-  reached_length h = ap length r.places ∙ filled_length s.woken l h
 
 -- the same, by another name for the state
 pub reached_as : {s t : Settling} {l held status woken : List ℕ} {count : ℕ} → Reached s l held status woken count → s ≡ t → Reached t l held status woken count
@@ -101,10 +97,6 @@ module _ (number cell ask : List ℕ) (s : Settling) (c : ℕ) {l held status wo
   -- there is room for the wakes of one cell more
   pub cells_room : room s ≤ places → count + waiters status places ≤ places
   cells_room h = rw (r.many, r.doing) (omega (arith, all_room number cell ask s c))
-
-  -- and the list has its length
-  pub cells_length : room s ≤ places → length l ≡ places → length woken ≡ places
-  cells_length h e = let f = all_room number cell ask s c in reached_length r (omega arith) ∙ e
 
   -- one cell more
   pub cells_settled : {held' status' woken' : List ℕ} {count' : ℕ} → Reached (settle_cell number cell ask c places (holds held status woken count)) woken held' status' woken' count' →

@@ -4,7 +4,9 @@ use Rattle.std.specs.Prelude.{Option, None, Some}
 use Prim.Native.Nat.{ℕ, ◌<◌, ◌+◌}
 use mathlib.Core.Path.{◌≡◌, refl, sym, ap, subst, ◌∙◌}
 use mathlib.Core.List.{List}
+use lib.Dec.{eqb}
 use lib.ListN.{length, set}
+use Rattle.laws.specs.Choice.{by_test}
 use Rattle.std.specs.Prelude.{Result, Ok, Err}
 use Rattle.laws.specs.Lists.{filled}
 use Rattle.terms.specs.declared.letters.Ask.{Ask}
@@ -23,10 +25,10 @@ use Rattle.desk_arrays.specs.declared.state.Told.{Told}
 use Rattle.desk_arrays.specs.declared.moves.Ending.{Ending}
 use Rattle.desk_arrays.specs.declared.moves.Move.{Move}
 use Rattle.desk_arrays.specs.declared.moves.Move.TheVariants.{Begin, Keep, Take, Stay, End, Retry}
-use Rattle.desk_arrays.specs.Codes.{running_code, waiting_code, ask_code}
+use Rattle.desk_arrays.specs.Codes.{running_code, waiting_code, sent_back_code, ask_code}
 use Rattle.desk_arrays.specs.Places.{spot}
-use Rattle.desk_arrays.specs.Moves.{move_for}
-use Rattle.desk_arrays.specs.Steps.{desk_of, begun, with_mode, waiting_for, retried, code_after, numbers_after, settled, ended, carried, answer_to, saying, performed, move_of, step_of}
+use Rattle.desk_arrays.specs.Moves.{status_of, move_for}
+use Rattle.desk_arrays.specs.Steps.{desk_of, with_status, begun, with_mode, waiting_for, retried, retried_job, code_after, numbers_after, settled, ended, carried, answer_to, saying, performed, move_of, step_of}
 use Rattle.desk_plan.specs.Fits.{Fits}
 use Rattle.desk_plan.proofs.Fitting.{plan_fits}
 use Rattle.desk.specs.InPlace.{Reached, woken_by, StepsTo}
@@ -52,20 +54,21 @@ module _ (next : ℕ) (number status cell held : List ℕ) (job c : ℕ) (letter
   pub end_place : {p : ℕ} {e : Ending} → m ≡ End p e → p < places
   end_place e = rw e at fits
 
-  -- there is the place of a job that runs again
-  pub retry_place : {p : ℕ} → m ≡ Retry p → p < places
-  retry_place e = rw e at fits
+-- a retry changes nothing but what the places are doing
+retried_status : (d : Desk) (job : ℕ) → with_status d (retried_job d job).status ≡ retried_job d job
+unfolding retried_job retried
+retried_status d job = by_test (eqb (status_of d.number d.status job) sent_back_code) (λ t. rw t) (λ f. rw f)
 
 -- a plan carried out is the step
 steps : {d : Desk} {l : List ℕ} {kind job c : ℕ} {m : Result Move Refusal} {a : Answer} {e : Desk} {w : List ℕ} {n : ℕ} → m ≡ move_of d kind job c → a ≡ answer_to m job →
-    e ≡ (carried d c m).desk → w ≡ filled (carried d c m).woken l → n ≡ length (carried d c m).woken →
+    e ≡ (carried d job c m).desk → w ≡ filled (carried d job c m).woken l → n ≡ length (carried d job c m).woken →
     StepsTo d l kind job c e w (record { answer = a; count = n })
 unfolding step_of performed saying woken_by
 steps {d} {l} {kind} {job} {c} plans answers e f g = record {
-  desk = e ∙ ap (λ x. (carried d c x).desk) plans;
+  desk = e ∙ ap (λ x. (carried d job c x).desk) plans;
   answer = answers ∙ ap (λ x. answer_to x job) plans;
-  count = g ∙ ap (λ x. length (carried d c x).woken) plans;
-  places = f ∙ ap (λ x. filled (carried d c x).woken l) plans;
+  count = g ∙ ap (λ x. length (carried d job c x).woken) plans;
+  places = f ∙ ap (λ x. filled (carried d job c x).woken l) plans;
 }
 
 module _ (next : ℕ) (number status cell ask held l : List ℕ) (letter : Letter) (job c : ℕ) where
@@ -111,9 +114,10 @@ module _ (next : ℕ) (number status cell ask held l : List ℕ) (letter : Lette
     ended_at e r f = steps (planned plans) answers (rw (e, f, r.modes, r.doing)) (rw e r.places) (rw e r.many)
 
     -- the job runs again
-    pub tried : {p : ℕ} → m ≡ Retry p → StepsTo (desk_of next number status cell ask held) l (byte_of letter) job c (desk_of next number (set status p running_code) cell ask held) l (record { answer = a; count = 0 })
-    unfolding carried retried filled
-    tried e = steps (planned plans) answers (rw e) (rw e) (rw e)
+    pub tried : {status' : List ℕ} → m ≡ Retry → status' ≡ (retried_job (desk_of next number status cell ask held) job).status →
+        StepsTo (desk_of next number status cell ask held) l (byte_of letter) job c (desk_of next number status' cell ask held) l (record { answer = a; count = 0 })
+    unfolding carried filled
+    tried e h = steps (planned plans) answers (rw e (ap (with_status (desk_of next number status cell ask held)) h ∙ retried_status (desk_of next number status cell ask held) job)) (rw e) (rw e)
 
 -- a byte that is no letter's is refused
 pub refused_byte : {d : Desk} {l : List ℕ} {kind job c : ℕ} → letter_of kind ≡ None → StepsTo d l kind job c d l (record { answer = No UnknownKind; count = 0 })

@@ -15,7 +15,7 @@ pub record Reached (s : Settling) (list held status woken : List ℕ) (count : �
 
 -- the places that a step wakes, in order
 unfoldable pub woken_by : Desk → ℕ → ℕ → ℕ → List ℕ
-woken_by d kind job c = (carried d c (move_of d kind job c)).woken
+woken_by d kind job c = (carried d job c (move_of d kind job c)).woken
 
 -- a step in place: the fields hold the desk left, answer and number of wakes are told, and the woken places stand first in the list
 pub record StepsTo (d : Desk) (list : List ℕ) (kind job c : ℕ) (after : Desk) (woken : List ℕ) (told : Told) : Type 0 where

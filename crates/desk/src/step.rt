@@ -1,7 +1,7 @@
 // One step of the desk: carries out the plan on the desk, in place (01, The desk's rules).
 ghost use Rattle.std.specs.Prelude.{◌<◌, ◌≡◌};
 ghost use Rattle.terms.specs.Letters.{byte_of};
-ghost use Rattle.desk_arrays.specs.Steps.{desk_of, numbers_after, answer_after, answer_to, step_of};
+ghost use Rattle.desk_arrays.specs.Steps.{desk_of, retried_job, numbers_after, answer_after, answer_to, step_of};
 ghost use Rattle.desk.specs.InPlace.{StepsTo};
 ghost use Rattle.terms.specs.Limits.{places};
 
@@ -37,7 +37,7 @@ fn answer_to(m: Move, job: u32) -> Answer
         Move::Begin(_, n) => Answer::Go(n),
         Move::Stay(_, _) => Answer::Wait(job),
         Move::End(_, e) => answer_after(e, job),
-        Move::Keep | Move::Take(_, _) | Move::Retry(_) => Answer::Go(job),
+        Move::Keep | Move::Take(_, _) | Move::Retry => Answer::Go(job),
     }
 }
 
@@ -55,9 +55,16 @@ fn leave_place(number: &mut [u32; PLACES], p: usize, e: Ending)
     }
 }
 
+// What the places are doing after a retry, by the desk's own method: 01 names that form for it (a method that takes the desk by value and returns it).
+fn status_retried(d: Desk, job: u32) -> [u8; PLACES]
+    ensures { result ≡ (retried_job d job).status }
+{
+    d.retry(job).status
+}
+
 // One step by letter, job and cell, on the desk's fields, each lent and changed in place.
 // The woken places go into the first places of a lent list, and the result tells how many there are.
-#[tactic(auto, using(crate::proofs::Performed::begin_place, crate::proofs::Performed::end_place, crate::proofs::Performed::retry_place, crate::proofs::Performed::stay_spot, crate::proofs::Performed::take_spot))]
+#[tactic(auto, using(crate::proofs::Performed::begin_place, crate::proofs::Performed::end_place, crate::proofs::Performed::stay_spot, crate::proofs::Performed::take_spot))]
 pub fn step_for(
     next: &mut u64,
     number: &mut [u32; PLACES],
@@ -118,8 +125,16 @@ pub fn step_for(
             leave_place(number, p, e);
             Told { answer, count }
         }
-        Move::Retry(p) => {
-            status[p] = RUNNING;
+        Move::Retry => {
+            let d = Desk {
+                next: *next,
+                number: *number,
+                status: *status,
+                cell: *at,
+                ask: *ask,
+                held: *held,
+            };
+            *status = status_retried(d, job);
             quiet
         }
     }

@@ -31,7 +31,7 @@ refuses d job c (Ok (Take p m)) why e = cc
 refuses d job c (Ok (Stay p a)) why e = cc
 refuses d job c (Ok (End p Closed)) why e = cc
 refuses d job c (Ok (End p SentBack)) why e = cc
-refuses d job c (Ok (Retry p)) why e = cc
+refuses d job c (Ok Retry) why e = cc
 
 module _ (d : Desk) (kind job c : ℕ) (why : Refusal) (refused : (step_of d kind job c).said.answer ≡ No why) where
   -- a step that answers with a refusal is that refusal and nothing else

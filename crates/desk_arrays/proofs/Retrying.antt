@@ -41,10 +41,10 @@ unopened_stays d job p z e n l =
     other_stays d job p z e (λ q. let h : get_or d.status p 0 ≡ 0 = get_or-eq_default d.status 0 k in omega arith)
 
 -- so it is the desk that a retry step leaves (01, rule 5)
-pub retried_step : (d : Desk) (job c : ℕ) → retried_job d job ≡ (carried d c (retry_move (found_at d.number d.status job))).desk
+pub retried_step : (d : Desk) (job c : ℕ) → retried_job d job ≡ (carried d job c (retry_move (found_at d.number d.status job))).desk
 unfolding retried_job carried retry_move found_at
 retried_step d job c =
     let s = status_of d.number d.status job in
     by_test (eqb s free_code) (λ t. rw (t, ne_eqb s sent_back_code (λ q. let z : s ≡ 0 = eqb-true s 0 t in omega arith)))
     (λ f. by_test (eqb s waiting_code) (λ t. rw (f, t, ne_eqb s sent_back_code (λ q. let z : s ≡ 2 = eqb-true s 2 t in omega arith)))
-    (λ g. by_test (eqb s sent_back_code) (λ t. rw (f, g, t)) (λ h. rw (f, g, h))))
+    (λ g. by_test (eqb s sent_back_code) (λ t. rw (f, g, t) (rw t)) (λ h. rw (f, g, h))))

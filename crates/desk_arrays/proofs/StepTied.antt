@@ -9,7 +9,7 @@ use mathlib.Core.List.{List}
 use native.Mathlib.Omega.{arith}
 use lib.Dec.{eqb, ltb}
 use lib.ListN.{length, get_or, get_or-eq_default}
-use borrow.Author.Tests.{eqb-false, ne_eqb}
+use borrow.Author.Tests.{eqb-true, eqb-false, eq-eqb, ne_eqb}
 use Rattle.std.specs.Prelude.{Result, Ok, Err}
 use Rattle.laws.specs.Choice.{pick, by_test}
 use Rattle.laws.specs.Lists.{pos}
@@ -34,7 +34,7 @@ use Rattle.desk_arrays.specs.declared.moves.Move.{Move}
 use Rattle.desk_arrays.specs.declared.moves.Move.TheVariants.{End, Retry}
 use Rattle.desk_arrays.specs.Codes.{free_code, waiting_code, sent_back_code, ask_of}
 use Rattle.desk_arrays.specs.Moves.{status_of, found_at, standing_of, if_runs, commit_move, give_up_move, retry_move, decided, ask_move, move_for}
-use Rattle.desk_arrays.specs.Steps.{carried, answer_to, performed, move_of, step_of}
+use Rattle.desk_arrays.specs.Steps.{retried_job, carried, answer_to, performed, move_of, step_of}
 use Rattle.desks.specs.Places.{is_seated}
 use Rattle.desk_arrays.specs.Stands.{status_for, status_at, status_by, Plain, Stands, Tied}
 use Rattle.desks.proofs.Seats.{Seat, seat_of, seated_member, pos_end}
@@ -76,9 +76,9 @@ module _ {d : Desk} {q : ℕ → List Waiter} (plain : Plain d) (v : Inv (paper_
   refuse why = refuse_tied d j c why (plain_stands plain q)
 
   -- a sent back job runs again
-  again : Seat d.number j (pos d.number j) → Tied (performed d j c (Ok (Retry (pos d.number j)))) (retry (paper_of d q) j)
-  unfolding performed carried answer_to retry
-  again s = quiet_tied (Go j) (retried_stands q plain s)
+  again : status_of d.number d.status j ≡ sent_back_code → Seat d.number j (pos d.number j) → Tied (performed d j c (Ok Retry)) (retry (paper_of d q) j)
+  unfolding performed carried answer_to retried_job retry
+  again e s = rw (eq-eqb _ _ e) (quiet_tied (Go j) (retried_stands q plain s))
 
   module _ (code b : ℕ) (a : Ask) (is : status_of d.number d.status j ≡ code) (seat : code ≢ free_code → Seat d.number j (pos d.number j)) where
     -- where the job is found
@@ -112,7 +112,7 @@ module _ {d : Desk} {q : ℕ → List Waiter} (plain : Plain d) (v : Inv (paper_
     retry_by =
         by_test (eqb code free_code) (λ t. rw t (refuse NotOpen))
         (λ n. rw n (by_test (eqb code waiting_code) (λ t. rw t (refuse Waiting))
-        (λ m. rw m (by_test (eqb code sent_back_code) (λ t. rw t (again (seat (eqb-false code free_code n)))) (λ k. rw k (refuse Running))))))
+        (λ m. rw m (by_test (eqb code sent_back_code) (λ t. rw t (again (is ∙ eqb-true code sent_back_code t) (seat (eqb-false code free_code n)))) (λ k. rw k (refuse Running))))))
 
     -- read, write, increment and u: 3, 4, 5, 2, else by the rules
     ask_by_lem : (x : Ask) → Tied (performed d j c (if_runs (standing_of code) (pick (ltb c cells) (Ok (decided d.number d.status d.cell d.held (pos d.number j) c j x)) (Err CellAbove)))) (step_ask (paper_of d q) j c x (status_for code b a))

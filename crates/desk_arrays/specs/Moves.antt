@@ -58,7 +58,7 @@ give_up_move f = pick (eqb f.code free_code) (Err NotOpen) (Ok (End f.place Clos
 unfoldable pub retry_move : Found → Result Move Refusal
 retry_move f =
     pick (eqb f.code free_code) (Err NotOpen)
-    (pick (eqb f.code waiting_code) (Err Waiting) (pick (eqb f.code sent_back_code) (Ok (Retry f.place)) (Err Running)))
+    (pick (eqb f.code waiting_code) (Err Waiting) (pick (eqb f.code sent_back_code) (Ok Retry) (Err Running)))
 
 -- rule 2, for a job that holds another mode: go if the new mode agrees with the other holders; wait if older than each of them; else back (01, rule 2; 02, No. 1)
 unfoldable pub promotes : List ℕ → List ℕ → ℕ → ℕ → ℕ → Ask → Move

@@ -113,14 +113,14 @@ ended d p e =
     }
 
 -- a move carried out; a refusal leaves the desk unchanged
-unfoldable pub carried : Desk → ℕ → Result Move Refusal → Left
-carried d c (Err why) = quietly d
-carried d c (Ok (Begin p n)) = quietly (begun d p n)
-carried d c (Ok Keep) = quietly d
-carried d c (Ok (Take p m)) = quietly (with_mode d p c m)
-carried d c (Ok (Stay p a)) = quietly (waiting_for d p c a)
-carried d c (Ok (End p e)) = ended d p e
-carried d c (Ok (Retry p)) = quietly (retried d p)
+unfoldable pub carried : Desk → ℕ → ℕ → Result Move Refusal → Left
+carried d job c (Err why) = quietly d
+carried d job c (Ok (Begin p n)) = quietly (begun d p n)
+carried d job c (Ok Keep) = quietly d
+carried d job c (Ok (Take p m)) = quietly (with_mode d p c m)
+carried d job c (Ok (Stay p a)) = quietly (waiting_for d p c a)
+carried d job c (Ok (End p e)) = ended d p e
+carried d job c (Ok Retry) = quietly (retried_job d job)
 
 -- the answer that goes with a move, or with a refusal; begin tells the new number (01, The desk's rules)
 unfoldable pub answer_to : Result Move Refusal → ℕ → Answer
@@ -130,7 +130,7 @@ answer_to (Ok Keep) job = Go job
 answer_to (Ok (Take p m)) job = Go job
 answer_to (Ok (Stay p a)) job = Wait job
 answer_to (Ok (End p e)) job = answer_after e job
-answer_to (Ok (Retry p)) job = Go job
+answer_to (Ok Retry) job = Go job
 
 -- the filler for unused places in the list of wakes
 unfoldable pub no_action : Action
@@ -151,7 +151,7 @@ saying d a woken = record { answer = a; wakes = listed (map (wake_at d.number d.
 -- a move carried out, with its answer
 unfoldable pub performed : Desk → ℕ → ℕ → Result Move Refusal → Outcome
 performed d job c m =
-    let l = carried d c m in
+    let l = carried d job c m in
     record { desk = l.desk; said = saying l.desk (answer_to m job) l.woken }
 
 -- the move of a request by numbers, or why it is refused

@@ -12,7 +12,7 @@ pub enum Ending {
 }
 
 // A step's move: open a place for a new number, let the job go as it is, give it a mode, let it wait,
-// end the run at a place, or let the job there run again.
+// end the run at a place, or let the job run again.
 #[derive(Clone, Copy)]
 pub enum Move {
     // a place gets a number, and its job runs
@@ -25,8 +25,8 @@ pub enum Move {
     Stay(usize, Ask),
     // the run at a place ends
     End(usize, Ending),
-    // the job at a place runs again
-    Retry(usize),
+    // the job runs again
+    Retry,
 }
 
 // The place of a job, and what the job is doing.

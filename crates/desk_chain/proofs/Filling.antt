@@ -5,9 +5,9 @@ use mathlib.Core.Path.{◌≡◌, refl, sym, ap, subst, ◌∙◌}
 use mathlib.Core.List.{List, [], ◌∷◌, ◌++◌, append-nil}
 use native.Mathlib.Omega.{arith}
 use borrow.Author.Tests.{lt-ltb, le-ltb}
-use borrow.Rule.Slice.PartMut.{mid_of, put_mid, Post-is, same_len_mid}
+use borrow.Rule.Slice.PartMut.{mid_of, put_mid, Post-is}
 use borrow.Author.Rules.{part_to_end}
-use lib.ListN.{length, get_or, drop, set, length-set}
+use lib.ListN.{length, get_or, drop, set}
 use lib.Seq.{drop-length}
 use Rattle.laws.specs.Lists.{filled}
 use Rattle.terms.specs.Limits.{places}
@@ -33,10 +33,6 @@ filled_one x (k ∷ ks) h = refl
 later_length : (x : ℕ) (l : List ℕ) → 0 < length l → length l ≡ suc (length (later x l))
 later_length x [] h = absurd (omega arith)
 later_length x (k ∷ ks) h = ap (λ ys. suc (length ys)) (sym (part_to_end (x ∷ ks) 1))
-
--- the list is as long as it was
-pub joined_length : (x : ℕ) (l ys : List ℕ) → length ys ≡ length (later x l) → length (joined x l ys) ≡ length l
-joined_length x l ys e = same_len_mid 1 (length (set l 0 x) - 1) (set l 0 x) ys e ∙ length-set l 0 x
 
 -- the others go into the part
 filled_more : (x : ℕ) (l js ys : List ℕ) → 0 < length l → ys ≡ filled js (later x l) → joined x l ys ≡ filled (x ∷ js) l

@@ -13,4 +13,4 @@ Fits c (Ok Keep) = Unit {0}
 Fits c (Ok (Take p m)) = (p < places) × (c < cells)
 Fits c (Ok (Stay p a)) = (p < places) × (c < cells)
 Fits c (Ok (End p e)) = p < places
-Fits c (Ok (Retry p)) = p < places
+Fits c (Ok Retry) = Unit {0}

@@ -146,7 +146,7 @@ fn retry_move(f: Found) -> Result<Move, Refusal>
     match f.code {
         FREE => Err(Refusal::NotOpen),
         WAITING => Err(Refusal::Waiting),
-        SENT_BACK => Ok(Move::Retry(f.place)),
+        SENT_BACK => Ok(Move::Retry),
         _ => Err(Refusal::Running),
     }
 }

@@ -22,4 +22,4 @@ pub returns-in-End : goal.returns-in-End
 returns-in-End c = ended_at _ _ _ _ _ _ _ _ _ _ c.in-Ok.ensures c.answer_to-answer.ensures c.in-End.is c.end_run-count.ensures c.leave_place.ensures
 
 pub returns-in-Retry : goal.returns-in-Retry
-returns-in-Retry c = tried _ _ _ _ _ _ _ _ _ _ c.in-Ok.ensures c.answer_to-answer.ensures c.in-Retry.is
+returns-in-Retry c = tried _ _ _ _ _ _ _ _ _ _ c.in-Ok.ensures c.answer_to-answer.ensures c.in-Retry.is c.status_retried.ensures
