@@ -70,8 +70,8 @@ fn settle_all(
 {
     let cells = wanted_cells(status, w.cell);
     let mut k = 0;
-    for c in 0..ROWS {
-        if cells[c] {
+    for (c, wanted) in cells.iter().enumerate() {
+        if *wanted {
             k = settle_cell(held, status, woken, w, k, c);
         }
     }

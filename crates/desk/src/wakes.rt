@@ -33,10 +33,7 @@ pub fn tell(w: Waits, woken: [u8; PLACES], count: usize) -> [Action; PLACES]
         job: 0,
         cell: 0,
     }; PLACES];
-    for i in 0..PLACES {
-        if count <= i {
-            return wakes;
-        }
+    for i in 0..count.min(PLACES) {
         wakes[i] = wake_at(w, usize::from(woken[i]));
     }
     wakes

@@ -8,7 +8,9 @@ use native.Mathlib.Omega.{arith}
 use borrow.Author.Tests.{eqb-true, eqb-false}
 use lib.Dec.{eqb}
 use Rattle.laws.specs.Choice.{by_test}
+use Rattle.std.specs.Bool.{MatchBool}
 use Rattle.desk_arrays.specs.Places.{all_below}
+use Rattle.desk_arrays.proofs.EveryPlace.{each_all}
 use Rattle.desk_plan.proofs.Tests.{and_fails}
 
 -- of no place it holds
@@ -20,6 +22,10 @@ all_none f = refl
 pub all_more : (f : ℕ → Bool) (n : ℕ) → all_below f n ≡ true → f n ≡ true → all_below f (n + 1) ≡ true
 unfolding all_below
 all_more f n h e = rw (add-one, e, h)
+
+-- a loop that has passed every place has shown it of all
+pub all_end : (f : ℕ → Bool) (q n : ℕ) → all_below f q ≡ true → q ≡ n → true ≡ all_below f n
+all_end f q n h e = sym (ap (all_below f) (sym e) ∙ h)
 
 -- it fails at one place below n: so it does not hold of all
 pub all_fails : (f : ℕ → Bool) (n q : ℕ) → q < n → f q ≡ false → all_below f n ≡ false
@@ -39,6 +45,7 @@ pub all_kept : (f : ℕ → Bool) (n : ℕ) {x y : Bool} → x ≡ all_below f n
 unfolding all_below
 all_kept f n h e g = rw (add-one, e) (g ∙ h)
 
--- a loop that has passed every place has shown it of all
-pub all_end : (f : ℕ → Bool) (q n : ℕ) → all_below f q ≡ true → q ≡ n → true ≡ all_below f n
-all_end f q n h e = sym (ap (all_below f) (sym e) ∙ h)
+-- a search of every place, up to one where it fails, decides it of all
+pub all_decided : (f : ℕ → Bool) (r : Bool) → MatchBool r ((q : ℕ) → q < 32 → f q ≡ true) ((q : ℕ) × (q < 32) × (f q ≡ false)) → r ≡ all_below f 32
+all_decided f true h = sym (each_all f 32 h)
+all_decided f false (q, l, e) = sym (all_fails f 32 q l e)

@@ -24,13 +24,12 @@ pub fn find(b: Board, job: u32) -> Found
 {
     let Board { number, status, .. } = b;
     let place = place_of(number, job);
-    if job == 0 {
-        return Found { place, code: FREE };
-    }
-    Found {
-        place,
-        code: status.get(place).copied().unwrap_or(FREE),
-    }
+    let code = if job == 0 {
+        FREE
+    } else {
+        status.get(place).copied().unwrap_or(FREE)
+    };
+    Found { place, code }
 }
 
 // Whether a job runs: refusals 3, 4 and 5.
@@ -51,10 +50,7 @@ fn may_take(b: Board, p: usize, c: usize, m: Mode) -> bool
     requires { c < cells }
     ensures { result ≡ (nobody_waits b.entry.status.now b.entry.cell.now c && agrees_at b.entry.held.now c p m) }
 {
-    if nobody_waits(b, c) {
-        return goes_beside(b.held, c, p, m);
-    }
-    false
+    nobody_waits(b, c) && goes_beside(b.held, c, p, m)
 }
 
 // Rule 3, wait: the job is older than every holder and every waiter.
@@ -62,10 +58,7 @@ fn may_wait(b: Board, p: usize, c: usize, job: u32) -> bool
     requires { c < cells }
     ensures { result ≡ (older_at b.entry.held.now b.entry.number.now c p job && oldest_of b.entry.number.now b.entry.status.now b.entry.cell.now c job) }
 {
-    if older_than_holders(b, c, p, job) {
-        return older_than_waiters(b, c, job);
-    }
-    false
+    older_than_holders(b, c, p, job) && older_than_waiters(b, c, job)
 }
 
 // Rule 3: a job new to the cell.

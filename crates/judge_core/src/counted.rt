@@ -9,7 +9,7 @@ use crate::lines::{COMMIT, Faultless, GIVE_UP, Kept};
 use crate::sizes::SLOTS;
 use terms::limits::JUDGED_LINES;
 
-// Which jobs have a c.
+// Which jobs have a c. This pass and the next stay two loops: one over a table's first value and a closure for its step is longer than both, and the definitions are two.
 #[tactic(auto, using(crate::proofs::Marking::commits_keep, crate::proofs::Marking::commits_none, crate::proofs::Marking::commits_set))]
 pub fn committed_jobs(history: Faultless) -> [bool; SLOTS]
     ensures value { result ≡ values_of (has_commit history.entry.kept.codes.now history.entry.kept.jobs.now history.entry.n) slots }
@@ -41,7 +41,7 @@ pub fn counted_from(history: Faultless) -> [usize; SLOTS]
     since
 }
 
-// The owner of line p: its job, if the line is an action that counts, else 0.
+// The owner of line p: its job, if the line is an action that counts, else 0. No job is 0, and the tables have a slot for it, so an Option would only be taken apart.
 #[tactic(auto, using(crate::proofs::Marking::owner_early, crate::proofs::Marking::owner_job, crate::proofs::Marking::owner_mark))]
 fn owner(kept: Kept, since: &[usize; SLOTS], p: usize) -> u8
     requires { p < judged_lines }

@@ -31,7 +31,7 @@ fn end_by(code: u8, p: usize, later: u16) -> u16
     }
 }
 
-// For each line, where its run ends, worked out from the last line back: 0 if it commits, else the line of its mark, or n.
+// For each line, where its run ends, worked out from the last line back: 0 if it commits, else the line of its mark, or n. So one comparison tells whether the run is open at a line and does not commit.
 fn run_ends(history: Faultless) -> [u16; JUDGED_LINES]
     ensures { RunEnds history.entry.kept.codes.now history.entry.kept.jobs.now history.entry.n result }
 {
@@ -77,7 +77,7 @@ fn reads_dirt(code: u8, end: u16, latest: u16, p: usize) -> bool
 // The first dirty read, if any; keeps for each cell the latest end of the runs that changed it.
 #[tactic(auto, using(crate::proofs::DirtyPasses::dirty_by, crate::proofs::DirtyPasses::latest_more, crate::proofs::DirtyPasses::latest_none))]
 fn first_read(history: Faultless, ends: &[u16; JUDGED_LINES]) -> Option<usize>
-    ensures { MatchOption result (FirstRead history.entry.kept.codes.now history.entry.kept.cells.now ends.now history.entry.n history.entry.n) (λ p. (p < history.entry.n) × FirstRead history.entry.kept.codes.now history.entry.kept.cells.now ends.now history.entry.n p) }
+    ensures { let found = FirstRead history.entry.kept.codes.now history.entry.kept.cells.now ends.now history.entry.n in MatchOption result (found history.entry.n) (λ p. (p < history.entry.n) × found p) }
 {
     let kept = history.kept;
     let mut latest = [0; SLOTS];

@@ -115,6 +115,7 @@ impl<'a> Graph<'a> {
     // Whether a line of xs stands before a line of job j that it conflicts with. The search stops at the first such pair.
     // Lines of xs are tried from the last back, since a job mostly writes what it has read before. It skips lines on cells where the two jobs cannot conflict,
     // or where job j's last line stands too early. Of job j's lines on a cell, the last of each kind decides.
+    // The loops stay labelled, and are left from inside, as 01 names them.
     #[tactic(auto, using(crate::proofs::Reaching::apart_none, crate::proofs::Searching::meets_end, crate::proofs::Searching::meets_whole))]
     fn meets(self, mask: u64, xs: &[u16], j: usize) -> bool
         requires j_lt_slots { (0 < j) × (j < slots) × Lined xs.now }

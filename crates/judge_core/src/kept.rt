@@ -22,7 +22,7 @@ pub struct FaultyLine {
     pub why: Refusal,
 }
 
-// Whether a line ends its job for good: a commit or a give-up.
+// Whether a line ends its job for good: a commit or a give-up. Crate `judge` tests its codes alike; one line shared would be a public function more.
 fn ends_job(code: u8) -> bool
     ensures { result ≡ (eqb code 3 || eqb code 4) }
 {

@@ -16,7 +16,7 @@ pub const COMMIT: u8 = 3;
 
 pub const GIVE_UP: u8 = 4;
 
-// Lines of which nothing is known. The arrays are fixed memory that the caller lends.
+// Lines of which nothing is known. They stay three arrays of fixed size, since `judge_kept` is lent them so.
 #[derive(Clone, Copy)]
 pub struct Kept<'a> {
     pub codes: &'a [u8; JUDGED_LINES],

@@ -8,7 +8,7 @@ use crate::sizes::{KEYS, KIND_SETS, SLOTS};
 use conflict::cells::{Touched, with_cell};
 use terms::limits::JUDGED_LINES;
 
-// A fourth number beside those of the three kinds: a line of any kind.
+// A fourth number beside those of the three kinds: a line of any kind. Kinds stay numbers in these tables, since a kept code is a part of the index.
 pub const ANY: u8 = 3;
 
 // The index of the set of job j's cells of a kind.
@@ -57,7 +57,7 @@ pub fn last_key(j: usize, kind: u8, cell: u8) -> usize
     (usize::from(cell) * SLOTS + j) * 4 + usize::from(kind)
 }
 
-// One more than each job's last line of each kind (and of any kind) on each cell; 0 if there is none.
+// One more than each job's last line of each kind (and of any kind) on each cell; 0 if there is none. So one comparison tells whether there is one that stands late enough.
 pub fn last_lines(history: Faultless, owners: &[u8; JUDGED_LINES]) -> [u16; KEYS]
     requires { Acting history.kept.codes.now history.kept.jobs.now history.kept.cells.now owners.now history.n }
     ensures { Lasts history.entry.kept.codes.now history.entry.kept.cells.now owners.now history.entry.n result }

@@ -1,12 +1,13 @@
 // The record writer: puts one record into a lent buffer, from the place given and not before it (01, Lines).
 // The buffer's part from that place on is lent, and its later part to one field writer after another; each writes from the first byte of its part.
-ghost use Rattle.std.specs.Prelude.{◌≡◌, true, [], ◌∷◌, ◌++◌, ◌+◌, ◌≤◌, ◌<◌, ltb, leb, length};
+ghost use Rattle.std.specs.Prelude.{◌≡◌, ℕ, true, [], ◌∷◌, ◌++◌, ◌+◌, ◌≤◌, ◌<◌, leb, length};
 ghost use Rattle.terms.specs.Letters.{has_job, has_cell};
 ghost use Rattle.terms.specs.Words.{tab, newline, spelt};
 ghost use Rattle.text_rules.specs.Decimal.{decimal};
 ghost use Rattle.text_rules.specs.Wrote.{Wrote};
 ghost use Rattle.text_rules.specs.Records.{field, answer_record, line_record, told, left};
 
+use std::marker::Model;
 use terms::words::{NEWLINE, TAB};
 use terms::{Letter, Refusal, Word, has_cell, has_job, spelled};
 
@@ -33,12 +34,53 @@ pub fn width(n: u64) -> usize
     w + 3
 }
 
+// A number, with its count of digits in shortest decimal.
+#[derive(Clone, Copy)]
+struct Number {
+    value: u64,
+    digits: usize,
+}
+
+// In contracts it is the number.
+impl Model for Number {
+    ghost Value = { ℕ };
+
+    ghost view = { λ n. n.value };
+
+    ghost invariant = { λ n. n.digits ≡ length (decimal n.value) };
+
+    ghost inverse = { λ n. record { value = n; digits = length (decimal n) } };
+}
+
+impl Number {
+    fn new(value: u64) -> Self
+        ensures { result ≡ value }
+    {
+        Number {
+            value,
+            digits: width(value),
+        }
+    }
+
+    fn value(self) -> u64
+        ensures { result ≡ self }
+    {
+        self.value
+    }
+
+    fn digits(self) -> usize
+        ensures { result ≡ length (decimal self) }
+    {
+        self.digits
+    }
+}
+
 // How many bytes a further field takes: a tab and the number, if the field is there.
 #[tactic(auto, using(text_rules::proofs::DigitLaws::decimal_at_most_20, text_rules::proofs::FieldLaws::field_length, text_rules::proofs::FieldLaws::no_field_length))]
-fn field_width(there: bool, n: u64) -> usize
+fn field_width(there: bool, n: Number) -> usize
     ensures { result ≡ length (field there n) }
 {
-    if there { width(n) + 1 } else { 0 }
+    if there { n.digits() + 1 } else { 0 }
 }
 
 // Whether `len` bytes fit from place `at` on; no sum here can wrap.
@@ -59,31 +101,30 @@ fn put_byte(part: &mut [u8], byte: u8) -> usize
     1
 }
 
-// Writes a number of this many digits, from its last digit to its first.
+// Writes a number, from its last digit to its first.
 #[tactic(auto, using(text_rules::proofs::DigitLaws::all_to_write, text_rules::proofs::DigitLaws::none_to_write, text_rules::proofs::DigitLaws::one_more))]
-fn put_number(part: &mut [u8], n: u64, digits: usize) -> usize
-    requires { (digits ≡ length (decimal n)) × (digits ≤ length part.old) }
+fn put_number(part: &mut [u8], n: Number) -> usize
+    requires { length (decimal n) ≤ length part.old }
     ensures { Wrote 0 result (decimal n) part.old part.new }
 {
-    let mut i = digits;
-    let mut rest = n;
-    while 0 < i {
-        i -= 1;
+    let digits = n.digits();
+    let mut rest = n.value();
+    for i in (0..digits).rev() {
         part[i] = b'0' + (rest % 10) as u8;
-        rest = rest / 10;
+        rest /= 10;
     }
     digits
 }
 
-// Writes a further field, `len` bytes long: a tab and the number, if the field is there.
+// Writes a further field: a tab and the number, if the field is there.
 #[tactic(auto, using(text_rules::proofs::DigitLaws::decimal_at_most_20, text_rules::proofs::FieldLaws::field_length, text_rules::proofs::FieldLaws::field_none, text_rules::proofs::FieldLaws::field_there, text_rules::proofs::WroteLaws::lent_fits, text_rules::proofs::WroteLaws::wrote_byte, text_rules::proofs::WroteLaws::wrote_length, text_rules::proofs::WroteLaws::wrote_more, text_rules::proofs::WroteLaws::wrote_none))]
-fn put_field(part: &mut [u8], there: bool, n: u64, len: usize) -> usize
-    requires { (len ≡ length (field there n)) × (len ≤ length part.old) }
+fn put_field(part: &mut [u8], there: bool, n: Number) -> usize
+    requires { length (field there n) ≤ length part.old }
     ensures { Wrote 0 result (field there n) part.old part.new }
 {
     if there {
         part[0] = TAB;
-        1 + put_number(&mut part[1..], n, len - 1)
+        1 + put_number(&mut part[1..], n)
     } else {
         0
     }
@@ -112,56 +153,40 @@ fn put_second(part: &mut [u8], word: Word) -> usize
 
 // Writes the last field, if it is there, and the newline that ends the record.
 #[tactic(auto, using(text_rules::proofs::WroteLaws::wrote_byte))]
-fn put_last(part: &mut [u8], there: bool, n: u64, len: usize) -> usize
-    requires { (len ≡ length (field there n)) × (len < length part.old) }
+fn put_last(part: &mut [u8], there: bool, n: Number) -> usize
+    requires { length (field there n) < length part.old }
     ensures { Wrote 0 result (field there n ++ newline ∷ []) part.old part.new }
 {
-    let end = put_field(part, there, n, len);
+    let end = put_field(part, there, n);
     part[end] = NEWLINE;
     end + 1
 }
 
-// Writes an answer record whose first, third and fourth fields have known lengths: each field goes into the part after the one before.
+// Writes an answer record: each field goes into the part after the one before.
 #[tactic(auto, using(text_rules::proofs::FieldLaws::answer_is, text_rules::proofs::Length::answer_length, text_rules::proofs::WroteLaws::lent_fits, text_rules::proofs::WroteLaws::wrote_more))]
-fn put_answer(
-    part: &mut [u8],
-    line: u64,
-    first: usize,
-    word: Word,
-    number: u64,
-    third: usize,
-    fault: u64,
-    fourth: usize,
-) -> usize
-    requires { (first ≡ length (decimal line)) × (third ≡ length (field true number)) × (fourth ≡ length (field (ltb 0 fault) fault)) × (length (answer_record line word number fault) ≤ length part.old) }
+fn put_answer(part: &mut [u8], line: Number, word: Word, number: Number, fault: Number) -> usize
+    requires { length (answer_record line word number fault) ≤ length part.old }
     ensures { Wrote 0 result (answer_record line word number fault) part.old part.new }
 {
-    let a = put_number(part, line, first);
+    let a = put_number(part, line);
     let b = a + put_second(&mut part[a..], word);
-    let c = b + put_field(&mut part[b..], true, number, third);
-    c + put_last(&mut part[c..], 0 < fault, fault, fourth)
+    let c = b + put_field(&mut part[b..], true, number);
+    c + put_last(&mut part[c..], 0 < fault.value(), fault)
 }
 
-// Writes the line of a letter whose second and third fields have known lengths: each field goes into the part after the one before.
+// Writes the line of a letter: each field goes into the part after the one before.
 #[tactic(auto, using(text_rules::proofs::FieldLaws::line_is, text_rules::proofs::Length::line_length, text_rules::proofs::WroteLaws::lent_fits, text_rules::proofs::WroteLaws::wrote_as, text_rules::proofs::WroteLaws::wrote_more))]
-fn put_line(
-    part: &mut [u8],
-    letter: Letter,
-    job: u64,
-    second: usize,
-    cell: u64,
-    third: usize,
-) -> usize
-    requires { (second ≡ length (field (has_job letter) job)) × (third ≡ length (field (has_cell letter) cell)) × (length (line_record letter job cell) ≤ length part.old) }
+fn put_line(part: &mut [u8], letter: Letter, job: Number, cell: Number) -> usize
+    requires { length (line_record letter job cell) ≤ length part.old }
     ensures { Wrote 0 result (line_record letter job cell) part.old part.new }
 {
     let a = put_byte(part, u8::from(letter));
-    let b = a + put_field(&mut part[a..], has_job(letter), job, second);
-    b + put_last(&mut part[b..], has_cell(letter), cell, third)
+    let b = a + put_field(&mut part[a..], has_job(letter), job);
+    b + put_last(&mut part[b..], has_cell(letter), cell)
 }
 
 // Writes an answer record: request line number, word, number, and one field more if the fourth number is not 0.
-#[tactic(auto, using(crate::proofs::WordLaws::word_at_most_7, text_rules::proofs::DigitLaws::decimal_at_most_20, text_rules::proofs::FieldLaws::field_at_most_21, text_rules::proofs::Length::answer_length, text_rules::proofs::RoomLaws::no_room_for, text_rules::proofs::RoomLaws::refused, text_rules::proofs::RoomLaws::room_for, text_rules::proofs::RoomLaws::written, text_rules::proofs::WroteLaws::lent_fits, text_rules::proofs::WroteLaws::wrote_more, text_rules::proofs::WroteLaws::wrote_none))]
+#[tactic(auto, using(crate::proofs::WordLaws::word_at_most_7, text_rules::proofs::DigitLaws::decimal_at_most_20, text_rules::proofs::FieldLaws::field_at_most_21, text_rules::proofs::Length::answer_length, text_rules::proofs::RoomLaws::refused_there, text_rules::proofs::RoomLaws::written_from))]
 pub fn write_answer(
     buf: &mut [u8],
     at: usize,
@@ -172,30 +197,19 @@ pub fn write_answer(
 ) -> Result<usize, Refusal>
     ensures { (result ≡ told buf.old at (answer_record line word number fault)) × (buf.new ≡ left buf.old at (answer_record line word number fault)) }
 {
-    let second = spelled(word).len();
-    let first = width(line);
-    let third = field_width(true, number);
-    let fourth = field_width(0 < fault, fault);
-    let room = buf.len();
-    if has_room(room, at, first + second + third + fourth + 2) {
-        let n = put_answer(
-            &mut buf[at..],
-            line,
-            first,
-            word,
-            number,
-            third,
-            fault,
-            fourth,
-        );
-        Ok(at + n)
-    } else {
-        Err(Refusal::NoRoom)
+    let first = Number::new(line);
+    let third = Number::new(number);
+    let fourth = Number::new(fault);
+    let further = field_width(true, third) + field_width(0 < fault, fourth);
+    let len = first.digits() + spelled(word).len() + further + 2;
+    if !has_room(buf.len(), at, len) {
+        return Err(Refusal::NoRoom);
     }
+    Ok(at + put_answer(&mut buf[at..], first, word, third, fourth))
 }
 
 // Writes the line of a letter with the fields that it has: a history record, or a request.
-#[tactic(auto, using(text_rules::proofs::FieldLaws::field_at_most_21, text_rules::proofs::Length::line_length, text_rules::proofs::RoomLaws::no_room_for, text_rules::proofs::RoomLaws::refused, text_rules::proofs::RoomLaws::room_for, text_rules::proofs::RoomLaws::written, text_rules::proofs::WroteLaws::lent_fits, text_rules::proofs::WroteLaws::wrote_more, text_rules::proofs::WroteLaws::wrote_none))]
+#[tactic(auto, using(text_rules::proofs::FieldLaws::field_at_most_21, text_rules::proofs::Length::line_length, text_rules::proofs::RoomLaws::refused_there, text_rules::proofs::RoomLaws::written_from))]
 pub fn write_line(
     buf: &mut [u8],
     at: usize,
@@ -205,68 +219,57 @@ pub fn write_line(
 ) -> Result<usize, Refusal>
     ensures { (result ≡ told buf.old at (line_record letter job cell)) × (buf.new ≡ left buf.old at (line_record letter job cell)) }
 {
-    let second = field_width(has_job(letter), job);
-    let third = field_width(has_cell(letter), cell);
-    let room = buf.len();
-    if has_room(room, at, second + third + 2) {
-        let n = put_line(&mut buf[at..], letter, job, second, cell, third);
-        Ok(at + n)
-    } else {
-        Err(Refusal::NoRoom)
+    let second = Number::new(job);
+    let third = Number::new(cell);
+    let len = field_width(has_job(letter), second) + field_width(has_cell(letter), third) + 2;
+    if !has_room(buf.len(), at, len) {
+        return Err(Refusal::NoRoom);
     }
+    Ok(at + put_line(&mut buf[at..], letter, second, third))
 }
 
 // Writes a word alone: the start of a verdict line.
+#[tactic(auto, using(text_rules::proofs::RoomLaws::refused_there, text_rules::proofs::RoomLaws::written_from))]
 pub fn write_word(buf: &mut [u8], at: usize, word: Word) -> Result<usize, Refusal>
     ensures { (result ≡ told buf.old at (spelt word)) × (buf.new ≡ left buf.old at (spelt word)) }
 {
-    let len = spelled(word).len();
-    let room = buf.len();
-    if has_room(room, at, len) {
-        let n = put_word(&mut buf[at..], word);
-        Ok(at + n)
-    } else {
-        Err(Refusal::NoRoom)
+    if !has_room(buf.len(), at, spelled(word).len()) {
+        return Err(Refusal::NoRoom);
     }
+    Ok(at + put_word(&mut buf[at..], word))
 }
 
 // Writes a number alone, in shortest decimal: the start of a line of jobs.
+#[tactic(auto, using(text_rules::proofs::RoomLaws::refused_there, text_rules::proofs::RoomLaws::written_from))]
 pub fn write_number(buf: &mut [u8], at: usize, n: u64) -> Result<usize, Refusal>
     ensures { (result ≡ told buf.old at (decimal n)) × (buf.new ≡ left buf.old at (decimal n)) }
 {
-    let len = width(n);
-    let room = buf.len();
-    if has_room(room, at, len) {
-        let k = put_number(&mut buf[at..], n, len);
-        Ok(at + k)
-    } else {
-        Err(Refusal::NoRoom)
+    let number = Number::new(n);
+    if !has_room(buf.len(), at, number.digits()) {
+        return Err(Refusal::NoRoom);
     }
+    Ok(at + put_number(&mut buf[at..], number))
 }
 
 // Writes a further field alone: a tab and the number.
+#[tactic(auto, using(text_rules::proofs::FieldLaws::field_there, text_rules::proofs::WroteLaws::wrote_as, text_rules::proofs::RoomLaws::refused_there, text_rules::proofs::RoomLaws::written_from))]
 pub fn write_field(buf: &mut [u8], at: usize, n: u64) -> Result<usize, Refusal>
     ensures { (result ≡ told buf.old at (tab ∷ decimal n)) × (buf.new ≡ left buf.old at (tab ∷ decimal n)) }
 {
-    let len = field_width(true, n);
-    let room = buf.len();
-    if has_room(room, at, len) {
-        let k = put_field(&mut buf[at..], true, n, len);
-        Ok(at + k)
-    } else {
-        Err(Refusal::NoRoom)
+    let number = Number::new(n);
+    if !has_room(buf.len(), at, field_width(true, number)) {
+        return Err(Refusal::NoRoom);
     }
+    Ok(at + put_field(&mut buf[at..], true, number))
 }
 
 // Writes the newline that ends a line.
+#[tactic(auto, using(text_rules::proofs::RoomLaws::refused_there, text_rules::proofs::RoomLaws::written_from))]
 pub fn write_end(buf: &mut [u8], at: usize) -> Result<usize, Refusal>
     ensures { (result ≡ told buf.old at (newline ∷ [])) × (buf.new ≡ left buf.old at (newline ∷ [])) }
 {
-    let room = buf.len();
-    if has_room(room, at, 1) {
-        let n = put_byte(&mut buf[at..], NEWLINE);
-        Ok(at + n)
-    } else {
-        Err(Refusal::NoRoom)
+    if !has_room(buf.len(), at, 1) {
+        return Err(Refusal::NoRoom);
     }
+    Ok(at + put_byte(&mut buf[at..], NEWLINE))
 }

@@ -1,6 +1,6 @@
 -- The place after a line: after the first newline from a place on, or at the text's end.
 -- Assumes nothing.
-use Rattle.std.proofs.Common.{◌≡◌, ◌==◌, ℕ, suc, ◌+◌, ◌≤◌, ◌<◌, min, Bool, true, false, List, [], ◌∷◌, Option, Some, None, cond, length, drop, eqb, ltb, refl, arith, length-drop, drop_of_length-le, add-zero, sym}
+use Rattle.std.proofs.Common.{◌≡◌, ◌==◌, ℕ, ◌+◌, ◌≤◌, min, Bool, List, [], ◌∷◌, Some, None, length, drop, eqb, ltb, refl, arith, drop_of_length-le, add-zero, sym}
 use Rattle.std.specs.List.{position, position_or_len}
 use borrow.Author.Tests.{ltb-true, ltb-false}
 use Rattle.laws.specs.Choice.{by_test}

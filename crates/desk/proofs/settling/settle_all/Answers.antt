@@ -10,7 +10,7 @@ use Rattle.desk_arrays.proofs.WaitingCount.{waiters_most}
 use Rattle.desk.proofs.Room.{room}
 use Rattle.desk.proofs.Cells.{reached_by, cells_room, cells_settled, cells_passed}
 use Rattle.desk.proofs.settling.settle_all.Goals as goal
-use Rattle.desk.proofs.settling.settle_all.Goals.{then-cells-c, else-cells-c}
+use Rattle.desk.proofs.settling.settle_all.Goals.{then-wanted, else-wanted}
 
 pub settle_cell-k-requires : goal.settle_cell-k-requires
 settle_cell-k-requires c =
@@ -21,7 +21,7 @@ settle_cell-k-requires c =
 
 pub loop-c-preserved : goal.loop-c-preserved
 loop-c-preserved c =
-    elim c.if-cells-c.branch [
-      | then-cells-c w ↦ reached_by (cells_settled _ _ _ _ _ c.loop-c.invariant w.settle_cell-k.ensures) w.held-is w.status-is w.woken-is w.k-is
-      | else-cells-c w ↦ reached_by (cells_passed _ _ _ _ _ c.loop-c.invariant c.wanted_cells-cells.ensures (omega arith) w.if-cells-c.false) w.held-is w.status-is w.woken-is w.k-is
+    elim c.if-wanted.branch [
+      | then-wanted w ↦ reached_by (cells_settled _ _ _ _ _ c.loop-c.invariant w.settle_cell-k.ensures) w.held-is w.status-is w.woken-is w.k-is
+      | else-wanted w ↦ reached_by (cells_passed _ _ _ _ _ c.loop-c.invariant c.wanted_cells-cells.ensures (omega arith) w.if-wanted.false) w.held-is w.status-is w.woken-is w.k-is
     ]

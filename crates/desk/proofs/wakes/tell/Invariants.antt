@@ -1,6 +1,5 @@
 -- `desk::wakes::tell` meets its contract. The loop's invariant: the wakes of the places passed are listed.
 -- Assumes nothing.
-use Prim.Native.Nat.{◌≤◌}
 use mathlib.Core.Path.{◌≡◌}
 use mathlib.Core.List.{map}
 use lib.ListN.{take}
@@ -8,4 +7,4 @@ use Rattle.desk_arrays.specs.Steps.{wake_at, listed}
 use Rattle.desk.proofs.wakes.tell.Given as goal
 
 abbrev pub invariant-loop-i : goal.invariant-loop-i
-invariant-loop-i l = (l.i ≤ l.count) × (l.wakes ≡ listed (map (wake_at l.w.number.now l.w.cell.now l.w.ask.now) (take l.i l.woken)))
+invariant-loop-i l = l.wakes ≡ listed (map (wake_at l.w.number.now l.w.cell.now l.w.ask.now) (take l.i l.woken))

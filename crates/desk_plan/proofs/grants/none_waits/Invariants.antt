@@ -8,5 +8,5 @@ use Rattle.desk_arrays.specs.Codes.{waiting_code}
 use Rattle.desk_arrays.specs.Places.{all_below}
 use Rattle.desk_plan.proofs.grants.none_waits.Given as goal
 
-abbrev pub invariant-loop-q : goal.invariant-loop-q
-invariant-loop-q l = l.none ≡ all_below (λ k. not (eqb (get_or l.status k 0) waiting_code)) l.q
+abbrev pub invariant-loop-code : goal.invariant-loop-code
+invariant-loop-code l = l.none ≡ all_below (λ k. not (eqb (get_or l.status k 0) waiting_code)) l.code-index

@@ -1,11 +1,17 @@
--- `desk_plan::places::older_than_waiters` meets its contract: the test fails at one place, so it does not hold of all.
+-- `desk_plan::places::older_than_waiters` meets its contract: the test is made at every place, up to one where it fails.
 -- Assumes nothing.
-use mathlib.Core.Path.{sym}
-use Rattle.laws.specs.Choice.{was_false}
-use Rattle.desk_arrays.specs.Places.{oldest_of}
-use Rattle.desk_plan.proofs.Every.{all_fails}
+use Prim.Native.Nat.{ℕ}
+use mathlib.Core.Bool.{Bool, not, ◌||◌}
+use lib.Dec.{ltb}
+use lib.ListN.{get_or}
+use Rattle.desk_arrays.specs.Places.{waits_at, oldest_of}
+use borrow.Author.Rules.{rules}
+use Rattle.std.proofs.iter.runs.Sources.{ranges}
+use Rattle.desk_plan.proofs.Every.{all_decided}
 use Rattle.desk_plan.proofs.places.older_than_waiters.Goals as goal
 
-pub returns-then-not-waits_older : goal.returns-then-not-waits_older
+pub returns : goal.returns
 unfolding oldest_of
-returns-then-not-waits_older c = sym (all_fails _ _ _ c.loop-q-test.true (was_false _ c.waits_older.ensures c.if-not-waits_older.true))
+returns c =
+    let f : ℕ → Bool = λ q. not (waits_at c.args.b.status.now c.args.b.cell.now c.args.c q) || ltb c.args.job (get_or c.args.b.number.now q 0) in
+    all_decided f c.all.result (search (rules, ranges))
