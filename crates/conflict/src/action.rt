@@ -32,7 +32,7 @@ pub enum Mark {
     Back,
 }
 
-// One line of a history.
+// One line of a history: one of two kinds of line, of which neither is a failure.
 #[derive(Clone, Copy)]
 pub enum Event {
     // a job does something

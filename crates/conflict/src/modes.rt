@@ -21,7 +21,7 @@ pub enum Mode {
     U,
 }
 
-// The numbers that stand for the modes in a table.
+// The numbers that stand for the modes in the desk's table. They are numbers there, since the C interface lends the table's bytes.
 pub const NOTHING: u8 = 0;
 
 pub const SHARED: u8 = 1;
@@ -32,7 +32,7 @@ pub const INCREMENTING: u8 = 3;
 
 pub const UPDATING: u8 = 4;
 
-// The mode that a request needs.
+// The mode that a request needs: a rule of the paper and no conversion, so it has its own name.
 #[tactic(auto, unfolding(crate::specs::Modes::needed))]
 pub fn needed_mode(a: Ask) -> Mode
     ensures { result ≡ needed a }
@@ -45,7 +45,7 @@ pub fn needed_mode(a: Ask) -> Mode
     }
 }
 
-// The kind of action that the history records for a request.
+// The kind of action that the history records for a request; this too is a rule and no conversion.
 #[tactic(auto, unfolding(crate::specs::Modes::recorded))]
 pub fn recorded_kind(a: Ask) -> Kind
     ensures { result ≡ recorded a }
