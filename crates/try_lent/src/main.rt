@@ -13,6 +13,7 @@ use terms::refusals::{Refusal, field_of};
 use terms::words::Word;
 use text::held::{read_held, torn_held};
 use text::writer::write_answer;
+use text_rules::Line;
 use text_rules::splitter::Splitter;
 
 // A desk that is kept for the whole text: how it is lent to a request, and how what it says is written out.
@@ -173,13 +174,13 @@ fn next_request(rt: &HostRuntime, before: Splitter, lines: u64) -> Asked<'_>
             Err(s) => return at_end(rt, s),
         };
         match read_held(splitter) {
-            Ok(good) => {
+            Ok(Line { letter, job, cell }) => {
                 return Asked {
                     rt,
                     left: lines - done,
-                    kind: u8::from(good.letter),
-                    job: good.job,
-                    cell: good.cell,
+                    kind: u8::from(letter),
+                    job,
+                    cell,
                     splitter,
                 };
             }
