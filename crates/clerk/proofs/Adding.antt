@@ -1,11 +1,11 @@
 -- A record that fits is written, and its length is bounded; records written one after another.
 -- Assumes nothing.
 use Prim.Native.Nat.{ℕ, ◌+◌, ◌≤◌}
-use mathlib.Core.Path.{◌≡◌, subst}
+use mathlib.Core.Path.{◌≡◌, refl, subst}
 use mathlib.Core.List.{List, []}
 use native.Mathlib.Omega.{arith}
 use lib.ListN.{length}
-use Rattle.std.specs.Prelude.{Result, Ok, Err}
+use Rattle.std.specs.Prelude.{Result, Ok, Err, IsOk}
 use Rattle.terms.specs.declared.letters.Letter.{Letter}
 use Rattle.terms.specs.declared.refusals.Refusal.{Refusal}
 use Rattle.terms.specs.Letters.{has_job, has_cell}
@@ -40,9 +40,10 @@ answer_besides (No why) e h f =
 pub added_next : {w : Result ℕ Refusal} {most at n : ℕ} {bs b m : List ℕ} → w ≡ told b at bs → w ≡ Ok n → m ≡ left b at bs → length bs ≤ most → Added most at n bs b m
 added_next e f g h = record { wrote = next_wrote e f g; few = h }
 
--- a record for which there is room is never refused
-pub never_refused : {P : Type 0} {w : Result ℕ Refusal} {why : Refusal} (b : List ℕ) (at : ℕ) (bs : List ℕ) (most : ℕ) → w ≡ told b at bs → w ≡ Err why → length bs ≤ most → at + most ≤ length b → P
-never_refused b at bs most e f h r = not_refused b at bs e f (omega arith)
+-- a record for which there is room is written
+pub fits_told : {w : Result ℕ Refusal} (b : List ℕ) (at : ℕ) (bs : List ℕ) (most : ℕ) → w ≡ told b at bs → length bs ≤ most → at + most ≤ length b → IsOk w
+fits_told {w = Ok n} b at bs most e h r = refl
+fits_told {w = Err why} b at bs most e h r = not_refused b at bs e refl (omega arith)
 
 -- nothing was written
 pub added_none : {most at : ℕ} {b : List ℕ} → at ≤ length b → Added most at at [] b b

@@ -1,15 +1,16 @@
 -- One line answered on a desk's fields in place is a turn of the work: the desk that the step of the method's desk leaves, and the records of what it says.
 -- Assumes nothing.
-use Prim.Native.Nat.{ℕ, zero, suc}
+use Prim.Native.Nat.{ℕ, ◌≤◌}
 use mathlib.Core.Path.{◌≡◌, refl, sym, ap, ◌∙◌}
 use mathlib.Core.Bool.{true}
-use mathlib.Core.List.{List, [], ◌∷◌, map, append-nil}
-use lib.ListN.{take}
+use mathlib.Core.List.{List, [], map, append-nil}
+use native.Mathlib.Omega.{arith}
+use lib.ListN.{length, take, drop, length-append}
+use Rattle.laws.specs.Lists.{filled}
 use Rattle.std.specs.Prelude.{Err}
 use Rattle.terms.specs.declared.letters.Letter.{Letter}
 use Rattle.terms.specs.declared.refusals.Field.{Field}
 use Rattle.terms.specs.Letters.{byte_of, of_requests}
-use Rattle.conflict.specs.declared.action.Action.{Action}
 use Rattle.text_rules.specs.declared.splitter.Splitter.{Splitter}
 use Rattle.text_rules.specs.Lines.{read_line, Reading, good}
 use Rattle.text_rules.specs.Records.{longest_record}
@@ -21,8 +22,8 @@ use Rattle.desk_arrays.specs.declared.state.Told.{Told}
 use Rattle.desk_arrays.specs.Steps.{wake_at, step_of}
 use Rattle.desk_arrays.specs.Stands.{wakes_told}
 use Rattle.desk_arrays.specs.Seen.{on_arrays}
-use Rattle.desk.specs.InPlace.{StepsTo}
-use Rattle.desk.proofs.Woken.{wakes_first}
+use Rattle.desk.specs.InPlace.{woken_by, StepsTo}
+use Rattle.desk.proofs.Woken.{count_of, wakes_first}
 use Rattle.desks.specs.declared.Answer.{Answer}
 use Rattle.desks.specs.Request.{Request}
 use Rattle.stamp_arrays.specs.declared.state.Stamps.{Stamps}
@@ -40,20 +41,17 @@ use Rattle.program_rules.proofs.Turns.{turn_bad, turn_good}
 use Rattle.clerk.specs.Parts.{Added, first_record, wake_records, line_records, Answered}
 use Rattle.clerk.proofs.Telling.{records_told}
 
--- the first of what places say are what the first of the places say
-first_said : (f : ℕ → Action) (n : ℕ) (l : List ℕ) → take n (map f l) ≡ map f (take n l)
-first_said f zero l = refl
-first_said f (suc n) [] = refl
-first_said f (suc n) (p ∷ l) = ap (λ ws. f p ∷ ws) (first_said f n l)
-
--- the wakes that a step says, read off the fields as it leaves them
-pub wakes_said : {d e : Desk} {l w : List ℕ} {kind job c : ℕ} {t : Told} → StepsTo d l kind job c e w t → take t.count (map (wake_at e.number e.cell e.ask) w) ≡ wakes_told (step_of d kind job c).said
-wakes_said {w = w} {t = t} s = first_said _ t.count w ∙ wakes_first s
+-- the places that a step wakes are at most those that the list has
+pub woken_few : {d e : Desk} {l w : List ℕ} {kind job c : ℕ} {t : Told} → StepsTo d l kind job c e w t → t.count ≤ length w
+unfolding filled
+woken_few {d} {l = l} {kind = kind} {job} {c} s =
+    let ps = woken_by d kind job c in
+    omega (arith, s.count, count_of d kind job c, ap length s.places, length-append ps (drop (length ps) l))
 
 module _ {view : View} {line : ℕ} (letter : Letter) {job cell at to : ℕ} {before after : List ℕ} where
   -- a good line answered on the lock desk: the first record, and one for each wake
   pub on_locks : {d e : Desk} {l w : List ℕ} {t : Told} → StepsTo d l (byte_of letter) job cell e w t →
-      Wrote at to (line_records view line letter cell t.answer (take t.count (map (wake_at e.number e.cell e.ask) w))) before after →
+      Wrote at to (line_records view line letter cell t.answer (map (wake_at e.number e.cell e.ask) (take t.count w))) before after →
       Answered on_arrays view line (asked letter job cell) d e at to before after
   unfolding wakes_told
   on_locks {d} {e} {l} {w} {t} s wrote =
@@ -62,8 +60,8 @@ module _ {view : View} {line : ℕ} (letter : Letter) {job cell at to : ℕ} {be
         desk = s.desk;
         records =
             wrote_as wrote
-            (ap (λ x. line_records view line letter cell x (take t.count (map (wake_at e.number e.cell e.ask) w))) s.answer
-            ∙ ap (line_records view line letter cell said.answer) (wakes_said s)
+            (ap (λ x. line_records view line letter cell x (map (wake_at e.number e.cell e.ask) (take t.count w))) s.answer
+            ∙ ap (line_records view line letter cell said.answer) (wakes_first s)
             ∙ records_told view line letter job cell said.answer (take said.count said.wakes));
       }
 

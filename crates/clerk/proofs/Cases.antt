@@ -1,6 +1,8 @@
 -- Each branch of the code, against the case of the definition that it follows.
 -- Assumes nothing.
 use Prim.Native.Nat.{ℕ}
+use Rattle.std.specs.Prelude.{◌⊎◌, Option, None, Some}
+use Rattle.std.proofs.Common.{inl, inr}
 use mathlib.Core.Path.{◌≡◌, sym, ap, ◌∙◌}
 use mathlib.Core.List.{[], append-nil}
 use Rattle.terms.specs.declared.letters.Letter.{Letter}
@@ -13,6 +15,7 @@ use Rattle.terms.specs.declared.refusals.Refusal.TheVariants.{BadLine}
 use Rattle.terms.specs.Refusals.{number_of, field_number}
 use Rattle.conflict.specs.declared.action.Action.{Action}
 use Rattle.terms.specs.Letters.{of_requests}
+use Rattle.text_rules.specs.declared.Line.{Line}
 use Rattle.text_rules.specs.declared.splitter.Splitter.{Splitter}
 use Rattle.text_rules.specs.Fields.{lacking}
 use Rattle.text_rules.specs.Lines.{read_line}
@@ -32,17 +35,15 @@ use Rattle.program_rules.specs.declared.Method.TheVariants.{Locks, Stamps}
 use Rattle.program_rules.specs.Chains.{chain_text}
 use Rattle.program_rules.specs.Closing.{chains_by, closing}
 use Rattle.desk_chain.specs.Chains.{chains_on}
-use Rattle.clerk.specs.declared.records.Noted.{Noted}
-use Rattle.clerk.specs.declared.records.Noted.TheVariants.{Nothing, Line}
 use Rattle.clerk.specs.Parts.{asking, noted_bytes, first_record, wake_record}
 
 -- nothing is noted
-pub nothing_noted : (n : Noted) → n ≡ Nothing → [] ≡ noted_bytes n
+pub nothing_noted : (n : Option Line) → n ≡ None → [] ≡ noted_bytes n
 unfolding noted_bytes
 nothing_noted n e = rw e
 
 -- a line is noted
-pub line_noted : (n : Noted) {l : Letter} {job cell : ℕ} → n ≡ Line l job cell → line_record l job cell ≡ noted_bytes n
+pub line_noted : (n : Option Line) {l : Line} → n ≡ Some l → line_record l.letter l.job l.cell ≡ noted_bytes n
 unfolding noted_bytes
 line_noted n e = rw e
 
@@ -53,7 +54,7 @@ unfolding first_record
 first_answer view line l cell a w n k e f g h = rw (e, f, g, h)
 
 -- the first record in the history
-pub first_noted : (view : View) (line : ℕ) (l : Letter) (cell : ℕ) (a : Answer) (n : Noted) → view ≡ History → noted_bytes n ≡ text_of (own_records (asking l cell) a) → noted_bytes n ≡ first_record view line l cell a
+pub first_noted : (view : View) (line : ℕ) (l : Letter) (cell : ℕ) (a : Answer) (n : Option Line) → view ≡ History → noted_bytes n ≡ text_of (own_records (asking l cell) a) → noted_bytes n ≡ first_record view line l cell a
 unfolding first_record
 first_noted view line l cell a n e f = f ∙ rw e
 
@@ -82,30 +83,22 @@ pub bad_answer : (view : View) (line n k : ℕ) (field : Field) → view ≡ Ans
 unfolding viewed told_bad answer_lines word_of number_beside field_beside wake_lines
 bad_answer view line n k field e f g = rw (e, f, g) (sym (append-nil _))
 
--- a bad line gives the history nothing
-pub bad_noted : (view : View) (line : ℕ) (field : Field) → view ≡ History → [] ≡ viewed view (told_bad line field)
+-- a bad line gives the history nothing, nor the chains
+pub bad_untold : (view : View) (line : ℕ) (field : Field) → (view ≡ History) ⊎ (view ≡ Chains) → [] ≡ viewed view (told_bad line field)
 unfolding viewed told_bad history_lines records_of own_records wake_records text_of
-bad_noted view line field e = rw e
-
--- nor the chains
-pub bad_chains : (view : View) (line : ℕ) (field : Field) → view ≡ Chains → [] ≡ viewed view (told_bad line field)
-unfolding viewed
-bad_chains view line field e = rw e
+bad_untold view line field (inl e) = rw e
+bad_untold view line field (inr e) = rw e
 
 -- a line that lacks its newline is a bad line, at the field that its bytes tell
 pub unended_told : (view : View) (s : Splitter) {field : Field} → field ≡ lacking (read_line of_requests (found_at s).bytes) → viewed view (told_bad s.line field) ≡ viewed view (unended s)
 unfolding unended
 unended_told view s e = ap (λ k. viewed view (told_bad s.line k)) e
 
--- nothing is written last of the answers
-pub last_answers : (view : View) (c : Clerk) → view ≡ Answers → [] ≡ closing view c
+-- nothing is written last of the answers, nor of the history
+pub last_none : (view : View) (c : Clerk) → (view ≡ Answers) ⊎ (view ≡ History) → [] ≡ closing view c
 unfolding closing
-last_answers view c e = rw e
-
--- nor of the history
-pub last_history : (view : View) (c : Clerk) → view ≡ History → [] ≡ closing view c
-unfolding closing
-last_history view c e = rw e
+last_none view c (inl e) = rw e
+last_none view c (inr e) = rw e
 
 -- the chains are, by the method
 pub last_chains : (view : View) (c : Clerk) → view ≡ Chains → chains_by c.desks.method c.desks ≡ closing view c

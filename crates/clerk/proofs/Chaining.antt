@@ -1,6 +1,6 @@
 -- The chains of all waiting jobs, one after another as the code writes them, each in the first places of a list.
 -- Assumes nothing.
-use Prim.Native.Nat.{ℕ, zero, suc, ◌+◌, ◌-◌, ◌*◌, ◌≤◌, ◌<◌}
+use Prim.Native.Nat.{ℕ, zero, suc, ◌+◌, ◌*◌, ◌≤◌, ◌<◌}
 use mathlib.Core.Path.{◌≡◌, refl, sym, ap, subst, ◌∙◌}
 use mathlib.Core.List.{List, [], ◌∷◌, ◌++◌, append_assoc, append-nil}
 use native.Mathlib.Omega.{arith}
@@ -36,8 +36,8 @@ unfolding filled
 chain_fits js before h e = omega (arith, ap length e, length-append js (drop (length js) before))
 
 -- and is what stands there
-chain_there : {n : ℕ} {list : List ℕ} (js before : List ℕ) → n ≡ length js → list ≡ filled js before → take (n - 0) list ≡ js
-chain_there {n} {list} js before h e = let k : n - 0 ≡ length js = omega arith in ap (λ m. take m list) k ∙ ap (take (length js)) e ∙ filled_first js before
+chain_there : {n : ℕ} {list : List ℕ} (js before : List ℕ) → n ≡ length js → list ≡ filled js before → take n list ≡ js
+chain_there {n} {list} js before h e = ap (λ m. take m list) h ∙ ap (take (length js)) e ∙ filled_first js before
 
 -- and its first job stands in the first place
 chain_head : {list : List ℕ} (js before : List ℕ) → list ≡ filled js before → 0 < length js → get_or list 0 0 ≡ first_job js
@@ -98,7 +98,7 @@ chained_next {d} {at} {next} {to} {last} {i} {b} {m} {p} c h some fits a = go c.
 
 module _ {d : Desk} {at next last i n : ℕ} {b m list : List ℕ} (before : List ℕ) (c : ChainsPut d at next last i b m) (h : i < places) (size : length d.number ≡ places) (e : n ≡ length (next_chain d last)) (f : list ≡ filled (next_chain d last) before) (some : n ≡ 0 → ⊥) where
   -- there is room for the chain that the list tells
-  pub room_for_chain : at + chains_room ≤ length b → (0 < length (take (n - 0) list)) × (next + job_room * length (take (n - 0) list) ≤ length m)
+  pub room_for_chain : at + chains_room ≤ length b → (0 < length (take n list)) × (next + job_room * length (take n list) ≤ length m)
   room_for_chain r =
       let t = ap length (chain_there (next_chain d last) before e f) in
       let g = chain_few d last size in
@@ -107,7 +107,7 @@ module _ {d : Desk} {at next last i n : ℕ} {b m list : List ℕ} (before : Lis
       (omega arith, omega arith)
 
   -- and once it is written, one more has been
-  pub chained_more : {to : ℕ} {p : List ℕ} → Added (job_room * length (take (n - 0) list)) next to (jobs_line (take (n - 0) list)) m p → ChainsPut d at to (get_or list 0 0) (i + 1) b p
+  pub chained_more : {to : ℕ} {p : List ℕ} → Added (job_room * length (take n list)) next to (jobs_line (take n list)) m p → ChainsPut d at to (get_or list 0 0) (i + 1) b p
   chained_more {to} {p} a =
       let s : 0 < length (next_chain d last) = omega arith in
       subst (λ k. ChainsPut d at to k (i + 1) b p) (sym (chain_head (next_chain d last) before f s))

@@ -2,10 +2,10 @@
 -- Assumes nothing.
 use Prim.Native.Nat.{ℕ, ◌+◌, ◌*◌, ◌≤◌, ◌<◌}
 use mathlib.Core.Path.{◌≡◌, refl, sym, ap, ◌∙◌}
-use mathlib.Core.List.{List, [], ◌∷◌, ◌++◌, append_assoc, append-nil}
+use mathlib.Core.List.{List, [], ◌∷◌, ◌++◌, append_assoc, append-nil, map}
 use native.Mathlib.Omega.{arith}
 use native.Mathlib.Numerals.{add-one}
-use lib.ListN.{length, take, get_or, length-append}
+use lib.ListN.{length, take, get_or, length-append, length-map, get_or-map}
 use lib.Seq.{take-suc, take_all}
 use Rattle.terms.specs.declared.letters.Letter.{Letter}
 use Rattle.conflict.specs.declared.action.Action.{Action}
@@ -37,38 +37,33 @@ wakes_suc view line ws i d h =
     ∙ sym (wakes_append view line (take i ws) (get_or ws i d ∷ []))
     ∙ ap (wake_records view line) (sym (take-suc ws i d h) ∙ ap (λ n. take n ws) (sym (add-one i)))
 
--- before the first
-pub wakes_none : (view : View) (line : ℕ) (ws : List Action) {at : ℕ} {b : List ℕ} → at ≤ length b → Added 0 at at (wake_records view line (take 0 ws)) b b
-unfolding wake_records
-wakes_none view line ws h = added_none h
+module _ (view : View) (line : ℕ) (f : ℕ → Action) (ps : List ℕ) where
+  -- the records of the first woken places
+  abbrev pub first_wakes : ℕ → List ℕ
+  first_wakes i = wake_records view line (take i (map f ps))
 
--- one more is written behind the others
-pub wakes_more : (view : View) (line : ℕ) (ws : List Action) (i : ℕ) (d : Action) {at a e : ℕ} {b m p : List ℕ} → i < length ws →
-    Added (longest_record * i) at a (wake_records view line (take i ws)) b m → Added longest_record a e (wake_record view line (get_or ws i d)) m p →
-    Added (longest_record * (i + 1)) at e (wake_records view line (take (i + 1) ws)) b p
-wakes_more view line ws i d h w v =
-    added_as
-    (record { wrote = wrote_then w.wrote v.wrote; few = simp length-append (let f = w.few in let g = v.few in omega arith) })
-    (wakes_suc view line ws i d h)
+  -- before the first
+  pub wakes_none : {at : ℕ} {b : List ℕ} → at ≤ length b → Added 0 at at (first_wakes 0) b b
+  unfolding wake_records
+  wakes_none h = added_none h
 
--- all that there are
-pub wakes_all : (view : View) (line : ℕ) (ws : List Action) (i count : ℕ) {most at e : ℕ} {b m : List ℕ} → length ws ≤ i → i ≤ count →
-    Added most at e (wake_records view line (take i ws)) b m → Wrote at e (wake_records view line (take count ws)) b m
-wakes_all view line ws i count h g w = wrote_as w.wrote (ap (wake_records view line) (take_all i ws h ∙ sym (take_all count ws (omega arith))))
+  -- one more is written behind the others
+  pub wakes_more : (i : ℕ) {at a e : ℕ} {b m p : List ℕ} → i < length ps →
+      Added (longest_record * i) at a (first_wakes i) b m → Added longest_record a e (wake_record view line (f (get_or ps i 0))) m p →
+      Added (longest_record * (i + 1)) at e (first_wakes (i + 1)) b p
+  wakes_more i {a = a} {e} {m = m} {p} h w v =
+      let n = length-map ps f in
+      let v' = added_as v (ap (wake_record view line) (sym (get_or-map f ps i 0))) in
+      added_as
+      (record { wrote = wrote_then w.wrote v'.wrote; few = simp length-append (let k = w.few in let g = v'.few in omega arith) })
+      (wakes_suc view line (map f ps) i (f 0) (omega arith))
 
--- as many as were told
-pub wakes_told_lem : (view : View) (line : ℕ) (ws : List Action) (i count : ℕ) {most at e : ℕ} {b m : List ℕ} → i ≤ count → count ≤ i →
-    Added most at e (wake_records view line (take i ws)) b m → Wrote at e (wake_records view line (take count ws)) b m
-wakes_told_lem view line ws i count h g w = wrote_as w.wrote (let e : i ≡ count = omega arith in ap (λ n. wake_records view line (take n ws)) e)
+  -- all that there are
+  pub wakes_all : (i : ℕ) {most at e : ℕ} {b m : List ℕ} → length ps ≤ i → Added most at e (first_wakes i) b m → Wrote at e (wake_records view line (map f ps)) b m
+  wakes_all i h w = let n = length-map ps f in wrote_as w.wrote (ap (wake_records view line) (take_all i (map f ps) (omega arith)))
 
-module _ (view : View) (line : ℕ) (l : Letter) (cell : ℕ) (answer : Answer) (ws : List Action) (count : ℕ) where
-  -- where nobody wakes, the first record is all
-  pub records_quiet : {at e : ℕ} {b m : List ℕ} → count ≡ 0 → Added longest_record at e (first_record view line l cell answer) b m → Wrote at e (line_records view line l cell answer (take count ws)) b m
-  unfolding line_records wake_records
-  records_quiet h w = wrote_as w.wrote (sym (append-nil _) ∙ rw h)
-
-  -- and else the wakes stand behind it
-  pub records_woken : {at a e : ℕ} {b m p : List ℕ} → Added longest_record at a (first_record view line l cell answer) b m →
-      Wrote a e (wake_records view line (take count ws)) m p → Wrote at e (line_records view line l cell answer (take count ws)) b p
-  unfolding line_records
-  records_woken w v = wrote_then w.wrote v
+-- all records of a line: the first, and those of the wakes behind it
+pub records_woken : (view : View) (line : ℕ) (l : Letter) (cell : ℕ) (answer : Answer) (ws : List Action) {at a e : ℕ} {b m p : List ℕ} →
+    Added longest_record at a (first_record view line l cell answer) b m → Wrote a e (wake_records view line ws) m p → Wrote at e (line_records view line l cell answer ws) b p
+unfolding line_records
+records_woken view line l cell answer ws w v = wrote_then w.wrote v

@@ -1,11 +1,12 @@
 -- The records of one line as the code writes them, one after another: the first, if there is one, then one for each wake (01, Lines).
-use Rattle.std.specs.Prelude.{ℕ, ◌≤◌, ◌<◌, ◌≡◌, List, [], ◌∷◌, ◌++◌, length}
+use Rattle.std.specs.Prelude.{ℕ, ◌≤◌, ◌<◌, ◌≡◌, List, [], ◌∷◌, ◌++◌, length, Option, None, Some}
 use Rattle.terms.specs.declared.letters.Letter.{Letter}
 use Rattle.terms.specs.declared.words.Word.TheVariants.{Wake}
 use Rattle.terms.specs.Letters.{byte_of}
 use Rattle.terms.specs.Limits.{last_number}
 use Rattle.conflict.specs.declared.action.Action.{Action}
 use Rattle.conflict.specs.declared.action.Event.TheVariants.{Does}
+use Rattle.text_rules.specs.declared.Line.{Line}
 use Rattle.text_rules.specs.EventRecords.{event_line, text_of}
 use Rattle.text_rules.specs.Records.{answer_record, line_record}
 use Rattle.text_rules.specs.Wrote.{Wrote}
@@ -18,8 +19,6 @@ use Rattle.desks.specs.Records.{own_records}
 use Rattle.desks.specs.Stepping.{Stepping}
 use Rattle.program_rules.specs.OverLines.{told_by}
 use Rattle.program_rules.specs.Work.{viewed}
-use Rattle.clerk.specs.declared.records.Noted.{Noted}
-use Rattle.clerk.specs.declared.records.Noted.TheVariants.{Nothing, Line}
 
 -- at most `most` bytes were written: they stand from one place up to another, and all other bytes are unchanged
 pub record Added (most at to : ℕ) (bytes before after : List ℕ) : Type 0 where
@@ -34,10 +33,10 @@ Besides number fault = (number ≤ last_number) × (fault ≤ 9) × (0 < fault �
 abbrev pub asking : Letter → ℕ → Request
 asking l cell = record { kind = byte_of l; job = 0; cell = cell }
 
--- the bytes of what the history notes of a request
-unfoldable pub noted_bytes : Noted → List ℕ
-noted_bytes Nothing = []
-noted_bytes (Line l job cell) = line_record l job cell
+-- the bytes of the line that the history notes of a request, if any
+unfoldable pub noted_bytes : Option Line → List ℕ
+noted_bytes None = []
+noted_bytes (Some l) = line_record l.letter l.job l.cell
 
 -- the first record of a line in a view
 unfoldable pub first_record : View → ℕ → Letter → ℕ → Answer → List ℕ

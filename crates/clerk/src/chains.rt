@@ -1,7 +1,5 @@
 // What is written after the last line has been answered: the chains of the waiting jobs, one line each (02, No. 3).
-ghost use Rattle.std.specs.Prelude.{◌≡◌, [], ◌∷◌, ◌+◌, ◌*◌, ◌≤◌, ◌<◌, length};
-ghost use Rattle.terms.specs.Words.{tab, newline};
-ghost use Rattle.text_rules.specs.Decimal.{decimal};
+ghost use Rattle.std.specs.Prelude.{◌≡◌, ◌+◌, ◌*◌, ◌≤◌, ◌<◌, length};
 ghost use Rattle.text_rules.specs.Records.{jobs_line};
 ghost use Rattle.text_rules.specs.Wrote.{Wrote};
 ghost use Rattle.desk_chain.specs.Chains.{chains_on};
@@ -20,51 +18,16 @@ const JOB_ROOM: usize = 11;
 // The most bytes of all chains: at most as many jobs wait as there are places, and no chain has more jobs than that.
 const CHAINS_ROOM: usize = PLACES * PLACES * JOB_ROOM;
 
-// Writes a job that fits; returns the place after it.
-fn put_number(out: &mut [u8], at: usize, job: u32) -> usize
-    requires { at + 10 ≤ length out.old }
-    ensures { Added 10 at result (decimal job) out.old out.new }
-{
-    match write_number(out, at, job as u64) {
-        Ok(next) => next,
-        Err(_) => at,
-    }
-}
-
-// Writes a tab and a job that fit; returns the place after them.
-fn put_field(out: &mut [u8], at: usize, job: u32) -> usize
-    requires { at + job_room ≤ length out.old }
-    ensures { Added job_room at result (tab ∷ decimal job) out.old out.new }
-{
-    match write_field(out, at, job as u64) {
-        Ok(next) => next,
-        Err(_) => at,
-    }
-}
-
-// Writes the newline, which fits; returns the place after it.
-fn put_end(out: &mut [u8], at: usize) -> usize
-    requires { at < length out.old }
-    ensures { Added 1 at result (newline ∷ []) out.old out.new }
-{
-    match write_end(out, at) {
-        Ok(next) => next,
-        Err(_) => at,
-    }
-}
-
 // Writes the line of a chain, which fits; returns the place after it.
 fn put_chain(out: &mut [u8], at: usize, jobs: &[u32]) -> usize
     requires { (0 < length jobs.now) × (at + job_room * length jobs.now ≤ length out.old) }
     ensures { Added (job_room * length jobs.now) at result (jobs_line jobs.now) out.old out.new }
 {
-    let mut next = put_number(out, at, jobs[0]);
-    let mut i: usize = 1;
-    while i < jobs.len() {
-        next = put_field(out, next, jobs[i]);
-        i += 1;
+    let mut next = write_number(out, at, u64::from(jobs[0])).unwrap();
+    for job in &jobs[1..] {
+        next = write_field(out, next, u64::from(*job)).unwrap();
     }
-    put_end(out, next)
+    write_end(out, next).unwrap()
 }
 
 // Writes the chains of all waiting jobs, in ascending order, one line each; they fit. Returns the place after them.
@@ -75,16 +38,14 @@ fn put_chains(out: &mut [u8], at: usize, d: Desk) -> usize
 {
     let mut list = [0u32; PLACES];
     let mut next = at;
-    let mut last: u32 = 0;
-    let mut i: usize = 0;
-    while i < PLACES {
+    let mut last = 0;
+    for _i in 0..PLACES {
         let n = next_chain(d, last, &mut list);
         if n == 0 {
             break;
         }
-        next = put_chain(out, next, &list[0..n]);
+        next = put_chain(out, next, &list[..n]);
         last = list[0];
-        i += 1;
     }
     next
 }
@@ -95,8 +56,7 @@ fn put_waiting(out: &mut [u8], at: usize, d: Desks) -> usize
     requires { at + chains_room ≤ length out.old }
     ensures { Wrote at result (chains_by d.method d) out.old out.new }
 {
-    let method = d.method;
-    match method {
+    match d.method {
         Method::Locks => put_chains(out, at, d.locks),
         Method::Stamps => at,
     }
@@ -107,14 +67,13 @@ fn closing_room(view: View) -> usize
     ensures { result ≡ closing_room view }
 {
     match view {
-        View::Answers => 0,
-        View::History => 0,
+        View::Answers | View::History => 0,
         View::Chains => CHAINS_ROOM,
     }
 }
 
 // Writes what a program writes last, behind the records of its lines: the chains of the waiting jobs, and nothing for answers and history. If it does not fit, the buffer must be written out first.
-#[tactic(auto, using(crate::proofs::Cases::last_answers, crate::proofs::Cases::last_chains, crate::proofs::Cases::last_history, program_rules::proofs::Ends::closes_full, program_rules::proofs::Ends::closes_put, program_rules::proofs::Ends::closes_room, text_rules::proofs::WroteLaws::wrote_as, text_rules::proofs::WroteLaws::wrote_none))]
+#[tactic(auto, using(crate::proofs::Cases::last_chains, crate::proofs::Cases::last_none, program_rules::proofs::Ends::closes_full, program_rules::proofs::Ends::closes_put, program_rules::proofs::Ends::closes_room, text_rules::proofs::WroteLaws::wrote_as, text_rules::proofs::WroteLaws::wrote_none))]
 pub fn close(view: View, c: Clerk, out: &mut [u8], at: usize) -> Finished
     ensures { (result ≡ (close_of view c out.old at).finished) × (out.new ≡ (close_of view c out.old at).out) }
 {
@@ -122,8 +81,7 @@ pub fn close(view: View, c: Clerk, out: &mut [u8], at: usize) -> Finished
         return Finished { at, full: true };
     }
     let to = match view {
-        View::Answers => at,
-        View::History => at,
+        View::Answers | View::History => at,
         View::Chains => put_waiting(out, at, c.desks),
     };
     Finished {

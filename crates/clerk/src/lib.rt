@@ -2,5 +2,6 @@
 #![tactic(auto)]
 
 pub mod chains;
+mod heading;
 mod records;
 pub mod work;

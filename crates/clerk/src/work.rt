@@ -2,25 +2,24 @@
 ghost use Rattle.std.specs.Prelude.{◌≡◌, true, ◌+◌, ◌≤◌, length};
 ghost use Rattle.terms.specs.Limits.{request_lines};
 ghost use Rattle.text_rules.specs.Wrote.{Wrote};
-ghost use Rattle.desk_arrays.specs.Steps.{desk_of};
 ghost use Rattle.desk_arrays.specs.Seen.{on_arrays};
-ghost use Rattle.stamp_arrays.specs.Steps.{stamps_of};
 ghost use Rattle.stamp_arrays.specs.Seen.{on_stamps};
 ghost use Rattle.program_rules.specs.OverLines.{asked};
-ghost use Rattle.program_rules.specs.Desks.{desks_of};
 ghost use Rattle.clerk.specs.Parts.{Answered};
 ghost use Rattle.program_rules.specs.Work.{viewed, unended, line_room, due, turning, owing, work_of, finish_of};
 
+use crate::heading::{Heading, Reply};
 use crate::records::{put_bad, put_first, put_records};
 use desk::step as locks;
-use desk_arrays::state::{Desk, SPOTS};
-use program_rules::{Clerk, Desks, Finished, Method, View, Worked};
-use stamp_arrays::state::{ROWS, Stamps};
+use desk_arrays::board::Waits;
+use desk_arrays::state::Desk;
+use program_rules::{Clerk, Finished, Method, View, Worked};
+use stamp_arrays::state::Stamps;
 use stamp_desk::step as stamps;
-use terms::letters::Letter;
 use terms::limits::{PLACES, REQUEST_LINES};
 use text::held::{read_held, torn_held};
 use text::writer::has_room;
+use text_rules::Line;
 use text_rules::splitter::Splitter;
 
 // The bytes of the longest record.
@@ -33,10 +32,7 @@ pub const LINE_ROOM: usize = LONGEST_RECORD + LONGEST_RECORD * PLACES;
 fn is_due(s: Splitter) -> bool
     ensures { result ≡ due s }
 {
-    if s.ended {
-        return s.line <= REQUEST_LINES;
-    }
-    false
+    s.ended && s.line <= REQUEST_LINES
 }
 
 // Whether a line is under way that must be answered although it lacks its newline.
@@ -44,201 +40,110 @@ fn is_due(s: Splitter) -> bool
 fn is_owing(s: Splitter) -> bool
     ensures { result ≡ owing s }
 {
-    if s.ended {
-        return false;
-    }
-    s.line <= REQUEST_LINES
+    s.line <= REQUEST_LINES && !s.ended
 }
 
-// Answers a good line on the lock desk's fields, in place, and puts its records into the buffer.
+// Answers a good line on the lock desk, in place, and puts its records into the buffer.
 fn answer_by_locks(
-    view: View,
-    next: &mut u64,
-    number: &mut [u32; PLACES],
-    status: &mut [u8; PLACES],
-    cells: &mut [u8; PLACES],
-    ask: &mut [u8; PLACES],
-    held: &mut [u8; SPOTS],
+    d: &mut Desk,
     woken: &mut [u8; PLACES],
-    line: u64,
-    letter: Letter,
-    job: u32,
-    cell: u32,
+    h: Heading,
+    l: Line,
     out: &mut [u8],
     at: usize,
 ) -> usize
-    requires { (line ≤ request_lines) × (at + line_room ≤ length out.old) }
-    ensures { Answered on_arrays view line (asked letter job cell) (desk_of next.old number.old status.old cells.old ask.old held.old) (desk_of next.new number.new status.new cells.new ask.new held.new) at result out.old out.new }
+    requires { at + line_room ≤ length out.old }
+    ensures { Answered on_arrays h.view h.line (asked l.letter l.job l.cell) d.old d.new at result out.old out.new }
 {
-    let t = locks::step_for(
-        next, number, status, cells, ask, held, woken, letter, job, cell,
-    );
-    let answer = t.answer;
-    put_records(
-        view, out, at, line, letter, cell, answer, number, cells, ask, *woken, t.count,
-    )
+    let t = locks::step_in(d, woken, l.letter, l.job, l.cell);
+    let r = Reply {
+        letter: l.letter,
+        cell: l.cell,
+        answer: t.answer,
+    };
+    let w = Waits {
+        number: &d.number,
+        cell: &d.cell,
+        ask: &d.ask,
+    };
+    put_records(out, at, h, r, w, &woken[..t.count])
 }
 
-// Answers a good line on the timestamp desk's fields, in place, and puts its one record into the buffer: nobody waits there.
-fn answer_by_stamps(
-    view: View,
-    next: &mut u64,
-    number: &mut [u32; PLACES],
-    reader: &mut [u32; ROWS],
-    writer: &mut [u32; ROWS],
-    line: u64,
-    letter: Letter,
-    job: u32,
-    cell: u32,
-    out: &mut [u8],
-    at: usize,
-) -> usize
-    requires { (line ≤ request_lines) × (at + line_room ≤ length out.old) }
-    ensures { Answered on_stamps view line (asked letter job cell) (stamps_of next.old number.old reader.old writer.old) (stamps_of next.new number.new reader.new writer.new) at result out.old out.new }
+// Answers a good line on the timestamp desk, in place, and puts its one record into the buffer: nobody waits there.
+fn answer_by_stamps(d: &mut Stamps, h: Heading, l: Line, out: &mut [u8], at: usize) -> usize
+    requires { at + line_room ≤ length out.old }
+    ensures { Answered on_stamps h.view h.line (asked l.letter l.job l.cell) d.old d.new at result out.old out.new }
 {
-    let answer = stamps::step_for(next, number, reader, writer, letter, job, cell);
-    put_first(view, out, at, line, letter, cell, answer)
+    let r = Reply {
+        letter: l.letter,
+        cell: l.cell,
+        answer: stamps::step_in(d, l.letter, l.job, l.cell),
+    };
+    put_first(out, at, h, r)
 }
 
-// Answers the line in the splitter on the fields of the desk that the method names, and puts its records into the buffer.
-#[tactic(auto, using(crate::proofs::Answering::answered_bad, crate::proofs::Answering::answered_good, crate::proofs::Answering::under_locks, crate::proofs::Answering::under_stamps, program_rules::proofs::Turns::due_line, text_rules::proofs::WroteLaws::wrote_length))]
+// Answers the line in the splitter on the desk that the method names, in place, and puts its records into the buffer.
+#[tactic(auto, using(program_rules::proofs::Turns::due_line))]
 fn answer_line(
     view: View,
-    method: Method,
-    next: &mut u64,
-    number: &mut [u32; PLACES],
-    status: &mut [u8; PLACES],
-    cells: &mut [u8; PLACES],
-    ask: &mut [u8; PLACES],
-    held: &mut [u8; SPOTS],
+    c: &mut Clerk,
     woken: &mut [u8; PLACES],
-    stamped: &mut u64,
-    seats: &mut [u32; PLACES],
-    reader: &mut [u32; ROWS],
-    writer: &mut [u32; ROWS],
-    s: Splitter,
     out: &mut [u8],
     at: usize,
 ) -> usize
-    requires { (due s ≡ true) × (at + line_room ≤ length out.old) }
-    ensures { (turning view (record { desks = desks_of method (desk_of next.old number.old status.old cells.old ask.old held.old) (stamps_of stamped.old seats.old reader.old writer.old); splitter = s }) out.old at ≡ record { clerk = record { desks = desks_of method (desk_of next.new number.new status.new cells.new ask.new held.new) (stamps_of stamped.new seats.new reader.new writer.new); splitter = s }; at = result; out = out.new }) × (length out.new ≡ length out.old) }
+    requires { (due c.old.splitter ≡ true) × (at + line_room ≤ length out.old) }
+    ensures { (turning view c.old out.old at ≡ record { clerk = c.new; at = result; out = out.new }) × (length out.new ≡ length out.old) }
 {
-    match read_held(s) {
-        Ok(good) => match method {
-            Method::Locks => answer_by_locks(
-                view,
-                next,
-                number,
-                status,
-                cells,
-                ask,
-                held,
-                woken,
-                s.line,
-                good.letter,
-                good.job,
-                good.cell,
-                out,
-                at,
-            ),
-            Method::Stamps => answer_by_stamps(
-                view,
-                stamped,
-                seats,
-                reader,
-                writer,
-                s.line,
-                good.letter,
-                good.job,
-                good.cell,
-                out,
-                at,
-            ),
+    let h = Heading {
+        view,
+        line: c.splitter.line,
+    };
+    match read_held(c.splitter) {
+        Ok(l) => match c.desks.method {
+            Method::Locks => answer_by_locks(&mut c.desks.locks, woken, h, l, out, at),
+            Method::Stamps => answer_by_stamps(&mut c.desks.stamps, h, l, out, at),
         },
-        Err(field) => put_bad(view, out, at, s.line, field),
+        Err(field) => put_bad(out, at, h, field),
     }
 }
 
 // Answers every line that ends in the chunk, from a place on, and puts its records into the buffer from a place on, while bytes are left and any line's records would fit.
 // If they might not fit, the work is full: it stops before the next cut, and goes on from there once the buffer is written out.
-// The desks' fields are taken out once, and put back at the end.
 #[tactic(auto, unfolding(program_rules::specs::Work::roomy), using(crate::proofs::Going::cut_moves, crate::proofs::Going::left_all, crate::proofs::Going::left_answers, crate::proofs::Going::left_full, crate::proofs::Going::left_none, crate::proofs::Going::left_passes))]
-pub fn work(view: View, c: Clerk, chunk: &[u8], from: usize, out: &mut [u8], at: usize) -> Worked
+pub fn work(
+    view: View,
+    mut c: Clerk,
+    chunk: &[u8],
+    from: usize,
+    out: &mut [u8],
+    at: usize,
+) -> Worked
     ensures { (result ≡ (work_of view c chunk.now from out.old at).worked) × (out.new ≡ (work_of view c chunk.now from out.old at).out) }
 {
-    let desks = c.desks;
-    let method = desks.method;
-    let locks = desks.locks;
-    let mut numbered = locks.next;
-    let mut number = locks.number;
-    let mut status = locks.status;
-    let mut cells = locks.cell;
-    let mut ask = locks.ask;
-    let mut held = locks.held;
     let mut woken = [0; PLACES];
-    let stamps = desks.stamps;
-    let mut stamped = stamps.next;
-    let mut seats = stamps.number;
-    let mut reader = stamps.reader;
-    let mut writer = stamps.writer;
-    let mut splitter = c.splitter;
     let mut next = from;
     let mut place = at;
-    let mut full = false;
     while next < chunk.len() {
         if !has_room(out.len(), place, LINE_ROOM) {
-            full = true;
-            break;
+            return Worked {
+                clerk: c,
+                next,
+                at: place,
+                full: true,
+            };
         }
-        let cut = splitter.cut(chunk, next);
-        splitter = cut.splitter;
+        let cut = c.splitter.cut(chunk, next);
+        c.splitter = cut.splitter;
         next = cut.next;
-        if is_due(splitter) {
-            place = answer_line(
-                view,
-                method,
-                &mut numbered,
-                &mut number,
-                &mut status,
-                &mut cells,
-                &mut ask,
-                &mut held,
-                &mut woken,
-                &mut stamped,
-                &mut seats,
-                &mut reader,
-                &mut writer,
-                splitter,
-                out,
-                place,
-            );
+        if is_due(c.splitter) {
+            place = answer_line(view, &mut c, &mut woken, out, place);
         }
     }
-    let locks = Desk {
-        next: numbered,
-        number,
-        status,
-        cell: cells,
-        ask,
-        held,
-    };
-    let stamps = Stamps {
-        next: stamped,
-        number: seats,
-        reader,
-        writer,
-    };
-    let desks = Desks {
-        method,
-        locks,
-        stamps,
-    };
-    let clerk = Clerk { desks, splitter };
     Worked {
-        clerk,
+        clerk: c,
         next,
         at: place,
-        full,
+        full: false,
     }
 }
 
@@ -248,7 +153,8 @@ fn put_unended(view: View, out: &mut [u8], at: usize, s: Splitter) -> usize
     requires { (s.line ≤ request_lines) × (at + line_room ≤ length out.old) }
     ensures { Wrote at result (viewed view (unended s)) out.old out.new }
 {
-    put_bad(view, out, at, s.line, torn_held(s))
+    let h = Heading { view, line: s.line };
+    put_bad(out, at, h, torn_held(s))
 }
 
 // The end of the input: a line without its newline gets refusal 9, with the field at fault. If that does not fit, the buffer must be written out first.
@@ -263,9 +169,8 @@ pub fn finish(view: View, c: Clerk, out: &mut [u8], at: usize) -> Finished
     if !has_room(out.len(), at, LINE_ROOM) {
         return Finished { at, full: true };
     }
-    let next = put_unended(view, out, at, s);
     Finished {
-        at: next,
+        at: put_unended(view, out, at, s),
         full: false,
     }
 }

@@ -2,12 +2,15 @@
 -- Assumes nothing.
 use borrow.Author.Rules.{rules}
 use Rattle.text_rules.specs.Records.{longest_record}
-use Rattle.clerk.proofs.Adding.{added_next, never_refused, line_at_most_24}
-use borrow.Author.Rules.{rules}
+use Rattle.clerk.proofs.Adding.{added_next, fits_told, line_at_most_24}
 use Rattle.clerk.proofs.records.put_line.Goals as goal
 
-pub returns-in-Ok : goal.returns-in-Ok
-returns-in-Ok c = added_next c.write_line.ensures.0 c.in-Ok.is c.write_line.ensures.1 (line_at_most_24 _ _ _ (search rules) (search rules))
+pub unwrap-requires : goal.unwrap-requires
+unwrap-requires c = fits_told _ _ _ longest_record c.write_line.ensures.0 (line_at_most_24 _ _ _ (search rules) (search rules)) c.requires
 
-pub returns-in-Err : goal.returns-in-Err
-returns-in-Err c = never_refused _ _ _ longest_record c.write_line.ensures.0 c.in-Err.is (line_at_most_24 _ _ _ (search rules) (search rules)) c.requires
+pub returns : goal.returns
+returns c =
+    let e = c.write_line.ensures in
+    let j = c.from.ensures in
+    let k = c.from-2.ensures in
+    rw (← j, ← k) (added_next e.0 c.unwrap.ensures e.1 (line_at_most_24 _ _ _ (search rules) (search rules)))

@@ -5,5 +5,5 @@ use Rattle.clerk.proofs.Adding.{added_none, added_as}
 use Rattle.clerk.proofs.Cases.{nothing_noted}
 use Rattle.clerk.proofs.records.put_noted.Goals as goal
 
-pub returns-in-Nothing : goal.returns-in-Nothing
-returns-in-Nothing c = added_as (added_none (omega arith)) (search nothing_noted)
+pub returns-in-None : goal.returns-in-None
+returns-in-None c = added_as (added_none (omega arith)) (search nothing_noted)

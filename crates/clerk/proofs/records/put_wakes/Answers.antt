@@ -1,26 +1,19 @@
 -- `clerk::records::put_wakes` meets its contract. The loop's invariant: the records of the wakes passed stand in the buffer, at most 24 bytes each.
--- The measure is what is left of the 32 places. Assumes nothing.
-use borrow.Author.Rules.{rules}
+-- Assumes nothing.
 use native.Mathlib.Omega.{arith}
-use mathlib.Core.Path.{◌≡◌, sym, ap, ◌∙◌}
-use mathlib.Core.List.{map}
-use lib.ListN.{length, length-map, get_or-map}
+use mathlib.Core.Path.{ap, ◌∙◌}
 use Rattle.desk_arrays.specs.Steps.{wake_at}
 use Rattle.clerk.specs.Parts.{wake_record}
 use Rattle.clerk.proofs.Adding.{added_as}
 use Rattle.clerk.proofs.Waking.{wakes_none, wakes_more}
-use borrow.Author.Rules.{rules}
 use Rattle.clerk.proofs.records.put_wakes.Goals as goal
 
-pub loop-i-init : goal.loop-i-init
-loop-i-init c =
-    let a = c.args in (omega arith, omega arith, wakes_none a.view a.line (map (wake_at a.number.now a.cells.now a.ask.now) a.woken) (omega arith))
+pub loop-p-init : goal.loop-p-init
+loop-p-init c = let a = c.args in wakes_none a.h.view a.h.line (wake_at a.w.number.now a.w.cell.now a.w.ask.now) a.woken.now (omega arith)
 
-pub loop-i-preserved : goal.loop-i-preserved
-loop-i-preserved c =
+pub loop-p-preserved : goal.loop-p-preserved
+loop-p-preserved c =
     let a = c.args in
-    let f = wake_at a.number.now a.cells.now a.ask.now in
-    let l = c.loop-i in
-    let n : length a.woken ≡ 32 = search rules in
-    let m = length-map a.woken f in
-    (omega arith, omega arith, wakes_more a.view a.line (map f a.woken) l.i (f 0) (omega arith) l.invariant.2 (added_as c.put_wake-next.ensures (ap (wake_record a.view a.line) (c.wake_at-a.ensures ∙ sym (get_or-map f a.woken l.i 0)))))
+    let f = wake_at a.w.number.now a.w.cell.now a.w.ask.now in
+    let l = c.loop-p in
+    wakes_more a.h.view a.h.line f a.woken.now l.p-index c.loop-p-test.true l.invariant (added_as c.put_wake-next.ensures (ap (wake_record a.h.view a.h.line) (c.wake_at.ensures ∙ ap f c.from.ensures)))

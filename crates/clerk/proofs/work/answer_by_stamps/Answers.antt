@@ -4,4 +4,4 @@ use Rattle.clerk.proofs.Answering.{on_stamps_lem}
 use Rattle.clerk.proofs.work.answer_by_stamps.Goals as goal
 
 pub returns : goal.returns
-returns c = on_stamps_lem c.args.letter c.step_for-answer.ensures c.put_first.ensures
+returns c = on_stamps_lem c.args.l.letter c.step_in.ensures c.put_first.ensures

@@ -15,4 +15,4 @@ pub returns : goal.returns
 unfolding roomy
 returns c =
     let a = c.args in
-    ends_put a.view a.c a.out.now a.at (search tests) (search tests) c.put_unended-next.ensures
+    ends_put a.view a.c a.out.now a.at (search tests) (search tests) c.put_unended.ensures
