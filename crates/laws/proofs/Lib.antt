@@ -6,7 +6,6 @@ pub mod Filled
 pub mod Functions
 pub mod Sorted
 pub mod Larger
-pub mod Walking
 pub mod Copies
 pub mod Standing
 pub mod Pigeonhole
