@@ -79,6 +79,6 @@ plan_fits next number status cell held job c (Some GiveUp) e = fits_pick c (λ m
 plan_fits next number status cell held job c (Some retries) e =
     let code = status_of number status job in
     by_test (eqb code free_code) (λ t. rw t tt)
-    (λ f. rw f (by_test (eqb code waiting_code) (λ t. rw t tt) (λ g. rw g (by_test (eqb code sent_back_code) (λ t. rw t (open_inside number status job e f)) (λ h. rw h tt)))))
+    (λ f. rw f (by_test (eqb code waiting_code) (λ t. rw t tt) (λ g. rw g (by_test (eqb code sent_back_code) (λ t. rw t tt) (λ h. rw h tt)))))
 plan_fits next number status cell held job c (Some (Asks a)) e =
     fits_runs c _ _ (λ o. fits_pick c (λ m. m) (ltb c cells) _ _ (λ t. fits_decided number status cell held _ c job a (open_inside number status job e o) (ltb-true c cells t)) (λ t. tt))
