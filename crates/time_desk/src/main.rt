@@ -199,7 +199,7 @@ fn on_lent_stamps() -> Tally {
     })
 }
 
-// The first byte of the input, if there is one; it selects a desk.
+// The first byte of the input, if there is one; it selects a desk. Each program reads bytes by itself, since a public function for all could state nothing of what it returns.
 fn first_byte(rt: &HostRuntime) -> Option<u8> {
     let mut one = [0u8; 1];
     match streams::read(rt, &mut one) {

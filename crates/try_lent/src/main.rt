@@ -42,7 +42,7 @@ const STAMPS: u8 = b't';
 // More bytes than any record has.
 const ROOM: usize = 32;
 
-// The next byte of the input, if there is one.
+// The next byte of the input, if there is one. Each program reads bytes by itself, since a public function for all could state nothing of what it returns.
 fn next_byte(rt: &HostRuntime) -> Option<u8> {
     let mut one = [0u8; 1];
     match streams::read(rt, &mut one) {
