@@ -97,7 +97,7 @@ impl<'a> Graph<'a> {
     }
 
     // Whether line x is on a cell of the set, and job j's last action on that cell stands after it. The last action is tested first: for two jobs its outcome is mostly the same on all cells, unlike the set's.
-    #[tactic(auto, using(crate::proofs::Reaching::may_early, crate::proofs::Reaching::may_nowhere, crate::proofs::Reaching::may_set))]
+    #[tactic(auto, using(crate::proofs::Reaching::may_early, crate::proofs::Reaching::may_set))]
     fn may_meet(self, mask: u64, x: usize, j: usize) -> bool
         requires { (x < judged_lines) × (j < slots) }
         ensures { result ≡ may_meet self.entry.kept.cells.now self.entry.lasts.now mask j x }
@@ -116,7 +116,7 @@ impl<'a> Graph<'a> {
     // Lines of xs are tried from the last back, since a job mostly writes what it has read before. It skips lines on cells where the two jobs cannot conflict,
     // or where job j's last line stands too early. Of job j's lines on a cell, the last of each kind decides.
     // The loops stay labelled, and are left from inside, as 01 names them.
-    #[tactic(auto, using(crate::proofs::Reaching::apart_none, crate::proofs::Searching::meets_end, crate::proofs::Searching::meets_whole))]
+    #[tactic(auto, using(crate::proofs::Reaching::apart_none, crate::proofs::Searching::meets_end))]
     fn meets(self, mask: u64, xs: &[u16], j: usize) -> bool
         requires j_lt_slots { (0 < j) × (j < slots) × Lined xs.now }
         requires masked { Masked self.kept.codes.now self.kept.jobs.now self.kept.cells.now mask xs.now (part_at self.lines.now self.starts.now j) }
@@ -142,7 +142,7 @@ impl<'a> Graph<'a> {
     }
 
     // Whether job i has an edge to job j, both with a c.
-    #[tactic(auto, using(crate::proofs::ByParts::edge_parts, crate::proofs::ByParts::edge_self, crate::proofs::ByParts::its_mask, crate::proofs::ByParts::masked_apart))]
+    #[tactic(auto, using(crate::proofs::ByParts::edge_parts, crate::proofs::ByParts::edge_self, crate::proofs::ByParts::masked_apart))]
     pub fn edge_between(self, i: usize, j: usize) -> bool
         requires { (0 < i) × (i < slots) × (0 < j) × (j < slots) }
         ensures { result ≡ edges_of self.entry i j }

@@ -20,7 +20,6 @@ fn set_key(j: usize, kind: u8) -> usize
 }
 
 // For each job and kind, the cells of the lines that the job owns.
-#[tactic(auto, using(crate::proofs::Covering::covered_keep, crate::proofs::Covering::covered_more, crate::proofs::Covering::covered_none))]
 pub fn cells_of(history: Faultless, owners: &[u8; JUDGED_LINES]) -> [u64; KIND_SETS]
     ensures { Covered history.entry.kept.codes.now history.entry.kept.cells.now owners.now history.entry.n result }
 {
