@@ -39,7 +39,7 @@ fn take_jobs(history: Faultless) -> Taken
         lasts: &lasts,
         sets: &sets,
     };
-    take_away(graph, jobs)
+    take_away(&graph, jobs)
 }
 
 // Puts the knot that the walk back from a job ends in into the buffer's first places.
