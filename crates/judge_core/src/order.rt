@@ -43,7 +43,11 @@ fn predecessor_from(graph: &Graph, left: &[bool; SLOTS], from: usize, j: usize) 
 // The smallest remaining job without a remaining predecessor. A job whose smallest predecessor is gone searches on from there: smaller jobs are gone too, or have no edge to it.
 // So no pair of jobs is searched twice.
 #[tactic(auto, using(crate::proofs::Predecessors::passed_all, crate::proofs::Predecessors::passed_none, crate::proofs::Predecessors::passed_ready))]
-fn ready_job(graph: &Graph, left: &[bool; SLOTS], predecessors: &mut [usize; SLOTS]) -> Option<usize>
+fn ready_job(
+    graph: &Graph,
+    left: &[bool; SLOTS],
+    predecessors: &mut [usize; SLOTS],
+) -> Option<usize>
     requires { (get_or left.now 0 false ≡ false) × Preceding (edges_of graph.now) left.now predecessors.old }
     ensures value { result ≡ ready (edges_of graph.now) (left_of left.now) }
     ensures preceding { Preceding (edges_of graph.now) left.now predecessors.new }

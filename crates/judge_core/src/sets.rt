@@ -53,7 +53,7 @@ pub fn last_key(j: usize, kind: u8, cell: u8) -> usize
     requires { (j < slots) × (kind < 4) × (cell < 64) }
     ensures { (result ≡ last_key j kind cell) × (result < keys) }
 {
-    (usize::from(cell) * SLOTS + j) * 4 + usize::from(kind)
+    usize::from(cell) * (SLOTS * 4) + j * 4 + usize::from(kind)
 }
 
 // One more than each job's last line of each kind (and of any kind) on each cell; 0 if there is none. So one comparison tells whether there is one that stands late enough.
