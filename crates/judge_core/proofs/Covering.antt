@@ -1,55 +1,16 @@
--- The sets of cells and the table of last lines as a pass over the lines makes them, one line at a time.
+-- The sets of a job, and the table of last lines as a pass over the lines makes it, one line at a time.
 -- Assumes nothing.
-use Prim.Native.Nat.{ℕ, ◌+◌, ◌-◌, ◌≤◌, ◌<◌}
-use mathlib.Core.Path.{◌≡◌, sym, ap, ◌∙◌}
-use mathlib.Core.Bool.{◌&&◌, ◌||◌}
+use Prim.Native.Nat.{ℕ, ◌+◌, ◌-◌, ◌<◌}
+use mathlib.Core.Path.{◌≡◌, ap, ◌∙◌}
 use mathlib.Core.List.{List}
 use native.Mathlib.Omega.{arith}
-use lib.Dec.{eqb, ltb}
+use lib.Dec.{eqb}
 use lib.ListN.{get_or, set, replicate, length-set, length-replicate, get_or-replicate}
 use lib.Seq.{get_or-set_same, get_or-set_other}
-use borrow.Author.Tests.{eqb-true, eqb-false, lt-ltb}
+use borrow.Author.Tests.{eqb-true, eqb-false}
 use Rattle.laws.specs.Choice.{by_test}
-use Rattle.laws.proofs.Lists.{same_refl}
-use Rattle.laws.proofs.Parts.{or_first, or_second, and_both}
 use Rattle.conflict.specs.declared.cells.Touched.{Touched}
-use Rattle.conflict.specs.Cells.{in_set}
-use Rattle.judge_core.specs.Reaching.{Covered, set_key, touched_at, last_key, Lasts}
-
-module _ (codes cells owners : List ℕ) where
-  -- nobody has a cell yet
-  pub covered_none : Covered codes cells owners 0 (replicate 768 0)
-  covered_none = record { wide = length-replicate {A = ℕ} 768 0; has = λ p h. absurd (omega arith) }
-
-  module _ (p : ℕ) (sets : List ℕ) (s : Covered codes cells owners p sets) where
-    -- a line that is no action changes nothing
-    pub covered_keep : 3 ≤ get_or codes p 0 → Covered codes cells owners (p + 1) sets
-    covered_keep n =
-        record {
-          wide = s.wide;
-          has = λ q h e l. by_test (eqb q p)
-              (λ t. let low : get_or codes p 0 < 3 = rw (← eqb-true q p t) e in absurd (omega arith))
-              (λ g. s.has q (omega (arith, eqb-false q p g)) e l);
-        }
-
-    -- an action adds its cell to its job's of its kind
-    pub covered_more : (j key cell v : ℕ) → j ≡ get_or owners p 0 → key ≡ set_key j (get_or codes p 0) → key < 768 → cell ≡ get_or cells p 0 → ((c : ℕ) → in_set v c ≡ ((eqb cell c && ltb cell 64) || in_set (get_or sets key 0) c)) → Covered codes cells owners (p + 1) (set sets key v)
-    covered_more j key cell v o q b i e =
-        record {
-          wide = length-set sets key v ∙ s.wide;
-          has = λ y h k l. by_test (eqb (set_key (get_or owners y 0) (get_or codes y 0)) key)
-              (λ t.
-              let here' : get_or (set sets key v) (set_key (get_or owners y 0) (get_or codes y 0)) 0 ≡ v = ap (λ o. get_or (set sets key v) o 0) (eqb-true (set_key (get_or owners y 0) (get_or codes y 0)) key t) ∙ get_or-set_same sets key v 0 (omega (arith, s.wide)) in
-              ap (λ w. in_set w (get_or cells y 0)) here' ∙ e (get_or cells y 0)
-              ∙ by_test (eqb y p)
-              (λ u.
-              let q' : cell ≡ get_or cells y 0 = i ∙ ap (λ z. get_or cells z 0) (sym (eqb-true y p u)) in
-              or_first (eqb cell (get_or cells y 0) && ltb cell 64) (in_set (get_or sets key 0) (get_or cells y 0)) (and_both (eqb cell (get_or cells y 0)) (ltb cell 64) (rw q' (same_refl (get_or cells y 0))) (lt-ltb cell 64 (omega arith))))
-              (λ u. or_second (eqb cell (get_or cells y 0) && ltb cell 64) (in_set (get_or sets key 0) (get_or cells y 0))
-              (ap (λ o. in_set (get_or sets o 0) (get_or cells y 0)) (sym (eqb-true (set_key (get_or owners y 0) (get_or codes y 0)) key t)) ∙ s.has y (omega (arith, eqb-false y p u)) k l)))
-              (λ g. ap (λ w. in_set w (get_or cells y 0)) (get_or-set_other sets key (set_key (get_or owners y 0) (get_or codes y 0)) v 0 (eqb-false (set_key (get_or owners y 0) (get_or codes y 0)) key g))
-              ∙ s.has y (by_test (eqb y p) (λ u. absurd (eqb-false (set_key (get_or owners y 0) (get_or codes y 0)) key g (ap (λ z. set_key (get_or owners z 0) (get_or codes z 0)) (eqb-true y p u) ∙ ap (λ z. set_key z (get_or codes p 0)) (sym o) ∙ sym q))) (λ u. omega (arith, eqb-false y p u))) k l);
-        }
+use Rattle.judge_core.specs.Reaching.{set_key, touched_at, last_key, Lasts}
 
 -- the sets of a job, by their places
 pub touched_is : (sets : List ℕ) (j a b c : ℕ) → a ≡ set_key j 0 → b ≡ set_key j 1 → c ≡ set_key j 2 → ◌≡◌ {A = Touched} (record { reads = get_or sets a 0; writes = get_or sets b 0; increments = get_or sets c 0 }) (touched_at sets j)

@@ -164,12 +164,7 @@ passed_cell cells lasts mask j x b e f =
     ltb-true c 64 (and_first (ltb c 64) (in_set mask c) (and_first (ltb c 64 && in_set mask c) (ltb (x + 1) (get_or lasts (last_key j 3 c) 0)) (sym e ∙ not-false b f)))
 
 module _ (cells lasts : List ℕ) (mask j x : ℕ) where
-  -- a line on none of 64 cells is passed over
-  pub may_nowhere : 64 ≤ get_or cells x 0 → false ≡ may_meet cells lasts mask j x
-  unfolding may_meet
-  may_nowhere h = rw (le-ltb (get_or cells x 0) 64 h)
-
-  -- and so is one on a cell where the last line stands too early
+  -- a line on a cell where the last line stands too early is passed over
   pub may_early : (key v : ℕ) → key ≡ last_key j 3 (get_or cells x 0) → v ≡ get_or lasts key 0 → v ≤ x + 1 → false ≡ may_meet cells lasts mask j x
   unfolding may_meet
   may_early key v i e h = rw (← i, ← e, le-ltb (x + 1) v h) (sym (and-false (ltb (get_or cells x 0) 64 && in_set mask (get_or cells x 0))))

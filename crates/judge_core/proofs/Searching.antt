@@ -6,7 +6,7 @@ use mathlib.Core.Bool.{Bool, true, false, ◌||◌, or-false, or-true}
 use mathlib.Core.List.{List, [], ◌∷◌, ◌++◌}
 use native.Mathlib.Omega.{arith}
 use lib.ListN.{length, get_or, take}
-use lib.Seq.{take-suc, take-length}
+use lib.Seq.{take-suc}
 use borrow.Author.Tests.{eqb-true}
 use lib.Dec.{eqb}
 use Rattle.laws.specs.Choice.{not_both}
@@ -51,10 +51,6 @@ module _ (clash : ℕ → ℕ → Bool) (ys : List ℕ) where
       ap (λ b. meets_later clash x ys || b) (meets_append xs zs) ∙ or_three (meets_later clash x ys) (meetings clash xs ys) (meetings clash zs ys)
 
   module _ (xs : List ℕ) where
-    -- at first all are looked at
-    pub meets_whole : meetings clash xs ys ≡ meetings clash (take (length xs) xs) ys
-    meets_whole = rw (take-length xs)
-
     module _ (i : ℕ) where
       -- the last that is looked at, and those before it
       meets_last : 0 < i → i ≤ length xs → meetings clash (take i xs) ys ≡ (meetings clash (take (i - 1) xs) ys || (meets_later clash (get_or xs (i - 1) 0) ys || false))

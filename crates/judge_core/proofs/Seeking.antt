@@ -9,7 +9,7 @@ use native.Mathlib.Numerals.{add-one}
 use native.Mathlib.Omega.{arith}
 use lib.ListN.{length, get_or}
 use Rattle.std.specs.Prelude.{Option, None, Some}
-use Rattle.laws.specs.Choice.{by_test, not_both}
+use Rattle.laws.specs.Choice.{by_test}
 use Rattle.laws.specs.Lists.{member, put}
 use Rattle.judge_rules.specs.Order.{first}
 use Rattle.judge_rules.proofs.Firsts.{by_one, first_is}
@@ -97,12 +97,7 @@ module _ (left : List Bool) where
   unfolding left_of
   left_has j b t = listed_has (λ i. get_or left i false) 0 256 j (omega arith) (omega arith) t
 
-  -- where job 0 is not left, one that is is not 0
-  pub left_not_0 : (j : ℕ) → get_or left 0 false ≡ false → get_or left j false ≡ true → 0 < j
-  left_not_0 zero z t = not_both t z
-  left_not_0 (suc j) z t = omega arith
-
-  -- and they are no more
+  -- they are no more than 256
   pub left_few : length (left_of left) ≤ 256
   unfolding left_of
   left_few = listed_few (λ i. get_or left i false) 0 256

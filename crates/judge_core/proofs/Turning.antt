@@ -8,8 +8,8 @@ use native.Mathlib.Omega.{arith}
 use lib.Dec.{eqb}
 use lib.ListN.{length, get_or, take, drop, length-append}
 use lib.Seq.{drop-cons, split_at}
-use borrow.Author.Tests.{eqb-true, eqb-false, ne_eqb}
-use Rattle.laws.specs.Choice.{by_test, not_both}
+use borrow.Author.Tests.{eqb-true, ne_eqb}
+use Rattle.laws.specs.Choice.{not_both}
 use Rattle.laws.specs.Lists.{member, filled}
 use Rattle.laws.proofs.Parts.{or_either}
 use Rattle.judge_rules.specs.Knot.{least, up_to, from, turn_to, turn}
@@ -21,31 +21,6 @@ pub record Best (round : List ℕ) (best i : ℕ) : Type 0 where
   pub within : best ≤ i - 1
   pub low : (k : ℕ) → k < i → get_or round best 0 ≤ get_or round k 0
   pub firstly : (k : ℕ) → k < best → get_or round best 0 < get_or round k 0
-
--- at first it is the first
-pub best_none : (round : List ℕ) → Best round 0 0
-best_none round = record { within = omega arith; low = λ k h. absurd (omega arith); firstly = λ k h. absurd (omega arith) }
-
-module _ (round : List ℕ) (best i : ℕ) (b : Best round best i) where
-  -- a smaller one is the smallest so far
-  pub best_next : (now : ℕ) → now ≡ i → get_or round i 0 < get_or round best 0 → Best round now (i + 1)
-  best_next now e h =
-      rw e
-      (record {
-        within = omega arith;
-        low = λ k l. by_test (eqb k i) (λ t. rw (eqb-true k i t) (omega arith)) (λ f. omega (arith, b.low k (omega (arith, eqb-false k i f))));
-        firstly = λ k l. omega (arith, b.low k l);
-      })
-
-  -- any other leaves it
-  pub best_keep : (now : ℕ) → now ≡ best → get_or round best 0 ≤ get_or round i 0 → Best round now (i + 1)
-  best_keep now e h =
-      rw e
-      (record {
-        within = omega (arith, b.within);
-        low = λ k l. by_test (eqb k i) (λ t. rw (eqb-true k i t) h) (λ f. b.low k (omega (arith, eqb-false k i f)));
-        firstly = b.firstly;
-      })
 
 -- a job that stands at none of the first places is not there
 none_before : (ks : List ℕ) (b m : ℕ) → ((k : ℕ) → k < b → get_or ks k 0 ≡ m → ⊥) → b ≤ length ks → member m (take b ks) ≡ false

@@ -56,7 +56,7 @@ fn owner(kept: Kept, since: &[usize; SLOTS], p: usize) -> u8
 }
 
 // The owner of each line.
-#[tactic(auto, using(crate::proofs::Marking::owners_none, crate::proofs::Marking::owners_set))]
+#[tactic(auto, using(crate::proofs::Marking::owners_set))]
 pub fn owners(history: Faultless, since: &[usize; SLOTS]) -> [u8; JUDGED_LINES]
     ensures { result ≡ values_of (owners_by history.entry.kept.codes.now history.entry.kept.jobs.now since.now history.entry.n) judged_lines }
 {

@@ -20,7 +20,7 @@ use crate::sizes::{SLOTS, STOPS};
 use judge_rules::verdict::Verdict;
 
 // Takes away the jobs with a c, by the edges between them, and puts them in order.
-#[tactic(auto, using(crate::proofs::Assembled::edges_agree, crate::proofs::Assembled::known_same, crate::proofs::Assembled::none_zero, crate::proofs::Assembled::rest_same, crate::proofs::Assembled::starts_fit, crate::proofs::Assembled::starts_spaced, crate::proofs::Placing::part_is, crate::proofs::Placing::parted, crate::proofs::SameEdges::order_same, crate::proofs::Tabled::tab_length, crate::proofs::Workings::acting, crate::proofs::Workings::worked))]
+#[tactic(auto, using(crate::proofs::Assembled::none_zero, crate::proofs::Workings::acting))]
 fn take_jobs(history: Faultless) -> Taken
     ensures { Took (history_of history.entry) result.left result.placed result.predecessors result.count }
 {
@@ -39,11 +39,11 @@ fn take_jobs(history: Faultless) -> Taken
         lasts: &lasts,
         sets: &sets,
     };
-    take_away(graph, jobs)
+    take_away(&graph, jobs)
 }
 
 // Puts the knot that the walk back from a job ends in into the buffer's first places.
-#[tactic(auto, using(crate::proofs::Said::knot_put, crate::proofs::Said::knot_room, crate::proofs::Said::knot_said))]
+#[tactic(auto, using(crate::proofs::Said::knot_said))]
 fn knot(predecessors: &[usize; SLOTS], start: usize, order: &mut [u8]) -> Verdict
     requires { (start < slots) × (length (turn (walk_by predecessors.now stops [] start)) ≤ length order.old) }
     ensures value { result ≡ (say_finding order.old (knotted (turn (walk_by predecessors.now stops [] start)))).said }

@@ -75,7 +75,7 @@ fn reads_dirt(code: u8, end: u16, latest: u16, p: usize) -> bool
 }
 
 // The first dirty read, if any; keeps for each cell the latest end of the runs that changed it.
-#[tactic(auto, using(crate::proofs::DirtyPasses::dirty_by, crate::proofs::DirtyPasses::latest_more, crate::proofs::DirtyPasses::latest_none))]
+#[tactic(auto, using(crate::proofs::DirtyPasses::dirty_by))]
 fn first_read(history: Faultless, ends: &[u16; JUDGED_LINES]) -> Option<usize>
     ensures { let found = FirstRead history.entry.kept.codes.now history.entry.kept.cells.now ends.now history.entry.n in MatchOption result (found history.entry.n) (λ p. (p < history.entry.n) × found p) }
 {
@@ -101,7 +101,7 @@ fn spoils(kept: Kept, ends: &[u16; JUDGED_LINES], p: usize, q: usize) -> bool
 }
 
 // The last line before p that makes a read there dirty, or p. A dirty read has one, so an Option would bring its caller a case that never comes.
-#[tactic(auto, using(crate::proofs::DirtyPasses::back_all, crate::proofs::DirtyPasses::back_found, crate::proofs::DirtyPasses::back_none, crate::proofs::DirtyPasses::back_past))]
+#[tactic(auto, using(crate::proofs::DirtyPasses::back_found, crate::proofs::DirtyPasses::back_none, crate::proofs::DirtyPasses::back_past))]
 fn last_write(kept: Kept, ends: &[u16; JUDGED_LINES], p: usize) -> usize
     requires { p < judged_lines }
     ensures { LastWrite kept.entry.codes.now kept.entry.cells.now ends.now p result }

@@ -70,9 +70,9 @@ impl<'a> Graph<'a> {
 
     // Job j's lines, in order.
     #[tactic(auto, unfolding(crate::specs::Grouped::part_at))]
-    fn part(self, j: usize) -> &'a [u16]
+    fn part(&self, j: usize) -> &'a [u16]
         requires { j < slots }
-        ensures { result.now ≡ part_at self.entry.lines.now self.entry.starts.now j }
+        ensures { result.now ≡ part_at self.now.lines.now self.now.starts.now j }
     {
         let lines = self.lines;
         &lines[self.starts[j]..self.starts[j + 1]]
@@ -80,9 +80,9 @@ impl<'a> Graph<'a> {
 
     // Whether job j's last action of a kind on line x's cell stands after line x and conflicts with its action.
     #[tactic(auto, using(crate::proofs::Reaching::last_early, crate::proofs::Reaching::last_late, crate::proofs::Reaching::other_made))]
-    fn meets_last(self, x: usize, j: usize, kind: u8) -> bool
-        requires { (x < judged_lines) × (j < slots) × (kind < 3) × (get_or self.kept.cells.now x 0 < 64) }
-        ensures { result ≡ last_met self.entry.kept.codes.now self.entry.kept.jobs.now self.entry.kept.cells.now self.entry.lasts.now j x kind }
+    fn meets_last(&self, x: usize, j: usize, kind: u8) -> bool
+        requires { (x < judged_lines) × (j < slots) × (kind < 3) × (get_or self.now.kept.cells.now x 0 < 64) }
+        ensures { result ≡ last_met self.now.kept.codes.now self.now.kept.jobs.now self.now.kept.cells.now self.now.lasts.now j x kind }
     {
         let cell = self.kept.cells[x];
         if usize::from(self.lasts[last_key(j, kind, cell)]) <= x + 1 {
@@ -97,10 +97,10 @@ impl<'a> Graph<'a> {
     }
 
     // Whether line x is on a cell of the set, and job j's last action on that cell stands after it. The last action is tested first: for two jobs its outcome is mostly the same on all cells, unlike the set's.
-    #[tactic(auto, using(crate::proofs::Reaching::may_early, crate::proofs::Reaching::may_nowhere, crate::proofs::Reaching::may_set))]
-    fn may_meet(self, mask: u64, x: usize, j: usize) -> bool
+    #[tactic(auto, using(crate::proofs::Reaching::may_early, crate::proofs::Reaching::may_set))]
+    fn may_meet(&self, mask: u64, x: usize, j: usize) -> bool
         requires { (x < judged_lines) × (j < slots) }
-        ensures { result ≡ may_meet self.entry.kept.cells.now self.entry.lasts.now mask j x }
+        ensures { result ≡ may_meet self.now.kept.cells.now self.now.lasts.now mask j x }
     {
         let cell = self.kept.cells[x];
         if u32::from(cell) >= CELLS {
@@ -116,11 +116,11 @@ impl<'a> Graph<'a> {
     // Lines of xs are tried from the last back, since a job mostly writes what it has read before. It skips lines on cells where the two jobs cannot conflict,
     // or where job j's last line stands too early. Of job j's lines on a cell, the last of each kind decides.
     // The loops stay labelled, and are left from inside, as 01 names them.
-    #[tactic(auto, using(crate::proofs::Reaching::apart_none, crate::proofs::Searching::meets_end, crate::proofs::Searching::meets_whole))]
-    fn meets(self, mask: u64, xs: &[u16], j: usize) -> bool
+    #[tactic(auto, using(crate::proofs::Reaching::apart_none, crate::proofs::Searching::meets_end))]
+    fn meets(&self, mask: u64, xs: &[u16], j: usize) -> bool
         requires j_lt_slots { (0 < j) × (j < slots) × Lined xs.now }
-        requires masked { Masked self.kept.codes.now self.kept.jobs.now self.kept.cells.now mask xs.now (part_at self.lines.now self.starts.now j) }
-        ensures { result ≡ meetings (clashing self.entry.kept.codes.now self.entry.kept.jobs.now self.entry.kept.cells.now) xs.now (part_at self.entry.lines.now self.entry.starts.now j) }
+        requires masked { Masked self.now.kept.codes.now self.now.kept.jobs.now self.now.kept.cells.now mask xs.now (part_at self.now.lines.now self.now.starts.now j) }
+        ensures { result ≡ meetings (clashing self.now.kept.codes.now self.now.kept.jobs.now self.now.kept.cells.now) xs.now (part_at self.now.lines.now self.now.starts.now j) }
     {
         if apart(xs, self.part(j)) {
             return false;
@@ -142,10 +142,10 @@ impl<'a> Graph<'a> {
     }
 
     // Whether job i has an edge to job j, both with a c.
-    #[tactic(auto, using(crate::proofs::ByParts::edge_parts, crate::proofs::ByParts::edge_self, crate::proofs::ByParts::its_mask, crate::proofs::ByParts::masked_apart))]
-    pub fn edge_between(self, i: usize, j: usize) -> bool
+    #[tactic(auto, using(crate::proofs::ByParts::edge_parts, crate::proofs::ByParts::edge_self, crate::proofs::ByParts::masked_apart))]
+    pub fn edge_between(&self, i: usize, j: usize) -> bool
         requires { (0 < i) × (i < slots) × (0 < j) × (j < slots) }
-        ensures { result ≡ edges_of self.entry i j }
+        ensures { result ≡ edges_of self.now i j }
     {
         if i == j {
             return false;

@@ -56,7 +56,7 @@ fn fault_at(kept: Kept, ended: &[bool; SLOTS], p: usize) -> Option<Refusal>
 }
 
 // Checks the first n lines in order, up to the first faulty line.
-#[tactic(auto, using(crate::proofs::Faultless::at_end, crate::proofs::Faultless::at_found, crate::proofs::Faultless::at_start, crate::proofs::Faultless::line_passed, crate::proofs::KeptFaults::fault_many, crate::proofs::KeptFaults::flags_none))]
+#[tactic(auto, using(crate::proofs::Faultless::at_end, crate::proofs::Faultless::at_found))]
 fn first_fault(kept: Kept, n: usize) -> Result<(), FaultyLine>
     ensures { result ≡ first_fault 1 [] (history_by kept.entry.codes.now kept.entry.jobs.now kept.entry.cells.now n) }
 {

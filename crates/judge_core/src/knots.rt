@@ -19,7 +19,7 @@ fn place_of(seen: &[u8], job: u8) -> Option<usize>
 }
 
 // Walks back from a job along smallest predecessors until a job comes again. Each job goes in front of the one before; the cycle is the trail from the second occurrence up to the first.
-#[tactic(auto, using(crate::proofs::Trail::walked_more, crate::proofs::Trail::walked_none, crate::proofs::Trail::walked_off, crate::proofs::Trail::walked_out, crate::proofs::Trail::walked_round))]
+#[tactic(auto, using(crate::proofs::Trail::walked_none, crate::proofs::Trail::walked_off, crate::proofs::Trail::walked_out))]
 pub fn walk_back(
     predecessors: &[usize; SLOTS],
     start: usize,
@@ -45,7 +45,7 @@ pub fn walk_back(
 }
 
 // The place of the smallest job of a round.
-#[tactic(auto, using(crate::proofs::Turning::best_keep, crate::proofs::Turning::best_next, crate::proofs::Turning::best_none, crate::proofs::Turning::best_turn))]
+#[tactic(auto, using(crate::proofs::Turning::best_turn))]
 fn smallest_place(round: &[u8]) -> usize
     ensures { (result ≤ length round.now) × (turn round.now ≡ drop result round.now ++ take result round.now) }
 {

@@ -23,11 +23,11 @@ pub struct Taken {
 }
 
 // The smallest remaining job at or above `from` that has an edge to job j. If `from` itself remains, it is known to have an edge, and nothing is searched.
-#[tactic(auto, unfolding(crate::specs::Preceding::predecessor_from), using(crate::proofs::Seeking::left_not_0, crate::proofs::Seeking::seek_found, crate::proofs::Seeking::seek_gone, crate::proofs::Seeking::seek_none, crate::proofs::Seeking::seek_past))]
-fn predecessor_from(graph: Graph, left: &[bool; SLOTS], from: usize, j: usize) -> usize
+#[tactic(auto, unfolding(crate::specs::Preceding::predecessor_from), using(crate::proofs::Seeking::seek_found, crate::proofs::Seeking::seek_gone, crate::proofs::Seeking::seek_none, crate::proofs::Seeking::seek_past))]
+fn predecessor_from(graph: &Graph, left: &[bool; SLOTS], from: usize, j: usize) -> usize
     requires j_nonzero { (0 < j) × (j < slots) }
-    requires false_value { (get_or left.now 0 false ≡ false) × (from < slots → get_or left.now from false ≡ true → edges_of graph from j ≡ true) }
-    ensures { result ≡ predecessor_from (edges_of graph.entry) left.now from j }
+    requires false_value { (get_or left.now 0 false ≡ false) × (from < slots → get_or left.now from false ≡ true → edges_of graph.now from j ≡ true) }
+    ensures { result ≡ predecessor_from (edges_of graph.now) left.now from j }
 {
     if from < SLOTS && left[from] {
         return from;
@@ -42,12 +42,16 @@ fn predecessor_from(graph: Graph, left: &[bool; SLOTS], from: usize, j: usize) -
 
 // The smallest remaining job without a remaining predecessor. A job whose smallest predecessor is gone searches on from there: smaller jobs are gone too, or have no edge to it.
 // So no pair of jobs is searched twice.
-#[tactic(auto, using(crate::proofs::Predecessors::passed_all, crate::proofs::Predecessors::passed_more, crate::proofs::Predecessors::passed_none, crate::proofs::Predecessors::passed_ready, crate::proofs::Predecessors::passed_skip, crate::proofs::Seeking::left_not_0))]
-fn ready_job(graph: Graph, left: &[bool; SLOTS], predecessors: &mut [usize; SLOTS]) -> Option<usize>
-    requires { (get_or left.now 0 false ≡ false) × Preceding (edges_of graph) left.now predecessors.old }
-    ensures value { result ≡ ready (edges_of graph.entry) (left_of left.now) }
-    ensures preceding { Preceding (edges_of graph.entry) left.now predecessors.new }
-    ensures known { IfNone result (Known (edges_of graph.entry) left.now predecessors.new slots) }
+#[tactic(auto, using(crate::proofs::Predecessors::passed_all, crate::proofs::Predecessors::passed_none, crate::proofs::Predecessors::passed_ready))]
+fn ready_job(
+    graph: &Graph,
+    left: &[bool; SLOTS],
+    predecessors: &mut [usize; SLOTS],
+) -> Option<usize>
+    requires { (get_or left.now 0 false ≡ false) × Preceding (edges_of graph.now) left.now predecessors.old }
+    ensures value { result ≡ ready (edges_of graph.now) (left_of left.now) }
+    ensures preceding { Preceding (edges_of graph.now) left.now predecessors.new }
+    ensures known { IfNone result (Known (edges_of graph.now) left.now predecessors.new slots) }
 {
     for j in 0..SLOTS {
         if left[j] {
@@ -62,12 +66,12 @@ fn ready_job(graph: Graph, left: &[bool; SLOTS], predecessors: &mut [usize; SLOT
 }
 
 // Takes away remaining jobs while one is ready, and puts them in order; tells how many. At the end the smallest predecessor of each remaining job is known.
-#[tactic(auto, using(crate::proofs::Predecessors::never_left, crate::proofs::Predecessors::preceding_less, crate::proofs::Predecessors::preceding_none, crate::proofs::TakingAway::going_count, crate::proofs::TakingAway::going_fewer, crate::proofs::TakingAway::going_fits, crate::proofs::TakingAway::going_more, crate::proofs::TakingAway::going_none, crate::proofs::TakingAway::going_order, crate::proofs::TakingAway::going_rest))]
-pub fn take_away(graph: Graph, jobs: [bool; SLOTS]) -> Taken
+#[tactic(auto, using(crate::proofs::TakingAway::going_count, crate::proofs::TakingAway::going_fewer, crate::proofs::TakingAway::going_fits, crate::proofs::TakingAway::going_order, crate::proofs::TakingAway::going_rest))]
+pub fn take_away(graph: &Graph, jobs: [bool; SLOTS]) -> Taken
     requires { get_or jobs 0 false ≡ false }
-    ensures left_after { left_of result.left ≡ stuck (edges_of graph.entry) (left_of jobs) }
-    ensures placed_after { (take result.count result.placed ≡ order_of (edges_of graph.entry) (left_of jobs)) × (result.count ≡ length (order_of (edges_of graph.entry) (left_of jobs))) }
-    ensures known { Known (edges_of graph.entry) result.left result.predecessors slots }
+    ensures left_after { left_of result.left ≡ stuck (edges_of graph.now) (left_of jobs) }
+    ensures placed_after { (take result.count result.placed ≡ order_of (edges_of graph.now) (left_of jobs)) × (result.count ≡ length (order_of (edges_of graph.now) (left_of jobs))) }
+    ensures known { Known (edges_of graph.now) result.left result.predecessors slots }
 {
     let mut taken = Taken {
         left: jobs,

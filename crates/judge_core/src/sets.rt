@@ -20,7 +20,6 @@ fn set_key(j: usize, kind: u8) -> usize
 }
 
 // For each job and kind, the cells of the lines that the job owns.
-#[tactic(auto, using(crate::proofs::Covering::covered_keep, crate::proofs::Covering::covered_more, crate::proofs::Covering::covered_none))]
 pub fn cells_of(history: Faultless, owners: &[u8; JUDGED_LINES]) -> [u64; KIND_SETS]
     ensures { Covered history.entry.kept.codes.now history.entry.kept.cells.now owners.now history.entry.n result }
 {
@@ -54,7 +53,7 @@ pub fn last_key(j: usize, kind: u8, cell: u8) -> usize
     requires { (j < slots) × (kind < 4) × (cell < 64) }
     ensures { (result ≡ last_key j kind cell) × (result < keys) }
 {
-    (usize::from(cell) * SLOTS + j) * 4 + usize::from(kind)
+    usize::from(cell) * (SLOTS * 4) + j * 4 + usize::from(kind)
 }
 
 // One more than each job's last line of each kind (and of any kind) on each cell; 0 if there is none. So one comparison tells whether there is one that stands late enough.

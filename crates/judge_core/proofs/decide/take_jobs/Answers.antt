@@ -3,7 +3,7 @@
 use Rattle.std.proofs.Common.{ap, length, ◌∙◌}
 use Rattle.judge_core.proofs.JobFlags.{took}
 use Rattle.judge_core.proofs.Placing.{parted, part_is}
-use Rattle.judge_core.proofs.Assembled.{starts_fit, starts_spaced, edges_agree, none_zero, rest_same, known_same}
+use Rattle.judge_core.proofs.Assembled.{starts_fit, starts_spaced, edges_agree, rest_same, known_same}
 use Rattle.judge_core.proofs.SameEdges.{order_same}
 use Rattle.judge_core.proofs.Workings.{acting, worked}
 use Rattle.judge_core.proofs.decide.take_jobs.Goals as goal
@@ -22,9 +22,6 @@ invariant_of-graph c =
     record {
       worked = worked _ _ _ _ _ (acting _ _ _ _ _ _ few c.committed_jobs-jobs.ensures.bytes c.args.history.celled c.owners-owner.ensures) _ c.cells_of-sets.ensures _ _ _ (parted _ _ _ _ spaced' grouped') (part_is _ _ _ _ spaced' grouped') c.last_lines-lasts.ensures;
     }
-
-pub take_away-requires : goal.take_away-requires
-take_away-requires c = none_zero _ _ _ _ c.committed_jobs-jobs.ensures.bytes c.committed_jobs-jobs.ensures.value
 
 pub returns : goal.returns
 returns c =
