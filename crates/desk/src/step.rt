@@ -62,7 +62,8 @@ fn status_retried(d: Desk, job: u32) -> [u8; PLACES]
     d.retry(job).status
 }
 
-// One step by letter, job and cell, on the desk's fields, each lent and changed in place.
+// One step by letter, job and cell, on the desk's fields, each lent and changed in place: a caller in C lends the six fields,
+// and to copy them into a whole desk and out again would cost more than the step.
 // The woken places go into the first places of a lent list, and the result tells how many there are.
 #[tactic(auto, using(crate::proofs::Performed::begin_place, crate::proofs::Performed::end_place, crate::proofs::Performed::stay_spot, crate::proofs::Performed::take_spot))]
 pub fn step_for(

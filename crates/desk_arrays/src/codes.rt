@@ -1,4 +1,4 @@
-// The codes for a status and for what was asked, as the desk's arrays hold them.
+// The codes for a status and for what was asked, as the desk's arrays hold them: bytes, since a caller in C keeps the desk and lends these arrays.
 ghost use Rattle.std.specs.Prelude.{◌≡◌};
 ghost use Rattle.desk_arrays.specs.Codes.{ask_code, ask_of};
 
@@ -12,7 +12,7 @@ pub const WAITING: u8 = 2;
 
 pub const SENT_BACK: u8 = 3;
 
-// The code of what was asked.
+// The code of what was asked. A `From` cannot stand here: neither `Ask` nor `u8` is of this crate.
 pub fn ask_code(a: Ask) -> u8
     ensures { result ≡ ask_code a }
 {

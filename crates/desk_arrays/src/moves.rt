@@ -29,7 +29,7 @@ pub enum Move {
     Retry,
 }
 
-// The place of a job, and what the job is doing.
+// The place of a job, and what the job is doing. One that is not open is free, which is one of the four things that `code` tells, so this is no `Option`.
 #[derive(Clone, Copy)]
 pub struct Found {
     pub place: usize,

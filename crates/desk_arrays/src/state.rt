@@ -15,7 +15,7 @@ pub const ROWS: usize = CELLS as usize;
 pub const SPOTS: usize = ROWS * PLACES;
 
 // The desk: the next number; for each place the job's number (0 if the place is free), what the job is doing and what it waits for;
-// and for each cell and place the mode held.
+// and for each cell and place the mode held. What a job is doing, what it asked and the mode are numbers: a caller in C lends these arrays.
 #[derive(Clone, Copy)]
 pub struct Desk {
     pub next: u64,

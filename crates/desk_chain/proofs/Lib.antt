@@ -1,6 +1,5 @@
 pub mod Looks
 pub mod Filling
-pub mod Finding
 pub mod Answering
 pub mod NextTied
 pub mod ChainTied

@@ -29,7 +29,7 @@ fn holds_above(b: Board, c: usize, age: u32, q: usize) -> bool
 }
 
 // The place of the youngest holder of the cell that is younger than the job, or 32; this leaves out the job's own hold.
-#[tactic(auto, unfolding(crate::specs::Chains::holder_above), using(crate::proofs::Finding::holder_newer, crate::proofs::Finding::holder_same))]
+#[tactic(auto, unfolding(crate::specs::Chains::holder_above))]
 fn holder_above(b: Board, c: usize, job: u32) -> usize
     requires { c < cells }
     ensures { result ≡ holder_above b.entry.number.now b.entry.held.now c job places }
@@ -120,7 +120,7 @@ fn waits_within(b: Board, last: u32, least: u64, q: usize) -> bool
 }
 
 // The place of the waiter with the smallest number above `last`, or 32.
-#[tactic(auto, unfolding(crate::specs::Chains::waiter_above), using(crate::proofs::Finding::waiter_newer, crate::proofs::Finding::waiter_same))]
+#[tactic(auto, unfolding(crate::specs::Chains::waiter_above))]
 fn waiter_above(b: Board, last: u32) -> usize
     ensures { result ≡ waiter_above b.entry.number.now b.entry.status.now last places }
 {

@@ -11,7 +11,6 @@ use Rattle.laws.specs.Choice.{by_test}
 use Rattle.std.specs.Bool.{MatchBool}
 use Rattle.desk_arrays.specs.Places.{all_below}
 use Rattle.desk_arrays.proofs.EveryPlace.{each_all}
-use Rattle.desk_plan.proofs.Tests.{and_fails}
 
 -- of no place it holds
 pub all_none : (f : ℕ → Bool) → all_below f 0 ≡ true
@@ -23,17 +22,13 @@ pub all_more : (f : ℕ → Bool) (n : ℕ) → all_below f n ≡ true → f n �
 unfolding all_below
 all_more f n h e = rw (add-one, e, h)
 
--- a loop that has passed every place has shown it of all
-pub all_end : (f : ℕ → Bool) (q n : ℕ) → all_below f q ≡ true → q ≡ n → true ≡ all_below f n
-all_end f q n h e = sym (ap (all_below f) (sym e) ∙ h)
-
 -- it fails at one place below n: so it does not hold of all
 pub all_fails : (f : ℕ → Bool) (n q : ℕ) → q < n → f q ≡ false → all_below f n ≡ false
 unfolding all_below
 all_fails f zero q h e = absurd (omega arith)
 all_fails f (suc n) q h e =
     by_test (eqb q n) (λ t. rw (sym (ap f (eqb-true q n t)) ∙ e))
-    (λ t. let g : q ≡ n → ⊥ = eqb-false q n t in let l : q < n = omega arith in and_fails (f n) (all_fails f n q l e))
+    (λ t. let g : q ≡ n → ⊥ = eqb-false q n t in let l : q < n = omega arith in by_test (f n) (λ a. rw a (all_fails f n q l e)) (λ a. rw a))
 
 -- a loop that passes every place and keeps what it has found: at one place it fails
 pub all_failed : (f : ℕ → Bool) (n : ℕ) {y : Bool} → f n ≡ false → y ≡ false → y ≡ all_below f (n + 1)

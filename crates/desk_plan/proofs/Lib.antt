@@ -1,10 +1,8 @@
 pub mod Decides
 pub mod Every
 pub mod Fitting
-pub mod Finding
 pub mod Granting
 pub mod Open
-pub mod Tests
 pub mod Unheld
 pub mod Unique
 pub mod Wanted

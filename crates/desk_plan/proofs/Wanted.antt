@@ -9,7 +9,7 @@ use native.Mathlib.Omega.{arith}
 use lib.Dec.{eqb}
 use lib.ListN.{length, get_or, set, length-set, length-replicate}
 use lib.Seq.{set_out, get_or-set_same, get_or-set_other}
-use borrow.Author.Tests.{eqb-true, eqb-false, eq-eqb, ne_eqb}
+use borrow.Author.Tests.{eqb-true, eqb-false, eq-eqb}
 use Rattle.laws.specs.Choice.{by_test, not_both}
 use Rattle.desk_arrays.specs.Codes.{waiting_code}
 use Rattle.desk_arrays.specs.Places.{waits_at}
@@ -33,11 +33,6 @@ module _ (status cell : List ℕ) where
     -- a number that is no cell's marks nothing
     pub wanted_outside : {c : ℕ} → get_or status q 0 ≡ waiting_code → c ≡ get_or cell q 0 → 64 ≤ c → y ≡ x → y ≡ wanted status cell (q + 1)
     wanted_outside {c} h e l g = wanted_marked h e (g ∙ sym (set_out x c true (omega (arith, ap length so_far, wanted_length q))))
-
-    -- a place that does not wait marks nothing
-    pub wanted_unmarked : (get_or status q 0 ≡ waiting_code → ⊥) → y ≡ x → y ≡ wanted status cell (q + 1)
-    unfolding wanted
-    wanted_unmarked h g = rw (add-one, ne_eqb _ _ h, ← so_far) g
 
   -- a cell that is not marked was not before, and the last place does not wait for it
   unmarked : (c n : ℕ) → c < 64 → get_or (wanted status cell (suc n)) c false ≡ false → (get_or (wanted status cell n) c false ≡ false) × (waits_at status cell c n ≡ false)

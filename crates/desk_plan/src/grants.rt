@@ -27,7 +27,7 @@ pub fn none_waits(status: &[u8; PLACES]) -> bool
 }
 
 // The cells with waiters.
-#[tactic(auto, unfolding(crate::specs::Grants::wanted), using(crate::proofs::Wanted::wanted_marked, crate::proofs::Wanted::wanted_outside, crate::proofs::Wanted::wanted_unmarked))]
+#[tactic(auto, unfolding(crate::specs::Grants::wanted), using(crate::proofs::Wanted::wanted_outside))]
 pub fn wanted_cells(status: &[u8; PLACES], cell: &[u8; PLACES]) -> [bool; ROWS]
     ensures { result ≡ wanted status.now cell.now places }
 {

@@ -30,7 +30,7 @@ fn grants_at(held: &[u8; SPOTS], c: usize, p: usize, m: Mode, q: usize) -> bool
 
 // Whether the mode agrees with what every other place holds on the cell.
 // A loop, where the tests below are made by `all`: of a closure that holds a mode the check does not prove what `all` returns.
-#[tactic(auto, unfolding(desk_arrays::specs::Places::agrees_at), using(crate::proofs::Every::all_end, crate::proofs::Every::all_more, crate::proofs::Every::all_none))]
+#[tactic(auto, unfolding(desk_arrays::specs::Places::agrees_at), using(crate::proofs::Every::all_more, crate::proofs::Every::all_none))]
 pub fn agrees(held: &[u8; SPOTS], c: usize, p: usize, m: Mode) -> bool
     requires { c < cells }
     ensures { result ≡ agrees_at held.now c p m }
@@ -84,7 +84,7 @@ pub fn older_than_holders(b: Board, c: usize, p: usize, job: u32) -> bool
 }
 
 // Whether the place waits for the cell; the cell is tested first, since few places have it.
-#[tactic(auto, unfolding(desk_arrays::specs::Places::waits_at), using(crate::proofs::Tests::and_fails, crate::proofs::Tests::and_holds))]
+#[tactic(auto, unfolding(desk_arrays::specs::Places::waits_at))]
 pub fn waits_for(b: Board, c: usize, q: usize) -> bool
     requires { q < places }
     ensures { result ≡ waits_at b.entry.status.now b.entry.cell.now c q }
@@ -122,7 +122,7 @@ fn number_at(number: &[u32; PLACES], p: usize) -> u32
 
 // The place of the youngest job waiting for the cell (the front of its queue), or 32.
 // The number of the best place so far stands in a variable: to read it anew at each waiter made a step slower by a twentieth.
-#[tactic(auto, unfolding(desk_arrays::specs::Places::youngest), using(crate::proofs::Finding::front_newer, crate::proofs::Finding::front_older, crate::proofs::Finding::front_other))]
+#[tactic(auto, unfolding(desk_arrays::specs::Places::youngest))]
 pub fn front_of(b: Board, c: usize) -> usize
     ensures { result ≡ youngest b.entry.number.now b.entry.status.now b.entry.cell.now c places }
 {

@@ -17,7 +17,7 @@ use terms::limits::{CELLS, PLACES};
 use terms::refusals::Refusal;
 
 // Where a job stands, and what the job is doing; nothing, for 0 and for a number at no place.
-#[tactic(auto, unfolding(desk_arrays::specs::Moves::found_at, desk_arrays::specs::Moves::status_of), using(crate::proofs::Open::nowhere_free))]
+#[tactic(auto, unfolding(desk_arrays::specs::Moves::found_at, desk_arrays::specs::Moves::status_of))]
 pub fn find(b: Board, job: u32) -> Found
     ensures found { result ≡ found_at b.entry.number.now b.entry.status.now job }
     ensures inside { 0 < result.code → result.place < places }
