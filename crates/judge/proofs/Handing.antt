@@ -1,6 +1,6 @@
 -- From the scan and the decision to the judgement: a short buffer, a faultless text, a faulty line.
 -- Assumes nothing.
-use Rattle.std.specs.Prelude.{Option, None, Some}
+use Rattle.std.specs.Prelude.{Option, None, Some, Result, Ok, Err}
 use Prim.Native.Nat.{ℕ, ◌+◌, ◌-◌, ◌≤◌, ◌<◌}
 use mathlib.Core.Path.{◌≡◌, refl, sym, ap, ◌∙◌, subst}
 use mathlib.Core.List.{List, []}
@@ -20,8 +20,8 @@ use Rattle.judge_rules.specs.Judged.{Finding, orderly, knotted, finding_of}
 use Rattle.judge_rules.specs.Arrays.{history_by}
 use Rattle.judge_rules.specs.HistoryText.{readings_of, first_faulty}
 use Rattle.judge_rules.specs.Judgement.{Judgement, say_finding, say_history, say_lines, judgement_of, line_from}
-use Rattle.judge.specs.declared.scan.Scanned.{Scanned}
-use Rattle.judge.specs.declared.scan.Scanned.TheVariants.{Faultless, Faulty}
+use Rattle.judge.specs.declared.lines.KeptLines.{KeptLines}
+use Rattle.judge.specs.declared.scan.Faulty.{Faulty}
 use Rattle.judge.specs.declared.entry.Judged.{Judged}
 use Rattle.judge.specs.Scanned.{Clean, Spoilt, ScannedAs}
 use Rattle.judge.specs.Judged.{Small, JudgedAs, line_place}
@@ -68,7 +68,7 @@ spoilt_judgement text buffer number why from to h s =
     lines_judgement text buffer h ∙ rw (s.first, s.place)
 
 -- the judge finds a short buffer
-pub judged_short : (text buffer : List ℕ) → length buffer < judged_jobs → JudgedAs text buffer buffer (record { said = No 0 ShortOrder; from = 0; to = 0 })
+pub judged_short : (text buffer : List ℕ) → length buffer < judged_jobs → JudgedAs text buffer buffer (record { said = No 0 ShortOrder; place = record { start = 0; end = 0 } })
 unfolding line_from joined
 judged_short text buffer h =
     let e = short_judgement text buffer h in
@@ -81,14 +81,14 @@ judged_short text buffer h =
       place = rw e;
     }
 
-module _ (text codes jobs cells buffer : List ℕ) (x : Scanned) (h : judged_jobs ≤ length buffer) (s : ScannedAs text codes jobs cells x) where
+module _ (text : List ℕ) (lines : KeptLines) (buffer : List ℕ) (x : Result ℕ Faulty) (h : judged_jobs ≤ length buffer) (s : ScannedAs text lines x) where
   -- the judge decides a faultless text
-  pub judged_clean : (n : ℕ) (said : Verdict) (after : List ℕ) → x ≡ Faultless n →
-      said ≡ (said_of codes jobs cells buffer n).said → after ≡ (said_of codes jobs cells buffer n).order →
-      JudgedAs text buffer after (record { said = said; from = 0; to = 0 })
+  pub judged_clean : (n : ℕ) (said : Verdict) (after : List ℕ) → x ≡ Ok n →
+      said ≡ (said_of lines.codes lines.jobs lines.cells buffer n).said → after ≡ (said_of lines.codes lines.jobs lines.cells buffer n).order →
+      JudgedAs text buffer after (record { said = said; place = record { start = 0; end = 0 } })
   judged_clean n said after e p q =
-      let j = clean_judgement text codes jobs cells buffer n h (subst (ScannedAs text codes jobs cells) e s) in
-      let k = no_line text buffer (history_by codes jobs cells n) (dirty_of (history_by codes jobs cells n)) in
+      let j = clean_judgement text lines.codes lines.jobs lines.cells buffer n h (subst (ScannedAs text lines) e s) in
+      let k = no_line text buffer (history_by lines.codes lines.jobs lines.cells n) (dirty_of (history_by lines.codes lines.jobs lines.cells n)) in
       record {
         said_is = rw j p;
         order_is = rw j q;
@@ -99,18 +99,17 @@ module _ (text codes jobs cells buffer : List ℕ) (x : Scanned) (h : judged_job
       }
 
   -- the judge finds a faulty line
-  pub judged_faulty : (number : ℕ) (why : Refusal) (from to : ℕ) → x ≡ Faulty number why from to →
-      JudgedAs text buffer buffer (record { said = No number why; from = from; to = to })
+  pub judged_faulty : (f : Faulty) → x ≡ Err f → JudgedAs text buffer buffer (record { said = No f.line f.why; place = f.place })
   unfolding line_from
-  judged_faulty number why from to e =
-      let f : Spoilt text number why from to = subst (ScannedAs text codes jobs cells) e s in
-      let j = spoilt_judgement text buffer number why from to h f in
+  judged_faulty f e =
+      let found : Spoilt text f.line f.why f.place.start f.place.end = subst (ScannedAs text lines) e s in
+      let j = spoilt_judgement text buffer f.line f.why f.place.start f.place.end h found in
       record {
         said_is = rw j;
         order_is = rw j;
-        ordered = f.ordered;
-        within = f.within;
-        starts = f.behind;
+        ordered = found.ordered;
+        within = found.within;
+        starts = found.behind;
         place = rw j;
       }
 
@@ -120,17 +119,17 @@ judged_small text before after r j = subst Small (sym j.said_is) (judgement_smal
 
 -- the part that is cut at the place found stands where the line handed back starts
 pub part_starts : (place : ℕ × ℕ) (text before after : List ℕ) (r : Judged) → JudgedAs text before after r →
-    (place.0, r.from + place.1) ≡ line_place place text before
+    (place.0, r.place.start + place.1) ≡ line_place place text before
 part_starts place text before after r j =
-    let e : r.from ≡ line_from text (judgement_of text before).said = j.starts ∙ ap (line_from text) j.said_is in
+    let e : r.place.start ≡ line_from text (judgement_of text before).said = j.starts ∙ ap (line_from text) j.said_is in
     ap (λ (o : ℕ). (place.0, o)) (omega arith)
 
 -- what is told of the line's place is where the line handed back starts, and how many bytes it has
 pub line_told : (text before after : List ℕ) (r : Judged) → JudgedAs text before after r →
-    (r.from ≡ line_from text (judgement_of text before).said) × (r.to - r.from ≡ length (judgement_of text before).line)
+    (r.place.start ≡ line_from text (judgement_of text before).said) × (r.place.end - r.place.start ≡ length (judgement_of text before).line)
 line_told text before after r j =
     let ordered = j.ordered in
     let within = j.within in
-    let rest = length-drop r.from text in
-    let long : length (part text r.from r.to) ≡ r.to - r.from = length-take-le (r.to - r.from) (drop r.from text) (omega arith) in
+    let rest = length-drop r.place.start text in
+    let long : length (part text r.place.start r.place.end) ≡ r.place.end - r.place.start = length-take-le (r.place.end - r.place.start) (drop r.place.start text) (omega arith) in
     (j.starts ∙ ap (line_from text) j.said_is, sym long ∙ ap length j.place)

@@ -1,7 +1,7 @@
 -- A line that is kept: the kept numbers say what the line says, and the flags after it say which jobs have ended.
 -- Assumes nothing.
 use Prim.Native.Nat.{ℕ, ◌≤◌, ◌<◌}
-use mathlib.Core.Path.{◌≡◌, refl, sym, ◌∙◌}
+use mathlib.Core.Path.{◌≡◌, refl, sym, ap, ◌∙◌}
 use mathlib.Core.Bool.{Bool, true, false, ◌||◌}
 use mathlib.Core.List.{List, [], ◌∷◌}
 use native.Mathlib.Omega.{arith}
@@ -19,48 +19,49 @@ use Rattle.terms.specs.declared.refusals.Refusal.{Refusal}
 use Rattle.terms.specs.Letters.{of_histories}
 use Rattle.terms.specs.Limits.{cells, judged_jobs, judged_lines}
 use Rattle.conflict.proofs.Clauses.{records_read, records_write, records_increment}
+use Rattle.text_rules.specs.declared.Line.{Line}
 use Rattle.text_rules.specs.Lines.{read_line, Reading, good}
 use Rattle.text_rules.proofs.GoodLine.{good_is_record}
 use Rattle.judge_rules.specs.HistoryText.{ended_after, event_of}
 use Rattle.judge_rules.specs.Arrays.{event_by}
-use Rattle.judge.specs.declared.scan.Looked.TheVariants.{Kept, Refused}
-use Rattle.judge.specs.Looked.{code_of, ends_job, looked_good, looked_read, looked_at}
+use Rattle.judge.specs.declared.lines.KeptLine.{KeptLine}
+use Rattle.judge.specs.Looked.{Looked, code_of, ends_job, looked_good, looked_read, looked_at}
 use Rattle.judge.proofs.Flags.{Flagged}
+use Rattle.judge.proofs.Looking.{job_within}
 
 -- what is refused is not kept
-not_kept : {P : Type 0} {why : Refusal} {code job cell : ℕ} → Refused why ≡ Kept code job cell → P
-not_kept {code = code} {job = job} {cell = cell} e = let z : ◌≡◌ {A = ℕ} 0 1 = cc in absurd (omega arith)
+not_kept : {P : Type 0} {why : Refusal} {kept : KeptLine} → Err why ≡ Ok kept → P
+not_kept e = absurd (cc)
 
 -- what a good line that is kept tells
-record GoodKept (flags : List Bool) (l : Letter) (given-job given-cell code job cell : ℕ) : Type 0 where
-  number : code_of l ≡ code
-  job_is : given-job ≡ job
-  cell_is : given-cell ≡ cell
-  some_job : 0 < job
-  small : job < 256
-  free : get_or flags job false ≡ false
+record GoodKept (flags : List Bool) (good : Line) (kept : KeptLine) : Type 0 where
+  number : code_of good.letter ≡ kept.code
+  job_is : good.job ≡ kept.job
+  cell_is : good.cell ≡ kept.cell
+  some_job : 0 < kept.job
+  small : kept.job < 256
+  free : get_or flags kept.job false ≡ false
 
 -- a good line is kept with its job and cell, and its job has not ended
-good_kept : (flags : List Bool) (l : Letter) (j x code job cell : ℕ) → looked_good flags l j x ≡ Kept code job cell → GoodKept flags l j x code job cell
+good_kept : (flags : List Bool) (good : Line) (kept : KeptLine) → looked_good flags good ≡ Ok kept → GoodKept flags good kept
 unfolding looked_good
-good_kept flags l j x code job cell e =
-    by_test (eqb j 0) (λ t. not_kept (rw t at e))
-    (λ f. by_test (ltb judged_jobs j) (λ t. not_kept (rw (f, t) at e))
-    (λ g. by_test (leb cells x) (λ t. not_kept (rw (f, g, t) at e))
-    (λ k. by_test (get_or flags j false) (λ t. not_kept (rw (f, g, k, t) at e))
+good_kept flags good kept e =
+    by_test (eqb good.job 0 || ltb judged_jobs good.job) (λ t. not_kept (rw t at e))
+    (λ f. by_test (leb cells good.cell) (λ t. not_kept (rw (f, t) at e))
+    (λ k. by_test (get_or flags good.job false) (λ t. not_kept (rw (f, k, t) at e))
     (λ m.
-    let h : Kept (code_of l) j x ≡ Kept code job cell = rw (f, g, k, m) at e in
-    let same_job : j ≡ job = cc in
-    let no_zero : j ≡ 0 → ⊥ = eqb-false j 0 f in
-    let most : j ≤ 255 = ltb-false judged_jobs j g in
+    let h : ◌≡◌ {A = Looked} (Ok (record { code = code_of good.letter; job = good.job; cell = good.cell })) (Ok kept) = rw (f, k, m) at e in
+    let same : ◌≡◌ {A = KeptLine} (record { code = code_of good.letter; job = good.job; cell = good.cell }) kept = cc in
+    let same_job : good.job ≡ kept.job = ap (λ l. l.job) same in
+    let w = job_within good.job f in
     record {
-      number = cc;
+      number = ap (λ l. l.code) same;
       job_is = same_job;
-      cell_is = cc;
+      cell_is = ap (λ l. l.cell) same;
       some_job = omega arith;
       small = omega arith;
       free = rw (← same_job) m;
-    }))))
+    })))
 
 -- what a letter of a history says is what its number stands for
 letter_event : (l : Letter) (job cell : ℕ) → of_histories l ≡ true → event_of (good l job cell) ≡ event_by (code_of l) job cell ∷ []
@@ -103,38 +104,35 @@ flag_put flags job b ended long small free a j h =
     rw (f, get_or-set_other flags job j b false other, a j h) (by_test b (λ q. rw q) (λ q. rw q)))
 
 -- what a line that is kept tells
-pub record KeptAs (n : ℕ) (flags : List Bool) (ended line : List ℕ) (code job cell : ℕ) : Type 0 where
+pub record KeptAs (n : ℕ) (flags : List Bool) (ended line : List ℕ) (kept : KeptLine) : Type 0 where
   pub within : n ≤ judged_lines
-  pub event : event_of (read_line of_histories line) ≡ event_by code job cell ∷ []
-  pub some_job : 0 < job
-  pub small : job < 256
-  pub flagged : Flagged (set flags job (ends_job code)) (ended_after ended (read_line of_histories line))
+  pub event : event_of (read_line of_histories line) ≡ event_by kept.code kept.job kept.cell ∷ []
+  pub some_job : 0 < kept.job
+  pub small : kept.job < 256
+  pub flagged : Flagged (set flags kept.job (ends_job kept.code)) (ended_after ended (read_line of_histories line))
 
--- a good line that is kept
-good_kept_as : (n : ℕ) (flags : List Bool) (ended line : List ℕ) (code job cell : ℕ) (l : Letter) (j x : ℕ) → length flags ≡ 256 → Flagged flags ended →
-    n ≤ judged_lines → read_line of_histories line ≡ good l j x → GoodKept flags l j x code job cell → KeptAs n flags ended line code job cell
-good_kept_as n flags ended line code job cell l j x long a most e k =
-    record {
-      within = most;
-      event = rw (e, letter_event l j x (good_is_record of_histories line l j x e).1, k.number, k.job_is, k.cell_is);
-      some_job = k.some_job;
-      small = k.small;
-      flagged = λ i h.
-          flag_put flags job (ends_job code) ended long k.small k.free a i h ∙ rw (e, letter_ends l ended j x i, k.number, k.job_is);
-    }
+module _ (n : ℕ) (flags : List Bool) (ended line : List ℕ) (kept : KeptLine) (long : length flags ≡ 256) (a : Flagged flags ended) where
+  -- a good line that is kept
+  good_kept_as : (its : Line) → n ≤ judged_lines → read_line of_histories line ≡ Ok its → GoodKept flags its kept → KeptAs n flags ended line kept
+  good_kept_as its most e k =
+      record {
+        within = most;
+        event = rw (e, letter_event its.letter its.job its.cell (good_is_record of_histories line its.letter its.job its.cell e).1, k.number, k.job_is, k.cell_is);
+        some_job = k.some_job;
+        small = k.small;
+        flagged = λ i h.
+            flag_put flags kept.job (ends_job kept.code) ended long k.small k.free a i h ∙ rw (e, letter_ends its.letter ended its.job its.cell i, k.number, k.job_is);
+      }
 
--- a line as it reads that is kept
-read_kept : (n : ℕ) (flags : List Bool) (ended line : List ℕ) (code job cell : ℕ) (r : Reading) → length flags ≡ 256 → Flagged flags ended →
-    n ≤ judged_lines → read_line of_histories line ≡ r → looked_read flags r ≡ Kept code job cell → KeptAs n flags ended line code job cell
-unfolding looked_read
-read_kept n flags ended line code job cell (Ok its) long a most g e =
-    good_kept_as n flags ended line code job cell its.letter its.job its.cell long a most g (good_kept flags its.letter its.job its.cell code job cell e)
-read_kept n flags ended line code job cell (Err at) long a most g e = not_kept e
+  -- a line as it reads that is kept
+  read_kept : (r : Reading) → n ≤ judged_lines → read_line of_histories line ≡ r → looked_read flags r ≡ Ok kept → KeptAs n flags ended line kept
+  unfolding looked_read
+  read_kept (Ok its) most g e = good_kept_as its most g (good_kept flags its kept e)
+  read_kept (Err at) most g e = not_kept e
 
--- a kept line says what is kept of it, and the flags after it say which jobs have ended
-pub kept_as : (n : ℕ) (flags : List Bool) (ended line : List ℕ) (code job cell : ℕ) → length flags ≡ 256 → Flagged flags ended →
-    looked_at n flags (read_line of_histories line) ≡ Kept code job cell → KeptAs n flags ended line code job cell
-unfolding looked_at
-kept_as n flags ended line code job cell long a e =
-    by_test (ltb judged_lines n) (λ t. not_kept (rw t at e))
-    (λ f. read_kept n flags ended line code job cell (read_line of_histories line) long a (ltb-false judged_lines n f) refl (rw f at e))
+  -- a kept line says what is kept of it, and the flags after it say which jobs have ended
+  pub kept_as : looked_at n flags (read_line of_histories line) ≡ Ok kept → KeptAs n flags ended line kept
+  unfolding looked_at
+  kept_as e =
+      by_test (ltb judged_lines n) (λ t. not_kept (rw t at e))
+      (λ f. read_kept (read_line of_histories line) (ltb-false judged_lines n f) refl (rw f at e))

@@ -17,10 +17,10 @@ Small (No line why) = line < 2 ^ 32
 pub record JudgedAs (text before after : List ℕ) (r : Judged) : Type 0 where
   pub said_is : r.said ≡ (judgement_of text before).said
   pub order_is : after ≡ (judgement_of text before).order
-  pub ordered : r.from ≤ r.to
-  pub within : r.to ≤ length text
-  pub starts : r.from ≡ line_from text r.said
-  pub place : part text r.from r.to ≡ (judgement_of text before).line
+  pub ordered : r.place.start ≤ r.place.end
+  pub within : r.place.end ≤ length text
+  pub starts : r.place.start ≡ line_from text r.said
+  pub place : part text r.place.start r.place.end ≡ (judgement_of text before).line
 
 -- where in memory the part handed back starts: in the lent text's block, as far from its first byte as the line stands in the text (01, Lines)
 abbrev pub line_place : ℕ × ℕ → List ℕ → List ℕ → ℕ × ℕ

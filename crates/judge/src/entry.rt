@@ -3,18 +3,19 @@ ghost use Rattle.std.specs.Prelude.{◌≡◌, length};
 ghost use Rattle.judge_rules.specs.Judgement.{judgement_of, line_from, in_numbers};
 ghost use Rattle.judge.specs.Judged.{Small, JudgedAs, line_place};
 
-use crate::scan::{Scanned, scan};
+use crate::lines::KeptLines;
+use crate::scan::{Faulty, scan};
 use judge_core::kept::judge_kept;
 use judge_rules::verdict::Verdict;
+use std::ops::Range;
 use terms::limits::{JUDGED_JOBS, JUDGED_LINES};
 use terms::refusals::{Refusal, field_of};
 
-// What is said, and where in the text the line handed back stands: at the text's start and empty, if there is none.
-#[derive(Clone, Copy)]
+// What is said, and where in the text the line handed back stands: an empty place at the text's start, if there is none.
+#[derive(Drop)]
 struct Judged {
     said: Verdict,
-    from: usize,
-    to: usize,
+    place: Range<usize>,
 }
 
 // Where the faulty line stands in the text: the place of its first byte, and its length without the newline; 0 and 0 if no line is faulty.
@@ -29,37 +30,22 @@ fn judgement(text: &[u8], order: &mut [u8]) -> Judged
     ensures { JudgedAs text.now order.old order.new result }
 {
     if order.len() < JUDGED_JOBS {
-        return Judged {
-            said: Verdict::No {
-                line: 0,
-                why: Refusal::ShortOrder,
-            },
-            from: 0,
-            to: 0,
+        let said = Verdict::No {
+            line: 0,
+            why: Refusal::ShortOrder,
         };
+        return Judged { said, place: 0..0 };
     }
-    let mut codes = [0u8; JUDGED_LINES];
-    let mut jobs = [0u8; JUDGED_LINES];
-    let mut cells = [0u8; JUDGED_LINES];
-    match scan(text, &mut codes, &mut jobs, &mut cells) {
-        Scanned::Faultless(n) => {
-            let said = judge_kept(&codes, &jobs, &cells, n, order);
-            Judged {
-                said,
-                from: 0,
-                to: 0,
-            }
+    let mut lines = KeptLines::none();
+    match scan(text, &mut lines) {
+        Ok(n) => {
+            let said = judge_kept(&lines.codes, &lines.jobs, &lines.cells, n, order);
+            Judged { said, place: 0..0 }
         }
-        Scanned::Faulty {
-            line,
-            why,
-            from,
-            to,
-        } => Judged {
-            said: Verdict::No { line, why },
-            from,
-            to,
-        },
+        Err(Faulty { line, why, place }) => {
+            let said = Verdict::No { line, why };
+            Judged { said, place }
+        }
     }
 }
 
@@ -72,8 +58,15 @@ fn in_numbers(said: Verdict) -> [u32; 4]
     match said {
         Verdict::Orderly(n) => [0, n as u32, 0, 0],
         Verdict::Knot(n) => [1, n as u32, 0, 0],
-        Verdict::Dirty { reader, writer } => [3, reader as u32, writer as u32, 0],
-        Verdict::No { line, why } => [2, u8::from(why) as u32, line as u32, field_of(why) as u32],
+        Verdict::Dirty { reader, writer } => [3, u32::from(reader), u32::from(writer), 0],
+        Verdict::No { line, why } => {
+            [
+                2,
+                u32::from(u8::from(why)),
+                line as u32,
+                u32::from(field_of(why)),
+            ]
+        }
     }
 }
 
@@ -82,8 +75,7 @@ pub fn judge_text(text: &[u8], order: &mut [u8]) -> Verdict
     ensures said { result ≡ (judgement_of text.now order.old).said }
     ensures order { order.new ≡ (judgement_of text.now order.old).order }
 {
-    let found = judgement(text, order);
-    found.said
+    judgement(text, order).said
 }
 
 // The same with the verdict in four numbers. The faulty line is handed back as the part of the text where it stands, without its newline; if none is faulty, an empty part at the text's start.
@@ -93,12 +85,9 @@ pub fn judge<'a>(text: &'a [u8], order: &mut [u8], answer: &mut [u32; 4]) -> &'a
     ensures order { order.new ≡ (judgement_of text.now order.old).order }
     ensures answer { answer.new ≡ in_numbers (judgement_of text.now order.old).said }
 {
-    let found = judgement(text, order);
-    let said = found.said;
-    let from = found.from;
-    let to = found.to;
+    let Judged { said, place } = judgement(text, order);
     *answer = in_numbers(said);
-    &text[from..to]
+    &text[place]
 }
 
 // The same for callers that cannot take a part of a text: tells where in the text the faulty line stands.
@@ -108,13 +97,10 @@ pub fn judge_at(text: &[u8], order: &mut [u8], answer: &mut [u32; 4]) -> LineAt
     ensures order { order.new ≡ (judgement_of text.now order.old).order }
     ensures answer { answer.new ≡ in_numbers (judgement_of text.now order.old).said }
 {
-    let found = judgement(text, order);
-    let said = found.said;
-    let from = found.from;
-    let to = found.to;
+    let Judged { said, place } = judgement(text, order);
     *answer = in_numbers(said);
     LineAt {
-        from,
-        length: to - from,
+        from: place.start,
+        length: place.len(),
     }
 }

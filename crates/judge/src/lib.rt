@@ -2,6 +2,7 @@
 #![tactic(auto)]
 
 pub mod entry;
+mod lines;
 mod scan;
 
 pub use entry::{judge, judge_at, judge_text};

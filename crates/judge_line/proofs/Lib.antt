@@ -1,3 +1,4 @@
+pub mod Fitting
 pub mod SpareRoom
 pub mod WordLines
 pub mod Saying

@@ -14,11 +14,7 @@ fn put_word(out: &mut [u8], at: usize, word: Word) -> usize
     requires { at + length (spelt word) ≤ length out.old }
     ensures { Wrote at result (spelt word) out.old out.new }
 {
-    let w = write_word(out, at, word);
-    match w {
-        Ok(next) => next,
-        Err(_) => at,
-    }
+    write_word(out, at, word).unwrap_or(at)
 }
 
 // Writes a further field that fits; returns the place after it.
@@ -26,11 +22,7 @@ fn put_field(out: &mut [u8], at: usize, n: u64) -> usize
     requires { at + length (tab ∷ decimal n) ≤ length out.old }
     ensures { Wrote at result (tab ∷ decimal n) out.old out.new }
 {
-    let w = write_field(out, at, n);
-    match w {
-        Ok(next) => next,
-        Err(_) => at,
-    }
+    write_field(out, at, n).unwrap_or(at)
 }
 
 // Writes the newline, which fits; returns the place after it.
@@ -38,11 +30,7 @@ fn put_end(out: &mut [u8], at: usize) -> usize
     requires { at < length out.old }
     ensures { Wrote at result (newline ∷ []) out.old out.new }
 {
-    let w = write_end(out, at);
-    match w {
-        Ok(next) => next,
-        Err(_) => at,
-    }
+    write_end(out, at).unwrap_or(at)
 }
 
 // Whether a field for each job fits; no sum here can wrap.
@@ -50,14 +38,12 @@ fn jobs_fit(jobs: &[u8], room: usize) -> bool
     ensures { result ≡ leb (length (tabbed jobs.now)) room }
 {
     let mut spare = room;
-    let mut i: usize = 0;
-    while i < jobs.len() {
-        let digits = width(jobs[i] as u64);
+    for job in jobs {
+        let digits = width(u64::from(*job));
         if spare <= digits {
             return false;
         }
         spare -= digits + 1;
-        i += 1;
     }
     true
 }
@@ -68,10 +54,8 @@ fn put_jobs(out: &mut [u8], at: usize, jobs: &[u8]) -> usize
     ensures { Wrote at result (tabbed jobs.now) out.old out.new }
 {
     let mut next = at;
-    let mut i: usize = 0;
-    while i < jobs.len() {
-        next = put_field(out, next, jobs[i] as u64);
-        i += 1;
+    for job in jobs {
+        next = put_field(out, next, u64::from(*job));
     }
     next
 }
@@ -85,13 +69,12 @@ pub fn write_jobs(out: &mut [u8], word: Word, jobs: &[u8]) -> Result<usize, Refu
     if room <= len {
         return Err(Refusal::NoRoom);
     }
-    if jobs_fit(jobs, room - len - 1) {
-        let a = put_word(out, 0, word);
-        let b = put_jobs(out, a, jobs);
-        Ok(put_end(out, b))
-    } else {
-        Err(Refusal::NoRoom)
+    if !jobs_fit(jobs, room - len - 1) {
+        return Err(Refusal::NoRoom);
     }
+    let a = put_word(out, 0, word);
+    let b = put_jobs(out, a, jobs);
+    Ok(put_end(out, b))
 }
 
 // How many bytes an optional number takes: a tab and its digits, or 0 bytes if the number is 0.

@@ -13,7 +13,7 @@ use terms::{Refusal, Word, field_of};
 fn first_places(order: &[u8], n: usize) -> &[u8]
     ensures { result.now ≡ take n order.now }
 {
-    if n < order.len() { &order[0..n] } else { order }
+    &order[..n.min(order.len())]
 }
 
 // Writes the judge's verdict, with the jobs that it put into the order.
@@ -24,12 +24,10 @@ pub fn write_verdict(said: Verdict, order: &[u8], out: &mut [u8]) -> Result<usiz
         Verdict::Orderly(n) => write_jobs(out, Word::Orderly, first_places(order, n)),
         Verdict::Knot(n) => write_jobs(out, Word::Knot, first_places(order, n)),
         Verdict::Dirty { reader, writer } => write_jobs(out, Word::Dirty, &[reader, writer]),
-        Verdict::No { line, why } => write_no(
-            out,
-            line as u64,
-            u8::from(why) as u64,
-            field_of(why) as u64,
-        ),
+        Verdict::No { line, why } => {
+            let number = u64::from(u8::from(why));
+            write_no(out, line as u64, number, u64::from(field_of(why)))
+        }
     }
 }
 
@@ -38,7 +36,7 @@ pub fn verdict_line(text: &[u8], out: &mut [u8]) -> Result<usize, Refusal>
     ensures { (result ≡ told out.old 0 (verdict_of text.now)) × (out.new ≡ left out.old 0 (verdict_of text.now)) }
 {
     if text.len() > JUDGED_BYTES {
-        return write_no(out, 0, u8::from(Refusal::TooLong) as u64, 0);
+        return write_no(out, 0, u64::from(u8::from(Refusal::TooLong)), 0);
     }
     let mut order = [0u8; JUDGED_JOBS];
     let said = judge_text(text, &mut order);

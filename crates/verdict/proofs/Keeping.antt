@@ -16,26 +16,6 @@ use Rattle.judge_rules.specs.VerdictLine.{verdict_of}
 use Rattle.judge_line.proofs.LongTexts.{first_bytes}
 use Rattle.verdict.specs.Taking.{fitting, kept, Took, Judges}
 
--- one more byte of the chunk
-pub paste_more : (text : List ℕ) (before : ℕ) (chunk : List ℕ) (i len : ℕ) {now : List ℕ} → len < length text → i < length chunk → len ≡ before + i → now ≡ paste text before chunk i →
-    set now len (get_or chunk i 0) ≡ paste text before chunk (i + 1)
-paste_more text before chunk i len h k e f = rw (f, e, add-one i) (paste-suc text before chunk i 0 (omega arith) k)
-
--- the chunk is used up, or there is no more room
-pub all_fitted : (text : List ℕ) (before : ℕ) (chunk : List ℕ) (i : ℕ) → i ≤ length chunk → before + i ≤ length text → length chunk ≤ i → i ≡ fitting text before chunk
-unfolding fitting
-all_fitted text before chunk i h k l = omega arith
-
-pub room_used : (text : List ℕ) (before : ℕ) (chunk : List ℕ) (i : ℕ) → i ≤ length chunk → before ≤ length text → before + i ≤ length text → length text ≤ before + i → i ≡ fitting text before chunk
-unfolding fitting
-room_used text before chunk i h b k l = omega arith
-
--- so the chunk is kept
-pub all_kept : (text : List ℕ) (before : ℕ) (chunk : List ℕ) (i : ℕ) {len : ℕ} {now : List ℕ} → i ≡ fitting text before chunk → len ≡ before + i → now ≡ paste text before chunk i →
-    (len ≡ before + fitting text before chunk) × (now ≡ kept text before chunk)
-unfolding kept
-all_kept text before chunk i e l p = (l ∙ ap (λ n. before + n) e, p ∙ ap (paste text before chunk) e)
-
 -- putting bytes at a buffer's start and then others after them puts all of them there
 paste_on : (d r s : List ℕ) (k : ℕ) → length r + k ≤ length d → paste (paste d 0 r (length r)) (length r) s k ≡ paste d 0 (r ++ s) (length r + k)
 paste_on d r s k h = ap₂ (λ a b. a ++ take k s ++ b) front rest ∙ sym (ap₂ (λ a b. a ++ b) (take-append-add r s k) (ap (λ n. drop n d) (zero-add (length r + k))))
@@ -103,5 +83,5 @@ unfolding fitting kept
 took_length {buffer} t = sym (ap length t.holds ∙ length-paste buffer 0 t.read (fitting buffer 0 t.read) (omega arith) (omega arith))
 
 -- the line on what a buffer of 65,537 bytes holds is the line on all that was read
-pub took_judged : {text bytes : List ℕ} {len : ℕ} → length text ≡ judged_bytes + 1 → bytes ≡ verdict_of (take (len - 0) text) → Judges text len bytes
-took_judged {text} {len = len} l e buffer t = e ∙ ap verdict_of (ap (λ n. take n text) (sub-zero len) ∙ took_first t ∙ ap (λ n. take n t.read) (took_length t ∙ l)) ∙ first_bytes t.read
+pub took_judged : {text bytes : List ℕ} {len : ℕ} → length text ≡ judged_bytes + 1 → bytes ≡ verdict_of (take len text) → Judges text len bytes
+took_judged {text} {len = len} l e buffer t = e ∙ ap verdict_of (took_first t ∙ ap (λ n. take n t.read) (took_length t ∙ l)) ∙ first_bytes t.read

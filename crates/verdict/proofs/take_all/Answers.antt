@@ -5,9 +5,9 @@ use borrow.Author.Rules.{rules}
 use Rattle.verdict.proofs.Keeping.{took_more, took_within}
 use Rattle.verdict.proofs.take_all.Goals as goal
 
-pub loop-turns-preserved : goal.loop-turns-preserved
-loop-turns-preserved c =
-    let i = c.loop-turns.invariant in
+pub loop-len-preserved : goal.loop-len-preserved
+loop-len-preserved c =
+    let i = c.loop-len.invariant in
     let k = c.keep-len in
-    let t = took_more i.0 (omega arith) _ i.2 k.ensures.0 k.ensures.1 in
-    (t, omega (arith, took_within t), search rules, search rules)
+    let t = took_more i.0 (omega arith) _ i.1 k.ensures.0 k.ensures.1 in
+    (t, search rules)

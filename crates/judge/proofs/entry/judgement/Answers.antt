@@ -8,8 +8,8 @@ use Rattle.judge.proofs.entry.judgement.Goals as goal
 pub returns-then-order-lt-JUDGED_JOBS : goal.returns-then-order-lt-JUDGED_JOBS
 returns-then-order-lt-JUDGED_JOBS c = judged_short _ _ (omega arith)
 
-pub returns-in-Faultless : goal.returns-in-Faultless
-returns-in-Faultless c = search judged_kept
+pub returns-in-Ok : goal.returns-in-Ok
+returns-in-Ok c = search judged_kept
 
-pub returns-in-Faulty : goal.returns-in-Faulty
-returns-in-Faulty c = search judged_faulty
+pub returns-in-Err : goal.returns-in-Err
+returns-in-Err c = search judged_faulty

@@ -6,7 +6,7 @@ use Rattle.judge.proofs.Scanning.{Scanning}
 use Rattle.judge.proofs.scan.scan.Given as goal
 
 abbrev pub invariant-loop-from : goal.invariant-loop-from
-invariant-loop-from l = Scanning l.text l.codes l.jobs l.cells l.ended l.n l.from
+invariant-loop-from l = Scanning l.text l.lines l.ended l.n l.from
 
 abbrev pub decreases-loop-from : goal.decreases-loop-from
 decreases-loop-from l = length l.text - l.from

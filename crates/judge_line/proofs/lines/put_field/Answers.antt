@@ -1,10 +1,7 @@
 -- `judge_line::lines::put_field` meets its contract: there is room, so the writer does not refuse.
 -- Assumes nothing.
-use Rattle.text_rules.proofs.WriterLaws.{next_wrote, not_refused}
+use Rattle.judge_line.proofs.Fitting.{fitting_wrote}
 use Rattle.judge_line.proofs.lines.put_field.Goals as goal
 
-pub returns-in-Ok : goal.returns-in-Ok
-returns-in-Ok c = search next_wrote
-
-pub returns-in-Err : goal.returns-in-Err
-returns-in-Err c = not_refused _ _ _ c.write_field-w.ensures.0 c.in-Err.is c.requires
+pub returns : goal.returns
+returns c = fitting_wrote c.write_field.ensures.0 c.write_field.ensures.1 c.unwrap_or.ensures c.requires

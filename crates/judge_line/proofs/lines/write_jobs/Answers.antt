@@ -9,12 +9,12 @@ use Rattle.judge_line.proofs.lines.write_jobs.Goals as goal
 pub returns-then-room-len : goal.returns-then-room-len
 returns-then-room-len c = refused _ _ _ (word_too_long c.args.word _ _ _ (ap length c.spelled-len.ensures) c.if-room-len.true)
 
-pub returns-then-jobs_fit : goal.returns-then-jobs_fit
-returns-then-jobs_fit c =
+pub returns : goal.returns
+returns c =
     written (wrote_as (wrote_then (wrote_then c.put_word-a.ensures c.put_jobs-b.ensures) c.put_end.ensures) (word_line_is _ _))
 
-pub returns-else-jobs_fit : goal.returns-else-jobs_fit
-returns-else-jobs_fit c =
+pub returns-then-not-jobs_fit : goal.returns-then-not-jobs_fit
+returns-then-not-jobs_fit c =
     refused _ _ _
     (line_too_long c.args.word _ _ _ (ap length c.spelled-len.ensures)
-    c.if-room-len.false c.jobs_fit.ensures c.if-jobs_fit.false)
+    c.if-room-len.false c.jobs_fit.ensures c.if-not-jobs_fit.true)

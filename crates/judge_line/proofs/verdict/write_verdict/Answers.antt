@@ -1,5 +1,6 @@
 -- `judge_line::verdict::write_verdict` meets its contract: each verdict's line is written by its word.
 -- Assumes nothing.
+use Rattle.std.proofs.Common.{◌∙◌}
 use Rattle.judge_line.proofs.Saying.{says_orderly, says_knot, says_dirty, says_no}
 use Rattle.judge_line.proofs.verdict.write_verdict.Goals as goal
 
@@ -13,4 +14,4 @@ pub returns-in-Dirty : goal.returns-in-Dirty
 returns-in-Dirty c = says_dirty _ _ _ _ _ c.in-Dirty.is c.write_jobs-in-Dirty.ensures
 
 pub returns-in-No : goal.returns-in-No
-returns-in-No c = says_no _ _ _ _ _ _ _ c.in-No.is c.from.ensures c.field_of.ensures c.write_no.ensures
+returns-in-No c = says_no _ _ _ _ _ _ _ c.in-No.is (c.from-number.ensures ∙ c.from.ensures) (c.from-in-No.ensures ∙ c.field_of.ensures) c.write_no.ensures
