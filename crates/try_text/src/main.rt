@@ -14,7 +14,7 @@ const BUFFER: usize = 65_536;
 // The records of one line take fewer bytes than this, whatever its number.
 const ROOM: usize = 128;
 
-// The line under way, and the place in the output after the last record.
+// The line under way, and the place in the output after the last record. That the splitter keeps its sizes stands in clauses: as a ghost field it was no plainer, since a loop that changes the struct loses the field, and both loops here would state the fact again.
 #[derive(Clone, Copy)]
 struct Progress {
     splitter: Splitter,
@@ -131,7 +131,7 @@ fn report(rt: &HostRuntime, s: Splitter, out: &mut [u8], at: usize) -> usize
     said(out, start, s.line, bytes)
 }
 
-// Writes the records of the lines that end in a chunk. Every cut is looked at once.
+// Writes the records of the lines that end in a chunk. Every cut is looked at once, and tells where the next one begins.
 #[tactic(auto, using(crate::proofs::Advance::moves_on, crate::proofs::Advance::stays_sized))]
 fn report_chunk(rt: &HostRuntime, before: Progress, chunk: &[u8], out: &mut [u8]) -> Progress
     requires { (Sized before.splitter) × (before.at ≤ length out.old) }
