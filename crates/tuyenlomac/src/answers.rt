@@ -4,7 +4,7 @@ ghost use Rattle.tuyenlomac.specs.Numbers.{in_three};
 
 use desks::Answer;
 
-// An answer: the word's number; the job, or the refusal's number; and the number of wakes. It is three numbers, since C has no enum with values: the C interface.
+// An answer: the word's number; the job, or the refusal's number; and the number of wakes.
 #[repr(C)]
 #[derive(Clone, Copy)]
 pub struct Answered {

@@ -30,7 +30,7 @@ pub struct Placed {
     pub next: usize,
 }
 
-// The word of answer records that has a number, or none.
+// The word of answer records that has a number, or none. It is no `TryFrom`, since neither type is of this crate.
 fn word_at(n: u32) -> Option<Word>
     ensures { result ≡ word_at n }
 {

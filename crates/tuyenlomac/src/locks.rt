@@ -1,4 +1,5 @@
 // The lock desk for a caller that keeps it: the desk's six fields are lent to each call, and changed where they stand (02, No. 7).
+// The C interface keeps the six fields as six arguments, and numbers in the structs that come back.
 ghost use Rattle.std.specs.Prelude.{◌≡◌, [], ◌∷◌, map, take};
 ghost use Rattle.desks.specs.Told.{request};
 ghost use Rattle.desk_rules.specs.AskedChain.{chain_numbers};
@@ -26,7 +27,7 @@ pub struct ChainSaid {
     pub jobs: usize,
 }
 
-// The byte of the letter that the history has for a woken job's action.
+// The byte of the letter that the history has for a woken job's action. It is no `From`: Rust takes an impl only in the crate of one of its types, and neither is of this one.
 #[tactic(auto, unfolding(crate::specs::Desks::kind_byte, text_rules::specs::EventRecords::ask_by))]
 fn kind_byte(k: Kind) -> u8
     ensures { result ≡ kind_byte k }

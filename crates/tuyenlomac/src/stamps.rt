@@ -1,4 +1,5 @@
 // The timestamp desk for a caller that keeps it: the desk's four fields are lent to each call, and changed where they stand (02, No. 6; 02, No. 7).
+// The C interface keeps the four fields as four arguments.
 ghost use Rattle.std.specs.Prelude.{◌≡◌};
 ghost use Rattle.desks.specs.Told.{request};
 ghost use Rattle.stamp_arrays.specs.Steps.{stamps_of, start_of};
