@@ -6,7 +6,7 @@ ghost use Rattle.text_rules.specs.Split.{Sized};
 
 use terms::{Field, Letter, Refusal, Word, has_cell, has_job};
 use text::{read_history, read_request, write_answer, write_line};
-use text_rules::Splitter;
+use text_rules::{Line, Splitter};
 
 // As many bytes are read at once, and as many have room before they are written out.
 const BUFFER: usize = 65_536;
@@ -14,34 +14,20 @@ const BUFFER: usize = 65_536;
 // The records of one line take fewer bytes than this, whatever its number.
 const ROOM: usize = 128;
 
-// The line under way, and the place in the output after the last record.
+// The line under way, and the place in the output after the last record. That the splitter keeps its sizes stands in clauses: as a ghost field it was no plainer, since a loop that changes the struct loses the field, and both loops here would state the fact again.
 #[derive(Clone, Copy)]
 struct Progress {
     splitter: Splitter,
     at: usize,
 }
 
-// Writes an answer record, if there is one; returns the place after it. A record that does not fit is left out.
+// Writes an answer record; returns the place after it. A record that does not fit is left out, and the place stays.
 #[tactic(auto, using(text::proofs::Placed::placed))]
-fn answer(
-    out: &mut [u8],
-    at: usize,
-    there: bool,
-    line: u64,
-    word: Word,
-    number: u64,
-    fault: u64,
-) -> usize
+fn answer(out: &mut [u8], at: usize, line: u64, word: Word, number: u64, fault: u64) -> usize
     requires { at ≤ length out.old }
     ensures { result ≤ length out.new }
 {
-    if !there {
-        return at;
-    }
-    match write_answer(out, at, line, word, number, fault) {
-        Ok(next) => next,
-        Err(_) => at,
-    }
+    write_answer(out, at, line, word, number, fault).unwrap_or(at)
 }
 
 // Writes the record of a line that a reader calls bad: refusal 9 and the field at fault.
@@ -49,53 +35,55 @@ fn bad(out: &mut [u8], at: usize, line: u64, word: Word, field: Field) -> usize
     requires { at ≤ length out.old }
     ensures { result ≤ length out.new }
 {
-    let number = u8::from(Refusal::BadLine(field)) as u64;
-    let fault = u8::from(field) as u64;
-    answer(out, at, true, line, word, number, fault)
+    let number = u8::from(Refusal::BadLine(field));
+    let fault = u8::from(field);
+    answer(out, at, line, word, u64::from(number), u64::from(fault))
 }
 
 // Writes the records of a good request line: its letter's byte, then its job and its cell, if it has them.
-fn good_request(out: &mut [u8], at: usize, line: u64, letter: Letter, job: u32, cell: u32) -> usize
+fn good_request(out: &mut [u8], at: usize, line: u64, said: Line) -> usize
     requires { at ≤ length out.old }
     ensures { result ≤ length out.new }
 {
-    let byte = u8::from(letter) as u64;
-    let a = answer(out, at, true, line, Word::Go, byte, 0);
-    let b = answer(out, a, has_job(letter), line, Word::Wait, job as u64, 0);
-    answer(out, b, has_cell(letter), line, Word::Back, cell as u64, 0)
-}
-
-// Writes what the reader of requests says of a line.
-fn request(out: &mut [u8], at: usize, line: u64, bytes: &[u8]) -> usize
-    requires { at ≤ length out.old }
-    ensures { result ≤ length out.new }
-{
-    match read_request(bytes) {
-        Ok(good) => good_request(out, at, line, good.letter, good.job, good.cell),
-        Err(field) => bad(out, at, line, Word::No, field),
+    let letter = said.letter;
+    let mut next = answer(out, at, line, Word::Go, u64::from(u8::from(letter)), 0);
+    if has_job(letter) {
+        next = answer(out, next, line, Word::Wait, u64::from(said.job), 0);
     }
+    if has_cell(letter) {
+        next = answer(out, next, line, Word::Back, u64::from(said.cell), 0);
+    }
+    next
 }
 
 // Writes a good history line as a history record.
 #[tactic(auto, using(text::proofs::Placed::placed))]
-fn good_history(out: &mut [u8], at: usize, letter: Letter, job: u32, cell: u32) -> usize
+fn good_history(out: &mut [u8], at: usize, said: Line) -> usize
     requires { at ≤ length out.old }
     ensures { result ≤ length out.new }
 {
-    match write_line(out, at, letter, job as u64, cell as u64) {
-        Ok(next) => next,
-        Err(_) => at,
-    }
+    write_line(
+        out,
+        at,
+        said.letter,
+        u64::from(said.job),
+        u64::from(said.cell),
+    )
+    .unwrap_or(at)
 }
 
-// Writes what the reader of histories says of a line.
-fn history(out: &mut [u8], at: usize, line: u64, bytes: &[u8]) -> usize
+// Writes what both readers say of a line: the reader of requests, and then that of histories.
+fn said(out: &mut [u8], at: usize, line: u64, bytes: &[u8]) -> usize
     requires { at ≤ length out.old }
     ensures { result ≤ length out.new }
 {
+    let next = match read_request(bytes) {
+        Ok(good) => good_request(out, at, line, good),
+        Err(field) => bad(out, at, line, Word::No, field),
+    };
     match read_history(bytes) {
-        Ok(good) => good_history(out, at, good.letter, good.job, good.cell),
-        Err(field) => bad(out, at, line, Word::Wake, field),
+        Ok(good) => good_history(out, next, good),
+        Err(field) => bad(out, next, line, Word::Wake, field),
     }
 }
 
@@ -103,7 +91,7 @@ fn history(out: &mut [u8], at: usize, line: u64, bytes: &[u8]) -> usize
 fn flush(rt: &HostRuntime, out: &[u8], at: usize)
     requires { at ≤ length out.now }
 {
-    if let Err(e) = streams::write_all(rt, &out[0..at]) {
+    if let Err(e) = streams::write_all(rt, &out[..at]) {
         streams::fail(rt, "try_text: cannot write", &e);
     }
 }
@@ -138,15 +126,12 @@ fn report(rt: &HostRuntime, s: Splitter, out: &mut [u8], at: usize) -> usize
     requires { (Sized s) × (at ≤ length out.old) }
     ensures { result ≤ length out.new }
 {
-    let kept = s.kept;
-    let len = s.len;
-    let bytes = &kept[0..len];
+    let bytes = &s.kept[..s.len];
     let start = with_room(rt, out, at);
-    let next = request(out, start, s.line, bytes);
-    history(out, next, s.line, bytes)
+    said(out, start, s.line, bytes)
 }
 
-// Writes the records of the lines that end in a chunk. Every cut is looked at once.
+// Writes the records of the lines that end in a chunk. Every cut is looked at once, and tells where the next one begins.
 #[tactic(auto, using(crate::proofs::Advance::moves_on, crate::proofs::Advance::stays_sized))]
 fn report_chunk(rt: &HostRuntime, before: Progress, chunk: &[u8], out: &mut [u8]) -> Progress
     requires { (Sized before.splitter) × (before.at ≤ length out.old) }
@@ -178,21 +163,19 @@ fn finish(rt: &HostRuntime, last: Progress, out: &mut [u8])
     flush(rt, out, at);
 }
 
-// Reads chunk after chunk. Nothing guarantees that the input ends, so the loop counts down from more turns than any run uses.
+// Reads chunk after chunk. Nothing guarantees that the input ends, so the turns are counted.
 #[tactic(auto, using(text_rules::proofs::Held::fresh_sized))]
 fn report_all(rt: &HostRuntime, input: &mut [u8], out: &mut [u8]) {
     let mut progress = Progress {
         splitter: Splitter::started(),
         at: 0,
     };
-    let mut turns = u64::MAX;
-    while turns > 0 {
+    for _ in 0..u64::MAX {
         let n = read_some(rt, input);
         if n == 0 {
             break;
         }
-        progress = report_chunk(rt, progress, &input[0..n], out);
-        turns -= 1;
+        progress = report_chunk(rt, progress, &input[..n], out);
     }
     finish(rt, progress, out);
 }

@@ -1,4 +1,3 @@
-pub mod InNumbers
 pub mod Starting
 pub mod Waking
 pub mod LibraryPromises

@@ -6,7 +6,9 @@ use mathlib.Core.List.{List, [], ◌∷◌, ◌++◌, map, map-append}
 use native.Mathlib.Omega.{arith}
 use native.Mathlib.Numerals.{add-one}
 use lib.ListN.{length, get_or, set, take, drop, length-append, length-map}
-use lib.Seq.{take-suc, take_all, length-take-le}
+use lib.Seq.{take-suc, length-take-le}
+use Rattle.std.specs.Prelude.{min}
+use Rattle.std.proofs.lemmas.List.{take_min}
 use Rattle.laws.specs.Lists.{filled}
 use Rattle.laws.proofs.Filled.{filled_more}
 use Rattle.terms.specs.Limits.{places}
@@ -24,12 +26,12 @@ use Rattle.tuyenlomac.specs.Numbers.{in_three}
 use Rattle.tuyenlomac.specs.Desks.{Lists, lists_of, kind_byte, wakes_in}
 use Rattle.tuyenlomac.specs.Calls.{LocksCall, locks_call, OnLocks}
 
-module _ (g : ℕ → Action) (l : List ℕ) where
-  -- no wakes
-  pub wakes_none : (before : Lists) → before ≡ wakes_in (map g (take 0 l)) before
-  unfolding wakes_in filled
-  wakes_none before = refl
+-- no wakes
+pub wakes_none : (jobs cells kinds : List ℕ) → lists_of jobs cells kinds ≡ wakes_in [] (lists_of jobs cells kinds)
+unfolding wakes_in filled
+wakes_none jobs cells kinds = refl
 
+module _ (g : ℕ → Action) (l : List ℕ) where
   -- one more number in a list of what each wake has
   more_in : (f : Action → ℕ) (list : List ℕ) (i : ℕ) {x : Action} → i < length l → i < length list → x ≡ g (get_or l i 0) →
       set (filled (map f (map g (take i l))) list) i (f x) ≡ filled (map f (map g (take (i + 1) l))) list
@@ -48,21 +50,14 @@ module _ (g : ℕ → Action) (l : List ℕ) where
         ap₂ (λ (w : Lists) n. lists_of (set w.jobs i x.job) (set w.cells i x.cell) (set w.kinds i n)) so_far f
         ∙ (λ t. lists_of (more_in (λ a. a.job) before.jobs i h a e t) (more_in (λ a. a.cell) before.cells i h b e t) (more_in (λ a. kind_byte a.kind) before.kinds i h c e t))
 
-    -- as many wakes as there are
-    pub wakes_end : (count : ℕ) → i ≤ count → count ≤ i → now ≡ wakes_in (map g (take count l)) before
-    wakes_end count h m = let e : i ≡ count = omega arith in so_far ∙ ap (λ k. wakes_in (map g (take k l)) before) e
+    -- as many wakes as there are, or all places passed
+    pub wakes_all : (count : ℕ) → i ≡ min count (length l) → now ≡ wakes_in (map g (take count l)) before
+    wakes_all count h = so_far ∙ ap (λ ps. wakes_in (map g ps) before) (ap (λ k. take k l) h ∙ take_min count l)
 
-    -- all places passed
-    pub wakes_all : (count : ℕ) → length l ≤ i → i ≤ count → now ≡ wakes_in (map g (take count l)) before
-    wakes_all count h m = so_far ∙ ap (λ ps. wakes_in (map g ps) before) (take_all i l h ∙ sym (take_all count l (omega arith)))
-
-module _ {d e : Desk} {l w : List ℕ} {kind job c : ℕ} {t : Told} (s : StepsTo d l kind job c e w t) where
-  -- the step of a lent desk, from the step in place: with wakes, and without
-  pub step_told_lem : (before : Lists) {after : Lists} {r : Answered} → after ≡ wakes_in (map (wake_at e.number e.cell e.ask) (take t.count w)) before → r ≡ in_three t.answer t.count → OnLocks d (request kind job c) (locks_call e before after r)
-  step_told_lem before h a = record { desk = s.desk; answer = a ∙ ap (λ x. in_three x t.count) s.answer ∙ ap (in_three (step_of d kind job c).said.answer) s.count; wakes = h ∙ ap (λ ws. wakes_in ws before) (wakes_first s) }
-
-  pub step_quiet : (before : Lists) {r : Answered} → t.count ≡ 0 → r ≡ in_three t.answer t.count → OnLocks d (request kind job c) (locks_call e before before r)
-  step_quiet before z a = step_told_lem before (wakes_none (wake_at e.number e.cell e.ask) w before ∙ ap (λ n. wakes_in (map (wake_at e.number e.cell e.ask) (take n w)) before) (sym z)) a
+-- the step of a lent desk, from the step in place and its wakes told
+pub step_told_lem : {d e : Desk} {l w : List ℕ} {kind job c : ℕ} {t : Told} → StepsTo d l kind job c e w t → (before : Lists) {after : Lists} {r : Answered} → after ≡ wakes_in (map (wake_at e.number e.cell e.ask) (take t.count w)) before → r ≡ in_three t.answer t.count →
+    OnLocks d (request kind job c) (locks_call e before after r)
+step_told_lem {d} {e} {l} {w} {kind} {job} {c} {t} s before h a = record { desk = s.desk; answer = a ∙ ap (λ x. in_three x t.count) s.answer ∙ ap (in_three (step_of d kind job c).said.answer) s.count; wakes = h ∙ ap (λ ws. wakes_in ws before) (wakes_first s) }
 
 -- at most 32 wakes are told, whatever desk is lent, if the list of the jobs has 32 places in the end
 pub few_wakes : (d : Desk) (r : Request) (k : LocksCall) → OnLocks d r k → length k.told.jobs ≡ places → k.answer.wakes ≤ places

@@ -1,7 +1,6 @@
 // The answer to a request in numbers, for callers that have no enums: its word, the number beside it, and how many jobs it woke.
 ghost use Rattle.std.specs.Prelude.{◌≡◌};
-ghost use Rattle.desks.specs.AnswerWords.{word_of, number_beside};
-ghost use Rattle.tuyenlomac.specs.Numbers.{word_number, in_three};
+ghost use Rattle.tuyenlomac.specs.Numbers.{in_three};
 
 use desks::Answer;
 
@@ -14,40 +13,20 @@ pub struct Answered {
     pub wakes: usize,
 }
 
-// The number of an answer's word.
-#[tactic(auto, unfolding(desks::specs::AnswerWords::word_of))]
-fn word_number(a: Answer) -> u32
-    ensures { result ≡ word_number (word_of a) }
-{
-    match a {
-        Answer::Go(_) => 0,
-        Answer::Wait(_) => 1,
-        Answer::Back(_) => 2,
-        Answer::No(_) => 3,
-    }
-}
-
-// The number beside it.
-#[tactic(auto, unfolding(desks::specs::AnswerWords::number_beside))]
-fn number_beside(a: Answer) -> u32
-    ensures { result ≡ number_beside a }
-{
-    match a {
-        Answer::Go(j) => j,
-        Answer::Wait(j) => j,
-        Answer::Back(j) => j,
-        Answer::No(why) => u8::from(why) as u32,
-    }
-}
-
 // An answer with this many wakes.
-#[tactic(auto, unfolding(crate::specs::Numbers::in_three))]
+#[tactic(auto, unfolding(crate::specs::Numbers::in_three, desks::specs::AnswerWords::number_beside, desks::specs::AnswerWords::word_of))]
 pub fn in_three(a: Answer, wakes: usize) -> Answered
     ensures { result ≡ in_three a wakes }
 {
+    let (word, number) = match a {
+        Answer::Go(job) => (0, job),
+        Answer::Wait(job) => (1, job),
+        Answer::Back(job) => (2, job),
+        Answer::No(why) => (3, u32::from(u8::from(why))),
+    };
     Answered {
-        word: word_number(a),
-        number: number_beside(a),
+        word,
+        number,
         wakes,
     }
 }

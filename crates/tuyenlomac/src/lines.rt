@@ -30,7 +30,7 @@ pub struct Placed {
     pub next: usize,
 }
 
-// The word of answer records that has a number, or none.
+// The word of answer records that has a number, or none. It is no `TryFrom`, since neither type is of this crate.
 fn word_at(n: u32) -> Option<Word>
     ensures { result ≡ word_at n }
 {
@@ -45,35 +45,41 @@ fn word_at(n: u32) -> Option<Word>
 }
 
 // What a line says, in numbers.
-fn line_in(r: Reading) -> Line
-    ensures { result ≡ line_in r }
-{
-    match r {
-        Ok(good) => Line {
-            job: good.job,
-            cell: good.cell,
-            kind: u8::from(good.letter),
-            field: 0,
-        },
-        Err(field) => Line {
-            job: 0,
-            cell: 0,
-            kind: 0,
-            field: u8::from(field),
-        },
+impl From<Reading> for Line {
+    ghost from_gives = { λ r line. line ≡ line_in r };
+
+    #[tactic(auto, unfolding(crate::specs::Texts::line_in))]
+    fn from(r: Reading) -> Line {
+        match r {
+            Ok(good) => Line {
+                job: good.job,
+                cell: good.cell,
+                kind: u8::from(good.letter),
+                field: 0,
+            },
+            Err(field) => Line {
+                job: 0,
+                cell: 0,
+                kind: 0,
+                field: u8::from(field),
+            },
+        }
     }
 }
 
 // What writing tells, in two numbers.
-fn placed_at(w: Result<usize, Refusal>) -> Placed
-    ensures { (result.refusal ∷ result.next ∷ []) ≡ written_numbers w }
-{
-    match w {
-        Ok(next) => Placed { refusal: 0, next },
-        Err(why) => Placed {
-            refusal: u8::from(why) as u32,
-            next: 0,
-        },
+impl From<Result<usize, Refusal>> for Placed {
+    ghost from_gives = { λ w placed. (placed.refusal ∷ placed.next ∷ []) ≡ written_numbers w };
+
+    #[tactic(auto, unfolding(crate::specs::Texts::written_numbers))]
+    fn from(w: Result<usize, Refusal>) -> Placed {
+        match w {
+            Ok(next) => Placed { refusal: 0, next },
+            Err(why) => Placed {
+                refusal: u32::from(u8::from(why)),
+                next: 0,
+            },
+        }
     }
 }
 
@@ -81,17 +87,18 @@ fn placed_at(w: Result<usize, Refusal>) -> Placed
 pub fn tuyenlomac_read_request(line: &[u8]) -> Line
     ensures { result ≡ line_in (read_line of_requests line.now) }
 {
-    line_in(read_request(line))
+    Line::from(read_request(line))
 }
 
 // What a line of a history says; the line comes with its newline.
 pub fn tuyenlomac_read_history(line: &[u8]) -> Line
     ensures { result ≡ line_in (read_line of_histories line.now) }
 {
-    line_in(read_history(line))
+    Line::from(read_history(line))
 }
 
 // Writes an answer record from a place: 1 if no word has that number, then 15 if the record does not fit; after either every byte stays.
+#[tactic(auto, unfolding(crate::specs::Texts::answer_bytes, crate::specs::Texts::left_of, crate::specs::Texts::told_of))]
 pub fn tuyenlomac_write_answer(
     buffer: &mut [u8],
     at: usize,
@@ -104,18 +111,19 @@ pub fn tuyenlomac_write_answer(
     ensures buffer { buffer.new ≡ left_of buffer.old at (answer_bytes line (word_at word) number field) }
 {
     match word_at(word) {
-        Some(w) => placed_at(write_answer(buffer, at, line, w, number, field)),
-        None => placed_at(Err(Refusal::UnknownKind)),
+        Some(w) => Placed::from(write_answer(buffer, at, line, w, number, field)),
+        None => Placed::from(Err(Refusal::UnknownKind)),
     }
 }
 
 // Writes the line of a letter from a place, a history record or a request: 1 if no letter has that byte, then 15 if the line does not fit; after either every byte stays.
+#[tactic(auto, unfolding(crate::specs::Texts::left_of, crate::specs::Texts::line_bytes, crate::specs::Texts::told_of))]
 pub fn tuyenlomac_write_line(buffer: &mut [u8], at: usize, kind: u8, job: u64, cell: u64) -> Placed
     ensures said { (result.refusal ∷ result.next ∷ []) ≡ written_numbers (told_of buffer.old at (line_bytes (letter_of kind) job cell)) }
     ensures buffer { buffer.new ≡ left_of buffer.old at (line_bytes (letter_of kind) job cell) }
 {
     match letter_of(kind) {
-        Some(l) => placed_at(write_line(buffer, at, l, job, cell)),
-        None => placed_at(Err(Refusal::UnknownKind)),
+        Some(l) => Placed::from(write_line(buffer, at, l, job, cell)),
+        None => Placed::from(Err(Refusal::UnknownKind)),
     }
 }

@@ -1,6 +1,6 @@
 // The lock desk for a caller that keeps it: the desk's six fields are lent to each call, and changed where they stand (02, No. 7).
-ghost use Rattle.std.specs.Prelude.{◌≡◌, [], ◌∷◌, map, length, take};
-ghost use Rattle.terms.specs.Limits.{places};
+// The C interface keeps the six fields as six arguments, and numbers in the structs that come back.
+ghost use Rattle.std.specs.Prelude.{◌≡◌, [], ◌∷◌, map, take};
 ghost use Rattle.desks.specs.Told.{request};
 ghost use Rattle.desk_rules.specs.AskedChain.{chain_numbers};
 ghost use Rattle.desk_arrays.specs.Steps.{desk_of, start_of, wake_at};
@@ -13,7 +13,6 @@ use conflict::action::Kind;
 use desk::step::step_on;
 use desk::wakes::wake_at;
 use desk_arrays::board::Waits;
-use desk_arrays::codes::FREE;
 use desk_arrays::state::{Desk, SPOTS};
 use desk_chain::chain::chain;
 use terms::letters::{INCREMENT, READ, WRITE};
@@ -28,7 +27,7 @@ pub struct ChainSaid {
     pub jobs: usize,
 }
 
-// The byte of the letter that the history has for a woken job's action.
+// The byte of the letter that the history has for a woken job's action. It is no `From`: Rust takes an impl only in the crate of one of its types, and neither is of this one.
 #[tactic(auto, unfolding(crate::specs::Desks::kind_byte, text_rules::specs::EventRecords::ask_by))]
 fn kind_byte(k: Kind) -> u8
     ensures { result ≡ kind_byte k }
@@ -40,42 +39,28 @@ fn kind_byte(k: Kind) -> u8
     }
 }
 
-// Lists have as many places as stated, which a lent array does not say by itself.
-fn sized(jobs: [u32; PLACES], cells: [u32; PLACES], kinds: [u8; PLACES]) -> bool
-    ensures { (length jobs ≡ places) × (length cells ≡ places) × (length kinds ≡ places) }
-{
-    true
-}
-
 // Writes the wakes of the places woken, this many, into the first places of three lists: the jobs, the cells, and what each does there.
-fn tell_wakes<'a>(
-    number: &'a [u32; PLACES],
-    cell: &'a [u8; PLACES],
-    ask: &'a [u8; PLACES],
-    woken: [u8; PLACES],
+#[tactic(auto, using(crate::proofs::Waking::wakes_all, crate::proofs::Waking::wakes_more, crate::proofs::Waking::wakes_none))]
+fn tell_wakes(
+    w: Waits,
+    woken: &[u8; PLACES],
     count: usize,
     jobs: &mut [u32; PLACES],
     cells: &mut [u32; PLACES],
     kinds: &mut [u8; PLACES],
 )
-    ensures { lists_of jobs.new cells.new kinds.new ≡ wakes_in (map (wake_at number.now cell.now ask.now) (take count woken)) (lists_of jobs.old cells.old kinds.old) }
+    ensures { lists_of jobs.new cells.new kinds.new ≡ wakes_in (map (wake_at w.entry.number.now w.entry.cell.now w.entry.ask.now) (take count woken.now)) (lists_of jobs.old cells.old kinds.old) }
 {
-    sized(*jobs, *cells, *kinds);
-    let mut i: usize = 0;
-    while i < PLACES {
-        if count <= i {
-            break;
-        }
-        let a = wake_at(Waits { number, cell, ask }, woken[i] as usize);
-        let kind = a.kind;
+    for i in 0..count.min(PLACES) {
+        let a = wake_at(w, usize::from(woken[i]));
         jobs[i] = a.job;
         cells[i] = a.cell;
-        kinds[i] = kind_byte(kind);
-        i += 1;
+        kinds[i] = kind_byte(a.kind);
     }
 }
 
 // Starts a lock desk at a first number and answers 0. For number 0 the answer is refusal 10, and what is there stays (01, refusal 10).
+#[tactic(auto, unfolding(crate::specs::Desks::start_leaves, crate::specs::Desks::start_number))]
 pub fn tuyenlomac_locks_start_on(
     next: &mut u64,
     number: &mut [u32; PLACES],
@@ -88,16 +73,20 @@ pub fn tuyenlomac_locks_start_on(
     ensures refusal { result ≡ start_number (start_of first) }
     ensures desk { desk_of next.new number.new status.new cell.new ask.new held.new ≡ start_leaves (desk_of next.old number.old status.old cell.old ask.old held.old) (start_of first) }
 {
-    if first == 0 {
-        return u8::from(Refusal::StartedAtZero) as u32;
+    match Desk::start(first) {
+        Ok(d) => {
+            Desk {
+                next: *next,
+                number: *number,
+                status: *status,
+                cell: *cell,
+                ask: *ask,
+                held: *held,
+            } = d;
+            0
+        }
+        Err(why) => u32::from(u8::from(why)),
     }
-    *next = first as u64;
-    *number = [0; PLACES];
-    *status = [FREE; PLACES];
-    *cell = [0; PLACES];
-    *ask = [0; PLACES];
-    *held = [0; SPOTS];
-    0
 }
 
 // One request by the letter's byte, the job and the cell asked for. The jobs that it wakes are told in the first places of the three lists.
@@ -121,28 +110,24 @@ pub fn tuyenlomac_locks_step_on(
     let t = step_on(
         next, number, status, cell, ask, held, &mut woken, kind, job, asked,
     );
-    let answer = t.answer;
-    let count = t.count;
-    if count == 0 {
-        return in_three(answer, count);
-    }
-    tell_wakes(number, cell, ask, woken, count, jobs, cells, kinds);
-    in_three(answer, count)
+    let w = Waits { number, cell, ask };
+    tell_wakes(w, &woken, t.count, jobs, cells, kinds);
+    in_three(t.answer, t.count)
 }
 
 // The answer to a question for a chain, in two numbers.
-fn chain_said(c: Result<usize, Refusal>) -> ChainSaid
-    ensures { (result.refusal ∷ result.jobs ∷ []) ≡ chain_numbers c }
-{
-    match c {
-        Ok(n) => ChainSaid {
-            refusal: 0,
-            jobs: n,
-        },
-        Err(why) => ChainSaid {
-            refusal: u8::from(why) as u32,
-            jobs: field_of(why) as usize,
-        },
+impl From<Result<usize, Refusal>> for ChainSaid {
+    ghost from_gives = { λ c said. (said.refusal ∷ said.jobs ∷ []) ≡ chain_numbers c };
+
+    #[tactic(auto, unfolding(desk_rules::specs::AskedChain::chain_numbers))]
+    fn from(c: Result<usize, Refusal>) -> ChainSaid {
+        match c {
+            Ok(jobs) => ChainSaid { refusal: 0, jobs },
+            Err(why) => ChainSaid {
+                refusal: u32::from(u8::from(why)),
+                jobs: usize::from(field_of(why)),
+            },
+        }
     }
 }
 
@@ -168,5 +153,5 @@ pub fn tuyenlomac_locks_chain_on(
         ask: *ask,
         held: *held,
     };
-    chain_said(chain(d, job, list))
+    ChainSaid::from(chain(d, job, list))
 }
