@@ -1,14 +1,15 @@
 -- Where a call of the work ends, and where a chunk and a text end, call after call and chunk after chunk.
 -- Assumes nothing.
+use Rattle.std.specs.Prelude.{Result, Ok, Err, IsErrAnd}
+use Rattle.text_rules.specs.declared.splitter.Splitter.{Splitter}
 use Prim.Native.Nat.{ℕ, ◌+◌, ◌-◌, ◌≤◌, ◌<◌}
-use mathlib.Core.Path.{◌≡◌, refl, sym, ap, ◌∙◌}
-use mathlib.Core.Bool.{true, false, not}
+use mathlib.Core.Path.{◌≡◌, sym, ap, ◌∙◌}
 use mathlib.Core.List.{List, [], ◌++◌}
 use native.Mathlib.Omega.{arith}
 use lib.ListN.{length, take}
 use lib.Seq.{take-add, take_all}
 use borrow.Author.Tests.{le-leb}
-use Rattle.laws.specs.Choice.{by_test, not_both}
+use Rattle.laws.specs.Choice.{by_test}
 use Rattle.program_rules.specs.declared.Worked.{Worked}
 use Rattle.program_rules.specs.Work.{line_room, roomy, work_of}
 use Rattle.text_rules.specs.Split.{part}
@@ -17,8 +18,9 @@ use Rattle.program_rules.proofs.Progress.{call_used, call_moved}
 use Rattle.program_rules.proofs.AnyCourse.{call_did}
 use Rattle.desk_io.specs.declared.Front.{Front}
 use Rattle.desk_io.specs.declared.Called.{Called}
-use Rattle.desk_io.specs.declared.Served.{Served}
-use Rattle.desk_io.specs.Serving.{front_after, Turned, HandsOn, Serves, Saw}
+use Rattle.desk_io.specs.declared.Halt.{Halt}
+use Rattle.desk_io.specs.declared.Halt.TheVariants.{NotRead, NotTaken}
+use Rattle.desk_io.specs.Serving.{front_after, Turned, HandsOn, Serves, Saw, Over}
 
 -- a front that has seen some bytes and then others has seen them joined
 front_append : (f : Front) (a b : List ℕ) → front_after f (a ++ b) ≡ front_after (front_after f a) b
@@ -55,12 +57,13 @@ seen_more f {chunk = chunk} {from = from} {c = c} e t =
     t.front ∙ ap (λ (x : Front). front_after x (part chunk from c.next)) e ∙ sym (front_append f (take from chunk) (part chunk from c.next)) ∙ ap (front_after f) (up_to chunk from c.next (omega arith))
 
 -- if output is not taken, the work ends there
-pub serves_some : {f k : Front} {chunk : List ℕ} {from : ℕ} → k ≡ front_after f (take from chunk) → Serves f chunk (record { front = k; seen = from; taken = false })
-serves_some e = record { some = e; all = λ t. not_both t refl }
+pub serves_some : {f k : Front} {chunk : List ℕ} (from : ℕ) (r : Result (Unit {0}) Halt) {h : Halt} → k ≡ front_after f (take from chunk) → IsErrAnd r (λ x. x ≡ h) → h ≡ NotTaken → Serves f chunk k r
+serves_some from (Ok u) e i w = absurd i
+serves_some from (Err x) e i w = record { seen = from; some = e; all = λ t. absurd (cc); why = i ∙ w }
 
 -- at the chunk's end the front has seen it all
-pub serves_all : {f k : Front} {chunk : List ℕ} {from : ℕ} → k ≡ front_after f (take from chunk) → length chunk ≤ from → Serves f chunk (record { front = k; seen = from; taken = true })
-serves_all {f} {chunk = chunk} {from} e h = record { some = e; all = λ t. e ∙ ap (front_after f) (take_all from chunk h) }
+pub serves_all : {f k : Front} {chunk : List ℕ} (from : ℕ) → k ≡ front_after f (take from chunk) → length chunk ≤ from → Serves f chunk k (Ok tt)
+serves_all {f} {chunk = chunk} from e h = record { seen = from; some = e; all = λ t. e ∙ ap (front_after f) (take_all from chunk h); why = tt }
 
 -- a front that has seen a text and then bytes has seen the text with them
 saw_on : {first f k : Front} (s : Saw first f) (bytes : List ℕ) → k ≡ front_after f bytes → Saw first k
@@ -74,9 +77,18 @@ saw_none {f} = record { text = []; front = sym (front_none f) }
 pub saw_since : {a b f : Front} → a ≡ b → Saw a f → Saw b f
 saw_since e s = record { text = s.text; front = s.front ∙ ap (λ (x : Front). front_after x s.text) e }
 
--- after a chunk it has seen that chunk too, all of it or as far as output was taken
-pub saw_chunk : {first f : Front} {chunk : List ℕ} {s : Served} → Saw first f → Serves f chunk s → not s.taken ≡ false → Saw first s.front
-saw_chunk {chunk = chunk} {s} w t e = by_test s.taken (λ y. saw_on w chunk (t.all y)) (λ n. not_both (ap not n) e)
+-- a front that has seen a text, and then another, has seen both
+pub saw_then : {a b f : Front} → Saw a b → Saw b f → Saw a f
+saw_then s t = saw_on s t.text t.front
 
-pub saw_part : {first f : Front} {chunk : List ℕ} {s : Served} → Saw first f → Serves f chunk s → Saw first s.front
-saw_part {chunk = chunk} {s} w t = saw_on w (take s.seen chunk) t.some
+-- after a chunk the front has seen that chunk, all of it or as far as output was taken
+pub saw_part : {f k : Front} {chunk : List ℕ} {r : Result (Unit {0}) Halt} → Serves f chunk k r → Saw f k
+saw_part {chunk = chunk} t = record { text = take t.seen chunk; front = t.some }
+
+-- if output is not taken, reading stops for that reason
+pub untaken_over : {h : Halt} (s : Splitter) → h ≡ NotTaken → Over h s
+untaken_over s e = rw e tt
+
+-- and so it does if a read failed
+pub unread_over : {h : Halt} (s : Splitter) → h ≡ NotRead → Over h s
+unread_over s e = rw e tt

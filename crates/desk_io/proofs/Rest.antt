@@ -1,5 +1,7 @@
 -- What the buffer holds to be written out last, by why no more is read.
 -- Assumes nothing.
+use Rattle.std.specs.Prelude.{◌⊎◌}
+use Rattle.std.proofs.Common.{inl, inr}
 use Prim.Native.Nat.{ℕ, ◌≤◌}
 use mathlib.Core.Path.{◌≡◌, refl, sym, ap, ap₂, ◌∙◌, subst}
 use mathlib.Core.List.{List, []}
@@ -62,13 +64,10 @@ module _ (h : Halted) (out : List ℕ) (room : program_room h.front.view ≤ len
     pub rests_ended : h.why ≡ Ended → Rests h at after
     rests_ended w = by_why w ends_there makes_all
 
-    -- a read failed, and answers are written
-    pub rests_answers : h.why ≡ NotRead → h.front.view ≡ Answers → Rests h at after
-    rests_answers w v = by_why w ends_there (λ m text k. subst (λ x. MakesAll m x text (take at after) → MakesUnread m x text (take at after)) (sym v) (λ y. y) (makes_all m text k))
-
-    -- a read failed, and the history is written
-    pub rests_history : h.why ≡ NotRead → h.front.view ≡ History → Rests h at after
-    rests_history w v = by_why w ends_there (λ m text k. subst (λ x. MakesAll m x text (take at after) → MakesUnread m x text (take at after)) (sym v) (λ y. y) (makes_all m text k))
+    -- a read failed, and answers or the history are written
+    pub rests_told : h.why ≡ NotRead → (h.front.view ≡ Answers) ⊎ (h.front.view ≡ History) → Rests h at after
+    rests_told w (inl v) = by_why w ends_there (λ m text k. subst (λ x. MakesAll m x text (take at after) → MakesUnread m x text (take at after)) (sym v) (λ y. y) (makes_all m text k))
+    rests_told w (inr v) = by_why w ends_there (λ m text k. subst (λ x. MakesAll m x text (take at after) → MakesUnread m x text (take at after)) (sym v) (λ y. y) (makes_all m text k))
 
   -- the case that every line has been read
   pub rests_read : {at : ℕ} {after : List ℕ} → at ≡ (close_of h.front.view h.front.clerk out 0).finished.at → after ≡ (close_of h.front.view h.front.clerk out 0).out → Over h.why h.front.clerk.splitter → h.why ≡ AllRead → Rests h at after

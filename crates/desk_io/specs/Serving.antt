@@ -1,5 +1,5 @@
 -- What the front of the desk programs does with the bytes it reads, and what it writes once it reads no more (01, What is delivered; 01, Lines; 02, Nos. 3 and 6).
-use Rattle.std.specs.Prelude.{ℕ, ◌≤◌, ◌<◌, ◌≡◌, true, List, [], ◌++◌, length, take}
+use Rattle.std.specs.Prelude.{ℕ, ◌≤◌, ◌<◌, ◌≡◌, true, List, [], ◌++◌, length, take, Result, IsOk, IfErr}
 use Rattle.text_rules.specs.declared.splitter.Splitter.{Splitter}
 use Rattle.program_rules.specs.declared.Method.{Method}
 use Rattle.program_rules.specs.declared.View.{View}
@@ -11,7 +11,6 @@ use Rattle.text_rules.specs.Split.{part}
 use Rattle.desk_io.specs.declared.Program.{Program}
 use Rattle.desk_io.specs.declared.Front.{Front}
 use Rattle.desk_io.specs.declared.Called.{Called}
-use Rattle.desk_io.specs.declared.Served.{Served}
 use Rattle.desk_io.specs.declared.Halted.{Halted}
 use Rattle.desk_io.specs.declared.Halt.{Halt}
 use Rattle.desk_io.specs.declared.Halt.TheVariants.{Ended, NotRead, AllRead, NotTaken}
@@ -43,10 +42,12 @@ pub record Turned (f : Front) (chunk : List ℕ) (from : ℕ) (c : Called) (out 
 abbrev pub HandsOn : Called → List ℕ → List ℕ → Type 0
 HandsOn c out bytes = (f : Front) (chunk : List ℕ) (from : ℕ) → Turned f chunk from c out → bytes ≡ records_by f (part chunk from c.next)
 
--- a chunk: the front has seen this many of its bytes, and all of them if all output was taken
-pub record Serves (f : Front) (chunk : List ℕ) (s : Served) : Type 0 where
-  pub some : s.front ≡ front_after f (take s.seen chunk)
-  pub all : s.taken ≡ true → s.front ≡ front_after f chunk
+-- a chunk: the front has then seen this many of its bytes, and all of them if all output was taken; else no more is read for that reason
+pub record Serves (f : Front) (chunk : List ℕ) (g : Front) (r : Result (Unit {0}) Halt) : Type 0 where
+  pub seen : ℕ
+  pub some : g ≡ front_after f (take seen chunk)
+  pub all : IsOk r → g ≡ front_after f chunk
+  pub why : IfErr r (λ h. h ≡ NotTaken)
 
 -- reading stops before a text's end only if every line to be read has been read, or a read or a write failed
 abbrev pub Over : Halt → Splitter → Type 0

@@ -1,16 +1,15 @@
 // The front of the desk programs: it passes standard input to the clerk chunk by chunk, and writes the records, or at the end the chains, to standard output (01, What is delivered; 02, Nos. 3 and 6).
 #![tactic(auto)]
 
-ghost use Rattle.std.specs.Prelude.{◌≡◌, ◌≤◌, ◌<◌, length, take};
+ghost use Rattle.std.specs.Prelude.{◌≡◌, ◌≤◌, ◌<◌, length, take, IfOk, IfErr};
 ghost use Rattle.program_rules.specs.Work.{line_room, all_read};
 ghost use Rattle.program_rules.specs.Closing.{program_room, close_of, end_of};
-ghost use Rattle.desk_io.specs.declared.Halt.TheVariants.{NotRead};
-ghost use Rattle.desk_io.specs.Serving.{started_front, program_by, Turned, HandsOn, Serves, Over, Halts, Rests, HandsOnLast};
+ghost use Rattle.desk_io.specs.declared.Halt.TheVariants.{NotRead, NotTaken};
+ghost use Rattle.desk_io.specs.Serving.{started_front, program_by, Turned, HandsOn, Serves, Saw, Over, Halts, Rests, HandsOnLast};
 
 use clerk::chains::close;
 use clerk::work::{finish, work};
 use program_rules::{Clerk, Method, View};
-use std::io;
 use terms::limits::REQUEST_LINES;
 use text_rules::splitter::Splitter;
 
@@ -39,14 +38,6 @@ struct Called {
     at: usize,
 }
 
-// The front after some bytes of a chunk, how many they are, and whether all output was taken.
-#[derive(Clone, Copy)]
-struct Served {
-    front: Front,
-    seen: usize,
-    taken: bool,
-}
-
 // Why no more is read: the input ended or could not be read, every line to be read has been read, or output was not taken.
 #[derive(Clone, Copy)]
 enum Halt {
@@ -63,23 +54,31 @@ struct Halted {
     why: Halt,
 }
 
+// What a program says, under its name, when it cannot read and when it cannot write.
+#[derive(Clone, Copy)]
+struct Complaints {
+    unread: &'static str,
+    untaken: &'static str,
+}
+
 // The front of a program that has read nothing.
-fn started(method: Method, view: View) -> Front
-    ensures { result ≡ started_front method view }
+fn started(program: Program) -> Front
+    ensures { result ≡ started_front program.method program.view }
 {
-    let clerk = Clerk::started(method);
-    Front { view, clerk }
+    Front {
+        view: program.view,
+        clerk: Clerk::started(program.method),
+    }
 }
 
 // The program that a front belongs to.
 fn program_of(front: Front) -> Program
     ensures { result ≡ program_by front.clerk.desks.method front.view }
 {
-    let clerk = front.clerk;
-    let desks = clerk.desks;
-    let method = desks.method;
-    let view = front.view;
-    Program { method, view }
+    Program {
+        method: front.clerk.desks.method,
+        view: front.view,
+    }
 }
 
 // Whether every line to be read has been read, so that no further byte has an answer.
@@ -88,48 +87,61 @@ fn is_over(s: Splitter) -> bool
     ensures { result ≡ all_read s }
 {
     if s.ended {
-        return REQUEST_LINES <= s.line;
-    }
-    REQUEST_LINES < s.line
-}
-
-// Says on standard error that the input could not be read.
-fn say_unread(rt: &HostRuntime, program: Program, error: &io::Error) {
-    match program.view {
-        View::Answers => match program.method {
-            Method::Locks => streams::fail(rt, "answers: cannot read", error),
-            Method::Stamps => streams::fail(rt, "stamp_answers: cannot read", error),
-        },
-        View::History => match program.method {
-            Method::Locks => streams::fail(rt, "history: cannot read", error),
-            Method::Stamps => streams::fail(rt, "stamp_history: cannot read", error),
-        },
-        View::Chains => streams::fail(rt, "chain: cannot read", error),
+        REQUEST_LINES <= s.line
+    } else {
+        REQUEST_LINES < s.line
     }
 }
 
-// Says on standard error that output could not be written.
-fn say_untaken(rt: &HostRuntime, program: Program, error: &io::Error) {
-    match program.view {
-        View::Answers => match program.method {
-            Method::Locks => streams::fail(rt, "answers: cannot write", error),
-            Method::Stamps => streams::fail(rt, "stamp_answers: cannot write", error),
+// What a program says of a read or a write that failed.
+fn said_by(program: Program) -> Complaints {
+    match (program.view, program.method) {
+        (View::Answers, Method::Locks) => Complaints {
+            unread: "answers: cannot read",
+            untaken: "answers: cannot write",
         },
-        View::History => match program.method {
-            Method::Locks => streams::fail(rt, "history: cannot write", error),
-            Method::Stamps => streams::fail(rt, "stamp_history: cannot write", error),
+        (View::Answers, Method::Stamps) => Complaints {
+            unread: "stamp_answers: cannot read",
+            untaken: "stamp_answers: cannot write",
         },
-        View::Chains => streams::fail(rt, "chain: cannot write", error),
+        (View::History, Method::Locks) => Complaints {
+            unread: "history: cannot read",
+            untaken: "history: cannot write",
+        },
+        (View::History, Method::Stamps) => Complaints {
+            unread: "stamp_history: cannot read",
+            untaken: "stamp_history: cannot write",
+        },
+        (View::Chains, _) => Complaints {
+            unread: "chain: cannot read",
+            untaken: "chain: cannot write",
+        },
     }
 }
 
-// Writes bytes to standard output, and says on standard error if they are not taken; tells whether they are.
-fn put_out(rt: &HostRuntime, program: Program, bytes: &[u8]) -> bool {
-    match streams::write_all(rt, bytes) {
-        Ok(()) => true,
+// Reads some bytes of standard input, and tells how many; if it cannot be read, says so on standard error.
+fn take_in(rt: &HostRuntime, program: Program, input: &mut [u8]) -> Result<usize, Halt>
+    ensures within { IfOk result (λ n. n ≤ length input.new) }
+    ensures why { IfErr result (λ h. h ≡ NotRead) }
+{
+    match streams::read(rt, input) {
+        Ok(n) => Ok(n),
         Err(e) => {
-            say_untaken(rt, program, &e);
-            false
+            streams::fail(rt, said_by(program).unread, &e);
+            Err(Halt::NotRead)
+        }
+    }
+}
+
+// Writes bytes to standard output; if they are not taken, says so on standard error.
+fn put_out(rt: &HostRuntime, program: Program, bytes: &[u8]) -> Result<(), Halt>
+    ensures { IfErr result (λ h. h ≡ NotTaken) }
+{
+    match streams::write_all(rt, bytes) {
+        Ok(()) => Ok(()),
+        Err(e) => {
+            streams::fail(rt, said_by(program).untaken, &e);
+            Err(Halt::NotTaken)
         }
     }
 }
@@ -141,11 +153,14 @@ fn serve_some(front: Front, chunk: &[u8], from: usize, out: &mut [u8]) -> Called
 {
     let view = front.view;
     let worked = work(view, front.clerk, chunk, from, out, 0);
-    let clerk = worked.clerk;
-    let front = Front { view, clerk };
-    let next = worked.next;
-    let at = worked.at;
-    Called { front, next, at }
+    Called {
+        front: Front {
+            view,
+            clerk: worked.clerk,
+        },
+        next: worked.next,
+        at: worked.at,
+    }
 }
 
 // The part of the buffer to be written out after a call of the work: the records of the lines that end in what the call has seen.
@@ -155,80 +170,64 @@ fn to_write<'a>(called: Called, out: &'a [u8]) -> &'a [u8]
     ensures bytes { result.now ≡ take called.at out.now }
     ensures records { HandsOn called out.now result.now }
 {
-    let at = called.at;
-    &out[0..at]
+    &out[..called.at]
 }
 
 // A chunk: the records of every line that ends in it are written out before the next read. If output is not taken, the work ends.
-#[tactic(auto, using(crate::proofs::Places::front_none, crate::proofs::Places::seen_more, crate::proofs::Places::serves_all, crate::proofs::Places::serves_some))]
-fn serve_chunk(rt: &HostRuntime, before: Front, chunk: &[u8], out: &mut [u8]) -> Served
+#[tactic(auto, using(crate::proofs::Places::front_none, crate::proofs::Places::seen_more, crate::proofs::Places::serves_all))]
+fn serve_chunk(
+    rt: &HostRuntime,
+    front: &mut Front,
+    chunk: &[u8],
+    out: &mut [u8],
+) -> Result<(), Halt>
     requires { line_room ≤ length out.old }
-    ensures { Serves before chunk.now result }
+    ensures { Serves front.old chunk.now front.new result }
 {
-    let mut front = before;
     let mut seen = 0;
     while seen < chunk.len() {
-        let called = serve_some(front, chunk, seen, out);
-        front = called.front;
+        let called = serve_some(*front, chunk, seen, out);
+        *front = called.front;
         seen = called.next;
-        if !put_out(rt, program_of(front), to_write(called, out)) {
-            return Served {
-                front,
-                seen,
-                taken: false,
-            };
-        }
+        put_out(rt, program_of(called.front), to_write(called, out))?;
     }
-    Served {
-        front,
-        seen,
-        taken: true,
-    }
+    Ok(())
 }
 
-// Reads chunk after chunk. No contract says that input ends, so the loop counts down from a number of turns that no run uses up.
-#[tactic(auto, using(crate::proofs::Places::saw_chunk, crate::proofs::Places::saw_none, crate::proofs::Places::saw_part, crate::proofs::Places::saw_since))]
-fn serve_all(
+// One read, and the chunk that it gives, or why no more is read.
+#[tactic(auto, using(crate::proofs::Places::saw_none, crate::proofs::Places::saw_part, crate::proofs::Places::unread_over, crate::proofs::Places::untaken_over))]
+fn serve_read(
     rt: &HostRuntime,
-    method: Method,
-    view: View,
+    front: &mut Front,
     input: &mut [u8],
     out: &mut [u8],
-) -> Halted
+) -> Result<(), Halt>
     requires { line_room ≤ length out.old }
-    ensures { Halts method view result }
+    ensures saw { Saw front.old front.new }
+    ensures over { IfErr result (λ h. Over h front.new.clerk.splitter) }
 {
-    let mut front = started(method, view);
-    let mut turns = u64::MAX;
-    while turns > 0 {
-        let n = match streams::read(rt, input) {
-            Ok(n) => n,
-            Err(e) => {
-                say_unread(rt, Program { method, view }, &e);
-                return Halted {
-                    front,
-                    why: Halt::NotRead,
-                };
-            }
-        };
-        if n == 0 {
-            break;
+    let n = take_in(rt, program_of(*front), input)?;
+    if n == 0 {
+        return Err(Halt::Ended);
+    }
+    serve_chunk(rt, front, &input[..n], out)?;
+    if is_over(front.clerk.splitter) {
+        return Err(Halt::AllRead);
+    }
+    Ok(())
+}
+
+// Reads chunk after chunk. No contract says that input ends, so there are as many turns as no run uses up.
+#[tactic(auto, using(crate::proofs::Places::saw_none, crate::proofs::Places::saw_since, crate::proofs::Places::saw_then))]
+fn serve_all(rt: &HostRuntime, program: Program, input: &mut [u8], out: &mut [u8]) -> Halted
+    requires { line_room ≤ length out.old }
+    ensures { Halts program.method program.view result }
+{
+    let mut front = started(program);
+    for _turn in 0..u64::MAX {
+        if let Err(why) = serve_read(rt, &mut front, input, out) {
+            return Halted { front, why };
         }
-        let served = serve_chunk(rt, front, &input[0..n], out);
-        front = served.front;
-        if !served.taken {
-            return Halted {
-                front,
-                why: Halt::NotTaken,
-            };
-        }
-        if is_over(front.clerk.splitter) {
-            return Halted {
-                front,
-                why: Halt::AllRead,
-            };
-        }
-        turns -= 1;
     }
     Halted {
         front,
@@ -241,32 +240,25 @@ fn serve_all(
 fn put_ended(front: Front, out: &mut [u8]) -> usize
     ensures { (result ≡ (end_of front.view front.clerk out.old 0).finished.at) × (out.new ≡ (end_of front.view front.clerk out.old 0).out) }
 {
-    let view = front.view;
-    let last = front.clerk;
-    let finished = finish(view, last, out, 0);
-    let closed = close(view, last, out, finished.at);
-    closed.at
+    let finished = finish(front.view, front.clerk, out, 0);
+    close(front.view, front.clerk, out, finished.at).at
 }
 
 // Every line has been read: what the program writes last, from the buffer's first byte.
 fn put_closed(front: Front, out: &mut [u8]) -> usize
     ensures { (result ≡ (close_of front.view front.clerk out.old 0).finished.at) × (out.new ≡ (close_of front.view front.clerk out.old 0).out) }
 {
-    let view = front.view;
-    let closed = close(view, front.clerk, out, 0);
-    closed.at
+    close(front.view, front.clerk, out, 0).at
 }
 
 // A read failed: answers and history end as at the end of the input, and no chain is told for half a text.
-#[tactic(auto, using(crate::proofs::Rest::rests_answers, crate::proofs::Rest::rests_chains, crate::proofs::Rest::rests_history))]
+#[tactic(auto, using(crate::proofs::Rest::rests_chains, crate::proofs::Rest::rests_told))]
 fn put_unread(front: Front, out: &mut [u8]) -> usize
     requires { program_room front.view ≤ length out.old }
     ensures { Rests (record { front = front; why = NotRead }) result out.new }
 {
-    let view = front.view;
-    match view {
-        View::Answers => put_ended(front, out),
-        View::History => put_ended(front, out),
+    match front.view {
+        View::Answers | View::History => put_ended(front, out),
         View::Chains => 0,
     }
 }
@@ -278,8 +270,7 @@ fn put_rest(halted: Halted, out: &mut [u8]) -> usize
     ensures { Rests halted result out.new }
 {
     let front = halted.front;
-    let why = halted.why;
-    match why {
+    match halted.why {
         Halt::Ended => put_ended(front, out),
         Halt::NotRead => put_unread(front, out),
         Halt::AllRead => put_closed(front, out),
@@ -293,24 +284,17 @@ fn to_write_last<'a>(halted: Halted, out: &'a mut [u8]) -> &'a [u8]
     ensures { HandsOnLast halted result.now }
 {
     let at = put_rest(halted, out);
-    let all = &out[..];
-    &all[0..at]
+    &out[..at]
 }
 
 // Handles all of the input, and what is written and said at its end; returns which program was run.
 #[tactic(auto, using(crate::proofs::OneProgram::program_kept, crate::proofs::OneProgram::room_kept, program_rules::proofs::Closings::line_room_lem))]
-fn serve_input(
-    rt: &HostRuntime,
-    method: Method,
-    view: View,
-    input: &mut [u8],
-    out: &mut [u8],
-) -> Program
-    requires { program_room view ≤ length out.old }
-    ensures { result ≡ program_by method view }
+fn serve_input(rt: &HostRuntime, program: Program, input: &mut [u8], out: &mut [u8]) -> Program
+    requires { program_room program.view ≤ length out.old }
+    ensures { result ≡ program }
 {
-    let halted = serve_all(rt, method, view, input, out);
-    let _ = put_out(rt, Program { method, view }, to_write_last(halted, out));
+    let halted = serve_all(rt, program, input, out);
+    let _ = put_out(rt, program, to_write_last(halted, out));
     program_of(halted.front)
 }
 
@@ -322,5 +306,5 @@ pub fn serve(rt: &HostRuntime, method: Method, view: View) -> Program
 {
     let mut input = [0u8; BUFFER];
     let mut out = [0u8; BUFFER];
-    serve_input(rt, method, view, &mut input, &mut out)
+    serve_input(rt, Program { method, view }, &mut input, &mut out)
 }

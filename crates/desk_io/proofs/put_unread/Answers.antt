@@ -2,12 +2,8 @@
 -- Assumes nothing.
 use mathlib.Core.Path.{refl}
 use borrow.Author.Rules.{rules}
-use Rattle.desk_io.proofs.Rest.{rests_answers, rests_history}
-use borrow.Author.Rules.{rules}
+use Rattle.desk_io.proofs.Rest.{rests_told}
 use Rattle.desk_io.proofs.put_unread.Goals as goal
 
 pub returns-in-Answers : goal.returns-in-Answers
-returns-in-Answers c = rests_answers _ _ (search rules) c.put_ended.ensures.0 c.put_ended.ensures.1 refl (search rules)
-
-pub returns-in-History : goal.returns-in-History
-returns-in-History c = rests_history _ _ (search rules) c.put_ended-in-History.ensures.0 c.put_ended-in-History.ensures.1 refl (search rules)
+returns-in-Answers c = rests_told _ _ (search rules) c.put_ended.ensures.0 c.put_ended.ensures.1 refl (search rules)

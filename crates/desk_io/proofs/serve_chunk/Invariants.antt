@@ -2,8 +2,7 @@
 -- Assumes nothing.
 use Prim.Native.Nat.{◌-◌}
 use mathlib.Core.Path.{◌≡◌}
-use lib.ListN.{length}
-use lib.ListN.{take}
+use lib.ListN.{length, take}
 use Rattle.desk_io.specs.Serving.{front_after}
 use Rattle.desk_io.proofs.serve_chunk.Given as goal
 
