@@ -2,11 +2,13 @@
 // For each case, writes the verdict's line, then the line handed back, if any, and `!` if the buffer is not as told or two of the judge's entries differ.
 #![tactic(auto)]
 
-ghost use Rattle.std.specs.Prelude.{◌≤◌, length};
+ghost use Rattle.std.specs.Prelude.{◌≡◌, ◌+◌, ◌≤◌, length};
+ghost use Rattle.terms.specs.Limits.{judged_bytes};
 
 use judge::entry::{judge, judge_text};
 use judge_line::verdict::write_verdict;
 use judge_rules::verdict::Verdict;
+use std::io;
 use terms::limits::JUDGED_BYTES;
 use terms::refusals::{Refusal, field_of};
 use terms::words::NEWLINE;
@@ -29,30 +31,22 @@ const MARK: u8 = b'=';
 // One byte more than a text may have: enough of a longer text to refuse it.
 const KEPT: usize = JUDGED_BYTES + 1;
 
-// Where the next byte stands: at the start of a line, further on in a line of the text, or in a header line.
+// Where the next byte stands: at the start of a line, further on in a line of the text, or in a header line, whose digits so far make a number.
 #[derive(Clone, Copy)]
 enum Spot {
     First,
     Further,
-    Header,
+    Header(usize),
 }
 
-// The case under way: whether its header has ended, the places to lend, and how many bytes of its text are kept.
+// The case under way: the number in its header, once that has ended; where the next byte stands; and its text, as far as there is room.
 #[derive(Clone, Copy)]
 struct Case {
-    open: bool,
-    places: usize,
-    len: usize,
+    lent: Option<usize>,
     spot: Spot,
-}
-
-// The answer of the entry that hands back a line: the verdict in four numbers, the case first, and last the field at fault of refusal 9.
-#[derive(Clone, Copy)]
-struct Numbers {
-    case: u32,
-    second: u32,
-    third: u32,
-    fourth: u32,
+    text: [u8; KEPT],
+    len: usize,
+    ghost kept: { (length text ≡ judged_bytes + 1) × (len ≤ judged_bytes + 1) },
 }
 
 fn put_bytes(rt: &HostRuntime, bytes: &[u8]) {
@@ -70,9 +64,7 @@ fn put_mark(rt: &HostRuntime) {
 fn put_verdict(rt: &HostRuntime, said: Verdict, order: &[u8; ORDER_PLACES]) {
     let mut out = [0u8; ROOM];
     match write_verdict(said, order, &mut out) {
-        Ok(next) => {
-            put_bytes(rt, &out[0..next]);
-        }
+        Ok(next) => put_bytes(rt, &out[0..next]),
         Err(_) => put_mark(rt),
     }
 }
@@ -87,85 +79,56 @@ fn put_line(rt: &HostRuntime, line: &[u8]) {
 // How many places a verdict fills.
 fn told_places(said: Verdict) -> usize {
     match said {
-        Verdict::Orderly(n) => n,
-        Verdict::Knot(n) => n,
-        Verdict::Dirty {
-            reader: _,
-            writer: _,
-        } => 2,
-        Verdict::No { line: _, why: _ } => 0,
+        Verdict::Orderly(n) | Verdict::Knot(n) => n,
+        Verdict::Dirty { .. } => 2,
+        Verdict::No { .. } => 0,
+    }
+}
+
+// The four numbers of a verdict, the case first, and last the field at fault of refusal 9.
+fn numbers_of(said: Verdict) -> [usize; 4] {
+    match said {
+        Verdict::Orderly(n) => [0, n, 0, 0],
+        Verdict::Knot(n) => [1, n, 0, 0],
+        Verdict::Dirty { reader, writer } => [3, usize::from(reader), usize::from(writer), 0],
+        Verdict::No { line, why } => {
+            let number = usize::from(u8::from(why));
+            [2, number, line, usize::from(field_of(why))]
+        }
     }
 }
 
 // Whether a verdict in numbers is the verdict.
-fn same_verdict(said: Verdict, numbers: Numbers) -> bool {
-    match said {
-        Verdict::Orderly(n) => {
-            numbers.case == 0 && numbers.second as usize == n && numbers.fourth == 0
-        }
-        Verdict::Knot(n) => {
-            numbers.case == 1 && numbers.second as usize == n && numbers.fourth == 0
-        }
-        Verdict::Dirty { reader, writer } => {
-            numbers.case == 3
-                && numbers.second == reader as u32
-                && numbers.third == writer as u32
-                && numbers.fourth == 0
-        }
-        Verdict::No { line, why } => {
-            numbers.case == 2
-                && numbers.second == u8::from(why) as u32
-                && numbers.third as usize == line
-                && numbers.fourth == field_of(why) as u32
-        }
-    }
+fn same_verdict(said: Verdict, numbers: [u32; 4]) -> bool {
+    numbers.map(|n| n as usize) == numbers_of(said)
 }
 
 // Whether reader and writer of a dirty read stand in the first two places.
 fn pair_stands(said: Verdict, order: &[u8; ORDER_PLACES]) -> bool {
     match said {
-        Verdict::Orderly(_) => true,
-        Verdict::Knot(_) => true,
-        Verdict::Dirty { reader, writer } => order[0] == reader && order[1] == writer,
-        Verdict::No { line: _, why: _ } => true,
+        Verdict::Dirty { reader, writer } => order.starts_with(&[reader, writer]),
+        _ => true,
     }
 }
 
-// Whether two buffers agree in the first n places and all others are untouched.
-fn rest_stays<'a>(one: &'a [u8; ORDER_PLACES], other: &'a [u8; ORDER_PLACES], n: usize) -> bool {
-    let mut i: usize = 0;
-    while i < ORDER_PLACES {
-        if one[i] != other[i] {
-            return false;
-        }
-        if n <= i && one[i] != UNTOUCHED {
-            return false;
-        }
-        i += 1;
-    }
-    true
+// Whether two buffers agree and all places but the first n are untouched.
+fn rest_stays(one: &[u8; ORDER_PLACES], other: &[u8; ORDER_PLACES], n: usize) -> bool {
+    one == other && one.iter().skip(n).all(|place| *place == UNTOUCHED)
 }
 
-// Calls two of the judge's entries on a text, each with its own buffer, and writes what they say.
-fn report(rt: &HostRuntime, text: &[u8], places: usize)
-    requires { places ≤ 300 }
-{
+// Calls two of the judge's entries on a text, each with its own buffer, of which this many places are lent, or all if it has fewer; and writes what they say.
+fn report(rt: &HostRuntime, text: &[u8], places: usize) {
+    let lent = places.min(ORDER_PLACES);
     let mut order = [UNTOUCHED; ORDER_PLACES];
-    let said = judge_text(text, &mut order[0..places]);
+    let said = judge_text(text, &mut order[..lent]);
     put_verdict(rt, said, &order);
     let mut again = [UNTOUCHED; ORDER_PLACES];
-    let mut answer = [0u32; 4];
-    let line = judge(text, &mut again[0..places], &mut answer);
-    let numbers = Numbers {
-        case: answer[0],
-        second: answer[1],
-        third: answer[2],
-        fourth: answer[3],
-    };
-    if numbers.case == 2 && numbers.third > 0 {
+    let mut answer = [0; 4];
+    let line = judge(text, &mut again[..lent], &mut answer);
+    if answer[0] == 2 && answer[2] > 0 {
         put_line(rt, line);
     }
-    if !(same_verdict(said, numbers)
+    if !(same_verdict(said, answer)
         && pair_stands(said, &order)
         && rest_stays(&order, &again, told_places(said)))
     {
@@ -173,177 +136,104 @@ fn report(rt: &HostRuntime, text: &[u8], places: usize)
     }
 }
 
-// A case that has ended: a text that is too long is refused before anything else.
-fn close(rt: &HostRuntime, case: Case, text: &[u8])
-    requires { (case.len ≤ length text.now) × (case.places ≤ 300) }
+// The number of a header with one more digit. More than all places are not lent, so it need not be exact above that.
+fn with_digit(number: usize, digit: u8) -> usize
+    requires { 48 ≤ digit }
 {
-    if !case.open {
-        return;
+    number
+        .saturating_mul(10)
+        .saturating_add(usize::from(digit - b'0'))
+}
+
+impl Case {
+    // Before the first header.
+    fn none() -> Self {
+        Self {
+            lent: None,
+            spot: Spot::First,
+            text: [0; KEPT],
+            len: 0,
+        }
     }
-    let len = case.len;
-    if len > JUDGED_BYTES {
-        let none = [UNTOUCHED; ORDER_PLACES];
-        put_verdict(
-            rt,
-            Verdict::No {
+
+    // Tells of a case that has ended: a text that is too long is refused before anything else.
+    fn close(&self, rt: &HostRuntime) {
+        let Some(places) = self.lent else {
+            return;
+        };
+        if self.len > JUDGED_BYTES {
+            let said = Verdict::No {
                 line: 0,
                 why: Refusal::TooLong,
-            },
-            &none,
-        );
-        return;
+            };
+            put_verdict(rt, said, &[UNTOUCHED; ORDER_PLACES]);
+            return;
+        }
+        report(rt, &self.text[..self.len], places);
     }
-    report(rt, &text[0..len], case.places);
-}
 
-// The number of places with one more digit, at most 300.
-fn with_digit(places: usize, digit: u8) -> usize
-    requires { (places ≤ 300) × (48 ≤ digit) × (digit ≤ 57) }
-    ensures { result ≤ 300 }
-{
-    let more = places * 10 + (digit - 48) as usize;
-    if more < ORDER_PLACES {
-        more
-    } else {
-        ORDER_PLACES
+    // Takes a byte of a header: the newline that ends it, a digit, or a byte to skip.
+    fn in_header(&mut self, number: usize, byte: u8) {
+        if byte == NEWLINE {
+            self.lent = Some(number);
+            self.spot = Spot::First;
+        } else if byte.is_ascii_digit() {
+            self.spot = Spot::Header(with_digit(number, byte));
+        }
     }
-}
 
-// A byte of a header: a digit, the newline that ends it, or a byte to skip.
-fn in_header(case: Case, byte: u8) -> Case
-    requires { case.places ≤ 300 }
-    ensures { (result.len ≤ case.len) × (result.places ≤ 300) }
-{
-    if byte == NEWLINE {
-        return Case {
-            open: true,
-            places: case.places,
-            len: 0,
-            spot: Spot::First,
+    // Takes a byte of the text, and keeps it if there is room.
+    fn in_text(&mut self, byte: u8) {
+        if self.len < KEPT {
+            self.text[self.len] = byte;
+            self.len += 1;
+        }
+        self.spot = if byte == NEWLINE {
+            Spot::First
+        } else {
+            Spot::Further
         };
     }
-    if byte < 48 {
-        return case;
-    }
-    if byte > 57 {
-        return case;
-    }
-    Case {
-        open: false,
-        places: with_digit(case.places, byte),
-        len: case.len,
-        spot: Spot::Header,
-    }
-}
 
-// Keeps a byte behind those kept so far, if there is room; returns how many are kept.
-fn keep(text: &mut [u8], len: usize, byte: u8) -> usize
-    requires { len ≤ length text.old }
-    ensures { result ≤ length text.new }
-{
-    if len < text.len() {
-        text[len] = byte;
-        return len + 1;
-    }
-    len
-}
-
-// Where the byte after a text byte stands.
-fn spot_after(byte: u8) -> Spot {
-    if byte == NEWLINE {
-        return Spot::First;
-    }
-    Spot::Further
-}
-
-// Takes a byte of the text.
-fn in_text(case: Case, byte: u8, text: &mut [u8]) -> Case
-    requires { (case.len ≤ length text.old) × (case.places ≤ 300) }
-    ensures { (result.len ≤ length text.new) × (result.places ≤ 300) }
-{
-    let len = keep(text, case.len, byte);
-    Case {
-        open: case.open,
-        places: case.places,
-        len,
-        spot: spot_after(byte),
-    }
-}
-
-// Takes one byte of the input.
-fn take_byte(rt: &HostRuntime, case: Case, byte: u8, text: &mut [u8]) -> Case
-    requires { (case.len ≤ length text.old) × (case.places ≤ 300) }
-    ensures { (result.len ≤ length text.new) × (result.places ≤ 300) }
-{
-    let spot = case.spot;
-    match spot {
-        Spot::Header => in_header(case, byte),
-        Spot::Further => in_text(case, byte, text),
-        Spot::First => {
-            if byte == MARK {
-                close(rt, case, text);
-                Case {
-                    open: false,
-                    places: 0,
-                    len: 0,
-                    spot: Spot::Header,
-                }
-            } else {
-                in_text(case, byte, text)
+    // Takes one byte of the input.
+    fn take_byte(&mut self, rt: &HostRuntime, byte: u8) {
+        match self.spot {
+            Spot::Header(number) => self.in_header(number, byte),
+            Spot::First if byte == MARK => {
+                self.close(rt);
+                self.lent = None;
+                self.len = 0;
+                self.spot = Spot::Header(0);
             }
+            _ => self.in_text(byte),
+        }
+    }
+
+    // Takes the bytes of a chunk, one after another.
+    fn take_chunk(&mut self, rt: &HostRuntime, chunk: &[u8]) {
+        for byte in chunk {
+            self.take_byte(rt, *byte);
         }
     }
 }
 
-// Takes the bytes of a chunk, one after another.
-fn take_chunk(rt: &HostRuntime, before: Case, chunk: &[u8], text: &mut [u8]) -> Case
-    requires { (before.len ≤ length text.old) × (before.places ≤ 300) }
-    ensures { (result.len ≤ length text.new) × (result.places ≤ 300) }
-{
-    let mut case = before;
-    let mut i: usize = 0;
-    while i < chunk.len() {
-        case = take_byte(rt, case, chunk[i], text);
-        i += 1;
-    }
-    case
-}
-
-// One read of the input; returns how many bytes came.
-fn read_some(rt: &HostRuntime, input: &mut [u8]) -> usize
-    ensures { result ≤ length input.new }
-{
-    match streams::read(rt, input) {
-        Ok(n) => n,
-        Err(e) => {
-            streams::fail(rt, "try_judge: cannot read", &e);
-            0
-        }
-    }
-}
-
-// Reads chunk after chunk. Nothing guarantees that the input ends, so the loop counts down from more turns than any run uses.
-fn take_all(rt: &HostRuntime, input: &mut [u8], text: &mut [u8]) {
-    let mut case = Case {
-        open: false,
-        places: 0,
-        len: 0,
-        spot: Spot::First,
-    };
-    let mut turns = u64::MAX;
-    while turns > 0 {
-        let n = read_some(rt, input);
+// Reads chunk after chunk. Nothing guarantees that the input ends, so the loop counts more turns than any run uses.
+fn take_all(rt: &HostRuntime, input: &mut [u8], case: &mut Case) -> io::Result<()> {
+    for _ in 0..u64::MAX {
+        let n = streams::read(rt, input)?;
         if n == 0 {
             break;
         }
-        case = take_chunk(rt, case, &input[0..n], text);
-        turns -= 1;
+        case.take_chunk(rt, &input[..n]);
     }
-    close(rt, case, text);
+    Ok(())
 }
 
 fn main(rt: HostRuntime) {
     let mut input = [0u8; BUFFER];
-    let mut text = [0u8; KEPT];
-    take_all(&rt, &mut input, &mut text);
+    let mut case = Case::none();
+    if let Err(e) = take_all(&rt, &mut input, &mut case) {
+        streams::fail(&rt, "try_judge: cannot read", &e);
+    }
+    case.close(&rt);
 }
