@@ -69,7 +69,7 @@ fn room(len: usize, n: usize) -> usize
     n.min(KEPT.saturating_sub(len))
 }
 
-// The kept bytes with the first n of a part put in from place len on.
+// The kept bytes with the first n of a part put in from place len on. A copy of the part `all[len..len + n]` would want len within the places, also where n is 0: a splitter of any length is allowed.
 #[tactic(auto, using(crate::proofs::Keeping::stored_more))]
 fn filled(bytes: [u8; KEPT], len: usize, part: &[u8], n: usize) -> [u8; KEPT]
     requires { (n ≤ length part.now) × (n ≤ kept - len) }
@@ -96,7 +96,7 @@ impl Splitter {
         }
     }
 
-    // The line under way after a part of it, which may end the line.
+    // The line under way after a part of it, which may end the line. Its last byte is read by its place: over `part.last()` the proof of the result stayed open.
     fn grown(self, part: &[u8]) -> Self
         requires { (0 < length part.now) × (used part.now ≡ length part.now) }
         ensures { result ≡ through (under_way self.kept self.len self.line) part.now }
