@@ -3,13 +3,12 @@
 use Prim.Native.Nat.{ℕ, ◌+◌, ◌-◌, ◌≤◌, ◌<◌, min}
 use mathlib.Core.Path.{◌≡◌, sym, ap, ap₂, ◌∙◌}
 use mathlib.Core.List.{List, [], ◌++◌}
-use native.Mathlib.Numerals.{add-one}
-use native.Mathlib.Nat.{zero-add, sub-zero}
+use native.Mathlib.Nat.{zero-add}
 use native.Mathlib.Omega.{arith}
-use lib.ListN.{length, take, drop, set, get_or, length-append}
+use lib.ListN.{length, take, drop, length-append}
 use lib.Dec.{leb}
 use borrow.Author.Tests.{leb-true, leb-false}
-use lib.Seq.{take_all, paste, paste-zero, paste-suc, take-paste, drop-paste, length-paste, take-length, take-append-add, drop-drop}
+use lib.Seq.{take_all, paste, paste-zero, take-paste, drop-paste, length-paste, take-length, take-append-add, drop-drop}
 use Rattle.laws.specs.Choice.{by_test}
 use Rattle.terms.specs.Limits.{judged_bytes}
 use Rattle.judge_rules.specs.VerdictLine.{verdict_of}

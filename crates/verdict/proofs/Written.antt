@@ -10,7 +10,7 @@ use Rattle.std.specs.Result.{result_unwrap_or}
 use Rattle.terms.specs.declared.refusals.Refusal.{Refusal}
 use Rattle.text_rules.specs.Records.{told, left}
 use Rattle.judge_rules.specs.VerdictLine.{verdict_of, line_limit}
-use Rattle.judge_line.proofs.LineLength.{verdict_at_most, verdict_told, verdict_left}
+use Rattle.judge_line.proofs.LineLength.{verdict_told, verdict_left}
 
 module _ (b text : List ℕ) (w : Result ℕ Refusal) (room : line_limit ≤ length b) (said : w ≡ told b 0 (verdict_of text)) where
   -- the place told is the line's length

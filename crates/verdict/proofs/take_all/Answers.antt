@@ -2,7 +2,7 @@
 -- Assumes nothing.
 use native.Mathlib.Omega.{arith}
 use borrow.Author.Rules.{rules}
-use Rattle.verdict.proofs.Keeping.{took_more, took_within}
+use Rattle.verdict.proofs.Keeping.{took_more}
 use Rattle.verdict.proofs.take_all.Goals as goal
 
 pub loop-len-preserved : goal.loop-len-preserved
