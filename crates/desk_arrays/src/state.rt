@@ -5,7 +5,6 @@ ghost use Rattle.desk_arrays.specs.Steps.{empty_desk, start_of, retried_job};
 use crate::codes::{RUNNING, SENT_BACK};
 use conflict::action::Action;
 use desks::Answer;
-use desks::finding::place_of;
 use terms::limits::{CELLS, PLACES};
 use terms::refusals::Refusal;
 
@@ -84,13 +83,21 @@ impl Desk {
     }
 
     // Rule 5: a sent back job runs again, still holding nothing; for any other number nothing changes.
-    #[tactic(auto, unfolding(crate::specs::Steps::retried), using(crate::proofs::Retrying::back_retries, crate::proofs::Retrying::nobody_retries, crate::proofs::Retrying::other_stays, crate::proofs::Retrying::unopened_stays))]
+    // A loop here, and no call of `place_of`: lending a field of a desk taken by value made each retry copy the whole desk once more.
+    #[tactic(auto, unfolding(crate::specs::Steps::retried), using(crate::proofs::Retrying::back_retries, crate::proofs::Retrying::nobody_retries, crate::proofs::Retrying::other_stays, crate::proofs::Retrying::unopened_stays, desks::proofs::Found::found_here, desks::proofs::Found::found_later, desks::proofs::Found::found_nowhere))]
     pub fn retry(mut self, job: u32) -> Desk
         ensures { result ≡ retried_job self job }
     {
-        let p = place_of(&self.number, job);
-        if job != 0 && p < PLACES && self.status[p] == SENT_BACK {
-            self.status[p] = RUNNING;
+        if job == 0 {
+            return self;
+        }
+        for p in 0..PLACES {
+            if self.number[p] == job {
+                if self.status[p] == SENT_BACK {
+                    self.status[p] = RUNNING;
+                }
+                return self;
+            }
         }
         self
     }
