@@ -31,7 +31,7 @@ fn put_chain(out: &mut [u8], at: usize, jobs: &[u32]) -> usize
 }
 
 // Writes the chains of all waiting jobs, in ascending order, one line each; they fit. Returns the place after them.
-#[tactic(auto, using(crate::proofs::Chaining::chain_fits, crate::proofs::Chaining::chained_all, crate::proofs::Chaining::chained_more, crate::proofs::Chaining::chained_none, crate::proofs::Chaining::chained_over, crate::proofs::Chaining::room_for_chain, text_rules::proofs::WroteLaws::wrote_length))]
+#[tactic(auto, using(crate::proofs::Chaining::chain_fits, crate::proofs::Chaining::chained_none, crate::proofs::Chaining::room_for_chain, text_rules::proofs::WroteLaws::wrote_length))]
 fn put_chains(out: &mut [u8], at: usize, d: Desk) -> usize
     requires { at + chains_room ≤ length out.old }
     ensures { Wrote at result (chain_text (chains_on d)) out.old out.new }
@@ -73,7 +73,7 @@ fn closing_room(view: View) -> usize
 }
 
 // Writes what a program writes last, behind the records of its lines: the chains of the waiting jobs, and nothing for answers and history. If it does not fit, the buffer must be written out first.
-#[tactic(auto, using(crate::proofs::Cases::last_chains, crate::proofs::Cases::last_none, program_rules::proofs::Ends::closes_full, program_rules::proofs::Ends::closes_put, program_rules::proofs::Ends::closes_room, text_rules::proofs::WroteLaws::wrote_as, text_rules::proofs::WroteLaws::wrote_none))]
+#[tactic(auto, using(program_rules::proofs::Ends::closes_full, program_rules::proofs::Ends::closes_room))]
 pub fn close(view: View, c: Clerk, out: &mut [u8], at: usize) -> Finished
     ensures { (result ≡ (close_of view c out.old at).finished) × (out.new ≡ (close_of view c out.old at).out) }
 {

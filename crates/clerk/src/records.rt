@@ -71,7 +71,7 @@ fn ask_by(k: Kind) -> Ask
 }
 
 // The line that the history notes of a request that goes, if any; u is noted as r.
-#[tactic(auto, using(crate::proofs::Noting::went_asks, crate::proofs::Noting::went_ended, crate::proofs::Noting::went_untold))]
+#[tactic(auto, using(crate::proofs::Noting::went_ended, crate::proofs::Noting::went_untold))]
 fn noted_go(letter: Letter, job: u32, cell: u32) -> Option<Line>
     ensures { noted_bytes result ≡ text_of (went_by (asking letter cell) job (Some letter)) }
 {
@@ -123,7 +123,7 @@ fn put_line(out: &mut [u8], at: usize, l: Line) -> usize
 }
 
 // Writes the line that the history notes, if any.
-#[tactic(auto, using(crate::proofs::Adding::added_as, crate::proofs::Adding::added_none, crate::proofs::Cases::line_noted, crate::proofs::Cases::nothing_noted))]
+#[tactic(auto, using(crate::proofs::Adding::added_as, crate::proofs::Cases::line_noted))]
 fn put_noted(out: &mut [u8], at: usize, noted: Option<Line>) -> usize
     requires { at + longest_record ≤ length out.old }
     ensures { Added longest_record at result (noted_bytes noted) out.old out.new }
@@ -135,7 +135,7 @@ fn put_noted(out: &mut [u8], at: usize, noted: Option<Line>) -> usize
 }
 
 // Writes the first record of a line; on a desk without wakes it is the only one.
-#[tactic(auto, using(crate::proofs::Adding::added_as, crate::proofs::Adding::added_none, crate::proofs::Adding::answer_besides, crate::proofs::Cases::first_answer, crate::proofs::Cases::first_chains, crate::proofs::Cases::first_noted))]
+#[tactic(auto, using(crate::proofs::Adding::added_as, crate::proofs::Adding::answer_besides, crate::proofs::Cases::first_answer, crate::proofs::Cases::first_noted))]
 pub fn put_first(out: &mut [u8], at: usize, h: Heading, r: Reply) -> usize
     requires { at + longest_record ≤ length out.old }
     ensures { Added longest_record at result (first_record h.view h.line r.letter r.cell r.answer) out.old out.new }
@@ -149,7 +149,7 @@ pub fn put_first(out: &mut [u8], at: usize, h: Heading, r: Reply) -> usize
 }
 
 // Writes the record of a wake.
-#[tactic(auto, using(crate::proofs::Adding::added_as, crate::proofs::Adding::added_none, crate::proofs::Cases::wake_answer, crate::proofs::Cases::wake_chains, crate::proofs::Cases::wake_noted))]
+#[tactic(auto, using(crate::proofs::Adding::added_as, crate::proofs::Cases::wake_answer, crate::proofs::Cases::wake_noted))]
 fn put_wake(out: &mut [u8], at: usize, h: Heading, a: Action) -> usize
     requires { at + longest_record ≤ length out.old }
     ensures { Added longest_record at result (wake_record h.view h.line a) out.old out.new }
@@ -173,7 +173,7 @@ fn put_wake(out: &mut [u8], at: usize, h: Heading, a: Action) -> usize
 }
 
 // Writes one record for each woken place; number and request are read off the desk's arrays.
-#[tactic(auto, using(crate::proofs::Waking::wakes_all, crate::proofs::Waking::wakes_more, crate::proofs::Waking::wakes_none))]
+#[tactic(auto, using(crate::proofs::Waking::wakes_all))]
 fn put_wakes(out: &mut [u8], at: usize, h: Heading, w: Waits, woken: &[u8]) -> usize
     requires { at + longest_record * length woken.now ≤ length out.old }
     ensures { Wrote at result (wake_records h.view h.line (map (wake_at w.entry.number.now w.entry.cell.now w.entry.ask.now) woken.now)) out.old out.new }

@@ -109,7 +109,7 @@ fn answer_line(
 
 // Answers every line that ends in the chunk, from a place on, and puts its records into the buffer from a place on, while bytes are left and any line's records would fit.
 // If they might not fit, the work is full: it stops before the next cut, and goes on from there once the buffer is written out.
-#[tactic(auto, unfolding(program_rules::specs::Work::roomy), using(crate::proofs::Going::cut_moves, crate::proofs::Going::left_all, crate::proofs::Going::left_answers, crate::proofs::Going::left_full, crate::proofs::Going::left_none, crate::proofs::Going::left_passes))]
+#[tactic(auto, unfolding(program_rules::specs::Work::roomy), using(crate::proofs::Going::left_all, crate::proofs::Going::left_passes))]
 pub fn work(
     view: View,
     mut c: Clerk,
@@ -158,7 +158,7 @@ fn put_unended(view: View, out: &mut [u8], at: usize, s: Splitter) -> usize
 }
 
 // The end of the input: a line without its newline gets refusal 9, with the field at fault. If that does not fit, the buffer must be written out first.
-#[tactic(auto, unfolding(program_rules::specs::Work::roomy), using(program_rules::proofs::Ends::ends_full, program_rules::proofs::Ends::ends_none, program_rules::proofs::Ends::ends_put, program_rules::proofs::Ends::owing_line))]
+#[tactic(auto, unfolding(program_rules::specs::Work::roomy), using(program_rules::proofs::Ends::ends_full, program_rules::proofs::Ends::ends_none, program_rules::proofs::Ends::owing_line))]
 pub fn finish(view: View, c: Clerk, out: &mut [u8], at: usize) -> Finished
     ensures { (result ≡ (finish_of view c out.old at).finished) × (out.new ≡ (finish_of view c out.old at).out) }
 {

@@ -1,7 +1,6 @@
 -- Where a call of the work ends, and where a chunk and a text end, call after call and chunk after chunk.
 -- Assumes nothing.
 use Rattle.std.specs.Prelude.{Result, Ok, Err, IsErrAnd}
-use Rattle.text_rules.specs.declared.splitter.Splitter.{Splitter}
 use Prim.Native.Nat.{ℕ, ◌+◌, ◌-◌, ◌≤◌, ◌<◌}
 use mathlib.Core.Path.{◌≡◌, sym, ap, ◌∙◌}
 use mathlib.Core.List.{List, [], ◌++◌}
@@ -19,8 +18,8 @@ use Rattle.program_rules.proofs.AnyCourse.{call_did}
 use Rattle.desk_io.specs.declared.Front.{Front}
 use Rattle.desk_io.specs.declared.Called.{Called}
 use Rattle.desk_io.specs.declared.Halt.{Halt}
-use Rattle.desk_io.specs.declared.Halt.TheVariants.{NotRead, NotTaken}
-use Rattle.desk_io.specs.Serving.{front_after, Turned, HandsOn, Serves, Saw, Over}
+use Rattle.desk_io.specs.declared.Halt.TheVariants.{NotTaken}
+use Rattle.desk_io.specs.Serving.{front_after, Turned, HandsOn, Serves, Saw}
 
 -- a front that has seen some bytes and then others has seen them joined
 front_append : (f : Front) (a b : List ℕ) → front_after f (a ++ b) ≡ front_after (front_after f a) b
@@ -84,11 +83,3 @@ saw_then s t = saw_on s t.text t.front
 -- after a chunk the front has seen that chunk, all of it or as far as output was taken
 pub saw_part : {f k : Front} {chunk : List ℕ} {r : Result (Unit {0}) Halt} → Serves f chunk k r → Saw f k
 saw_part {chunk = chunk} t = record { text = take t.seen chunk; front = t.some }
-
--- if output is not taken, reading stops for that reason
-pub untaken_over : {h : Halt} (s : Splitter) → h ≡ NotTaken → Over h s
-untaken_over s e = rw e tt
-
--- and so it does if a read failed
-pub unread_over : {h : Halt} (s : Splitter) → h ≡ NotRead → Over h s
-unread_over s e = rw e tt

@@ -31,6 +31,7 @@ struct Front {
 }
 
 // The front after a call of the work, the place in the chunk, and the place in the buffer before which the records stand.
+// The three stay together, since what is to be written out is stated of all three (`HandsOn`).
 #[derive(Clone, Copy)]
 struct Called {
     front: Front,
@@ -195,7 +196,7 @@ fn serve_chunk(
 }
 
 // One read, and the chunk that it gives, or why no more is read.
-#[tactic(auto, using(crate::proofs::Places::saw_none, crate::proofs::Places::saw_part, crate::proofs::Places::unread_over, crate::proofs::Places::untaken_over))]
+#[tactic(auto, using(crate::proofs::Places::saw_none, crate::proofs::Places::saw_part))]
 fn serve_read(
     rt: &HostRuntime,
     front: &mut Front,
@@ -252,7 +253,7 @@ fn put_closed(front: Front, out: &mut [u8]) -> usize
 }
 
 // A read failed: answers and history end as at the end of the input, and no chain is told for half a text.
-#[tactic(auto, using(crate::proofs::Rest::rests_chains, crate::proofs::Rest::rests_told))]
+#[tactic(auto, using(crate::proofs::Rest::rests_chains))]
 fn put_unread(front: Front, out: &mut [u8]) -> usize
     requires { program_room front.view ≤ length out.old }
     ensures { Rests (record { front = front; why = NotRead }) result out.new }
@@ -264,7 +265,7 @@ fn put_unread(front: Front, out: &mut [u8]) -> usize
 }
 
 // What is still to be written once no more is read, from the buffer's first byte.
-#[tactic(auto, using(crate::proofs::Rest::rests_ended, crate::proofs::Rest::rests_read, crate::proofs::Rest::rests_unread, crate::proofs::Rest::rests_untaken))]
+#[tactic(auto, using(crate::proofs::Rest::rests_unread, crate::proofs::Rest::rests_untaken))]
 fn put_rest(halted: Halted, out: &mut [u8]) -> usize
     requires { (program_room halted.front.view ≤ length out.old) × (Over halted.why halted.front.clerk.splitter) }
     ensures { Rests halted result out.new }
@@ -288,7 +289,7 @@ fn to_write_last<'a>(halted: Halted, out: &'a mut [u8]) -> &'a [u8]
 }
 
 // Handles all of the input, and what is written and said at its end; returns which program was run.
-#[tactic(auto, using(crate::proofs::OneProgram::program_kept, crate::proofs::OneProgram::room_kept, program_rules::proofs::Closings::line_room_lem))]
+#[tactic(auto, using(crate::proofs::OneProgram::room_kept, program_rules::proofs::Closings::line_room_lem))]
 fn serve_input(rt: &HostRuntime, program: Program, input: &mut [u8], out: &mut [u8]) -> Program
     requires { program_room program.view ≤ length out.old }
     ensures { result ≡ program }

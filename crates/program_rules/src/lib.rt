@@ -9,6 +9,7 @@ use stamp_arrays::state::Stamps;
 use text_rules::Splitter;
 
 // The method by which requests are answered: each has its desk.
+// The definitions choose by it which desk steps (`step_by`), so it is an enum and not a closure that is passed on.
 #[derive(Clone, Copy)]
 pub enum Method {
     // by locks
@@ -33,6 +34,7 @@ pub struct Clerk {
 }
 
 // What is written: the answers, the history, or the chains of the waiting jobs.
+// The definitions choose by it what is written (`viewed`, `closing`), so it is an enum and not a closure that is passed on.
 #[derive(Clone, Copy)]
 pub enum View {
     // the answers, one for each line, each with its wakes
@@ -44,6 +46,7 @@ pub enum View {
 }
 
 // How far the work on a chunk has come: the clerk, the place in the chunk, the place after the records, and whether it stopped for lack of room.
+// A struct with `full` beside the places, as `docs/LINKING.md` names it: a caller goes on from these places whether it is full or not.
 #[derive(Clone, Copy)]
 pub struct Worked {
     pub clerk: Clerk,
@@ -53,6 +56,7 @@ pub struct Worked {
 }
 
 // The end of the input: the place after the last bytes written, or that there was no room for them.
+// A struct as `docs/LINKING.md` names it; the place stands in it either way.
 #[derive(Clone, Copy)]
 pub struct Finished {
     pub at: usize,

@@ -5,7 +5,6 @@ use borrow.Author.Tests.{not-true, not-false}
 use Rattle.laws.specs.Choice.{was_true, was_false}
 use Rattle.program_rules.specs.Work.{roomy}
 use Rattle.program_rules.proofs.Ends.{ends_put}
-use borrow.Author.Rules.{rules}
 use Rattle.clerk.proofs.work.finish.Goals as goal
 
 -- what a test that a callee made says
