@@ -20,7 +20,7 @@ fn first_with(number: &[u32; PLACES], job: u32) -> Option<usize>
     number.iter().position(|n| *n == job)
 }
 
-// The place of a job, or 32 if it has none; the place of job 0 is the first free place.
+// The place of a job, or 32 if it has none, as the definition `pos` has it, of which the desks' promises speak; the place of job 0 is the first free place.
 pub fn place_of(number: &[u32; PLACES], job: u32) -> usize
     ensures { result ≡ pos number.now job }
 {

@@ -5,7 +5,7 @@ pub mod finding;
 
 use terms::refusals::Refusal;
 
-// Go, wait or back, with the job, or a refusal (01, Refusals by number). For a begin the job is the new one.
+// Go, wait or back, with the job, or a refusal (01, Refusals by number). For a begin the job is the new one. It is the paper's answer with its four words, so no Result: wait and back are no less answers than go.
 #[derive(Clone, Copy)]
 pub enum Answer {
     // it is done, or granted

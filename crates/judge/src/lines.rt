@@ -1,5 +1,5 @@
 // The lines of a history as the scan keeps them: three numbers each, in fixed memory (01, The judge's rules).
-ghost use Rattle.std.specs.Prelude.{◌≡◌, ◌<◌, length};
+ghost use Rattle.std.specs.Prelude.{◌≡◌, ◌<◌, length, replicate};
 ghost use Rattle.terms.specs.Limits.{judged_lines};
 
 use terms::limits::JUDGED_LINES;
@@ -25,7 +25,9 @@ impl KeptLines {
     ghost use Rattle.judge.specs.Scanned.{WithLine};
 
     // Room for as many lines as a history may have.
-    pub(crate) fn none() -> Self {
+    pub(crate) fn none() -> Self
+        ensures { (result.codes ≡ replicate judged_lines 0) × (result.jobs ≡ replicate judged_lines 0) × (result.cells ≡ replicate judged_lines 0) }
+    {
         Self {
             codes: [0; JUDGED_LINES],
             jobs: [0; JUDGED_LINES],

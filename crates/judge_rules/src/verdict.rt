@@ -1,4 +1,4 @@
-// What the judge says (01, The judge's rules).
+// What the judge says (01, The judge's rules): the paper's four words, so no Result.
 use terms::refusals::Refusal;
 
 // Dirty with its reader and its writer, which fill the first two places of the order buffer; orderly or a knot, with how many jobs fill its first places; or a refusal with its line number, 0 if it is not for a line.

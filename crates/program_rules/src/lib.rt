@@ -45,7 +45,7 @@ pub enum View {
     Chains,
 }
 
-// How far the work on a chunk has come: the clerk, the place in the chunk, the place after the records, and whether it stopped for lack of room.
+// How far the work on a chunk has come: the clerk, the place in the chunk, the place after the records, and whether it stopped for lack of room. It goes on from there either way, so `full` is no error.
 // A struct with `full` beside the places, as `docs/LINKING.md` names it: a caller goes on from these places whether it is full or not.
 #[derive(Clone, Copy)]
 pub struct Worked {
@@ -55,7 +55,7 @@ pub struct Worked {
     pub full: bool,
 }
 
-// The end of the input: the place after the last bytes written, or that there was no room for them.
+// The end of the input: the place after the last bytes written, and whether there was no room for them. Both cases have the place, and pages name the fields, so it is no Result.
 // A struct as `docs/LINKING.md` names it; the place stands in it either way.
 #[derive(Clone, Copy)]
 pub struct Finished {

@@ -1,7 +1,7 @@
 // The program `verdict`: the judge's verdict on the history on standard input, as one line (01, What is delivered).
 #![tactic(auto)]
 
-ghost use Rattle.std.specs.Prelude.{◌≡◌, ◌+◌, ◌≤◌, length, IfOk};
+ghost use Rattle.std.specs.Prelude.{◌≡◌, ℕ, ◌+◌, ◌≤◌, length, IfOk};
 ghost use Rattle.terms.specs.Limits.{judged_bytes};
 ghost use Rattle.judge_rules.specs.VerdictLine.{verdict_of, line_limit};
 ghost use Rattle.verdict.specs.Taking.{fitting, kept, Took, Judges};
@@ -42,7 +42,8 @@ fn keep(text: &mut [u8], before: usize, chunk: &[u8]) -> usize
 // Reads until the input ends or the text's buffer is full; how many bytes are kept. Each read that goes on brings a byte, so the buffer's room bounds their number.
 #[tactic(auto, using(crate::proofs::Keeping::took_none, crate::proofs::Keeping::took_within), unfolding(crate::specs::Taking::fitting))]
 fn take_all(rt: &HostRuntime, input: &mut [u8], text: &mut [u8]) -> io::Result<usize>
-    ensures { IfOk result (λ n. Took text.old text.new n) }
+    ensures taken { IfOk result (λ n. Took text.old text.new n) }
+    ensures kept { (n : ℕ) × Took text.old text.new n }
 {
     let mut len = 0;
     while len < text.len() {

@@ -6,4 +6,4 @@ use Rattle.verdict.proofs.Keeping.{took_within}
 use Rattle.verdict.proofs.report.Goals as goal
 
 pub to_write-requires : goal.to_write-requires
-to_write-requires c = let w = took_within c.in-Ok.ensures in (search rules, omega arith, search rules)
+to_write-requires c = let w = took_within c.in-Ok.ensures.taken in (search rules, omega arith, search rules)
