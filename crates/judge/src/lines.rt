@@ -25,7 +25,7 @@ impl KeptLines {
     ghost use Rattle.judge.specs.Scanned.{WithLine};
 
     // Room for as many lines as a history may have.
-    pub fn none() -> Self {
+    pub(crate) fn none() -> Self {
         Self {
             codes: [0; JUDGED_LINES],
             jobs: [0; JUDGED_LINES],
@@ -34,7 +34,7 @@ impl KeptLines {
     }
 
     // Keeps a line behind the first n.
-    pub fn keep(&mut self, n: usize, line: KeptLine)
+    pub(crate) fn keep(&mut self, n: usize, line: KeptLine)
         requires { n < judged_lines }
         ensures { WithLine self.old n line self.new }
     {
