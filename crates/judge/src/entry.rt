@@ -50,7 +50,7 @@ fn judgement(text: &[u8], order: &mut [u8]) -> Judged
 }
 
 // A verdict in four numbers; the fourth is the field at fault for refusal 9, else 0 (02, No. 5).
-#[tactic(auto, using(crate::proofs::Numbered::dirty_numbers, crate::proofs::Numbered::knot_fits, crate::proofs::Numbered::knot_numbers, crate::proofs::Numbered::line_fits, crate::proofs::Numbered::orderly_fits, crate::proofs::Numbered::orderly_numbers, crate::proofs::Numbered::refusal_numbers))]
+#[tactic(auto, using(crate::proofs::Numbered::dirty_numbers, crate::proofs::Numbered::knot_fits, crate::proofs::Numbered::knot_numbers, crate::proofs::Numbered::line_fits, crate::proofs::Numbered::orderly_fits, crate::proofs::Numbered::orderly_numbers))]
 fn in_numbers(said: Verdict) -> [u32; 4]
     requires { Small said }
     ensures { result ≡ in_numbers said }

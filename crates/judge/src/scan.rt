@@ -90,7 +90,7 @@ fn bare_end(text: &[u8], to: usize) -> usize
 }
 
 // Scans the lines of a text in order and keeps them, up to the first faulty line; how many there are.
-#[tactic(auto, using(crate::proofs::Scanning::kept_within, crate::proofs::Scanning::line_falls, crate::proofs::Scanning::line_some, crate::proofs::Scanning::line_within, crate::proofs::Scanning::scanning_done, crate::proofs::Scanning::scanning_kept, crate::proofs::Scanning::scanning_refused, crate::proofs::Scanning::scanning_starts))]
+#[tactic(auto, using(crate::proofs::Scanning::line_falls, crate::proofs::Scanning::line_some, crate::proofs::Scanning::line_within, crate::proofs::Scanning::scanning_kept))]
 pub fn scan(text: &[u8], lines: &mut KeptLines) -> Result<usize, Faulty>
     ensures { ScannedAs text.now lines.new result }
 {

@@ -95,7 +95,7 @@ fn put_given(out: &mut [u8], at: usize, n: u64) -> usize
 }
 
 // Writes the word no and its numbers, with a tab before each: line number, refusal, and the field at fault if it is not 0 (02, No. 5).
-#[tactic(auto, using(crate::proofs::WordLines::given_at_most_21, crate::proofs::WordLines::two_numbers, crate::proofs::WordLines::two_numbers_length, text_rules::proofs::DigitLaws::decimal_at_most_20, text_rules::proofs::RoomLaws::refused, text_rules::proofs::RoomLaws::written, text_rules::proofs::WroteLaws::wrote_as, text_rules::proofs::WroteLaws::wrote_then))]
+#[tactic(auto, using(crate::proofs::WordLines::given_at_most_21, text_rules::proofs::DigitLaws::decimal_at_most_20))]
 pub fn write_no(out: &mut [u8], line: u64, number: u64, fault: u64) -> Result<usize, Refusal>
     ensures { (result ≡ told out.old 0 (word_line No (line ∷ number ∷ given fault))) × (out.new ≡ left out.old 0 (word_line No (line ∷ number ∷ given fault))) }
 {
