@@ -58,7 +58,7 @@ fn field_beside(a: Answer) -> u64
     }
 }
 
-// The letter r, w or i, by the recorded kind.
+// The letter r, w or i, by the recorded kind. No `From`: both types are of other crates.
 #[tactic(auto, unfolding(text_rules::specs::EventRecords::ask_by))]
 fn ask_by(k: Kind) -> Ask
     ensures { result ≡ ask_by k }

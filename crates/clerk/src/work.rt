@@ -13,7 +13,7 @@ use crate::records::{put_bad, put_first, put_records};
 use desk::step as locks;
 use desk_arrays::board::Waits;
 use desk_arrays::state::Desk;
-use program_rules::{Clerk, Finished, Method, View, Worked};
+use program_rules::{Clerk, Desks, Finished, Method, View, Worked};
 use stamp_arrays::state::Stamps;
 use stamp_desk::step as stamps;
 use terms::limits::{PLACES, REQUEST_LINES};
@@ -86,22 +86,20 @@ fn answer_by_stamps(d: &mut Stamps, h: Heading, l: Line, out: &mut [u8], at: usi
 #[tactic(auto, using(program_rules::proofs::Turns::due_line))]
 fn answer_line(
     view: View,
-    c: &mut Clerk,
+    desks: &mut Desks,
     woken: &mut [u8; PLACES],
+    s: Splitter,
     out: &mut [u8],
     at: usize,
 ) -> usize
-    requires { (due c.old.splitter ≡ true) × (at + line_room ≤ length out.old) }
-    ensures { (turning view c.old out.old at ≡ record { clerk = c.new; at = result; out = out.new }) × (length out.new ≡ length out.old) }
+    requires { (due s ≡ true) × (at + line_room ≤ length out.old) }
+    ensures { (turning view (record { desks = desks.old; splitter = s }) out.old at ≡ record { clerk = record { desks = desks.new; splitter = s }; at = result; out = out.new }) × (length out.new ≡ length out.old) }
 {
-    let h = Heading {
-        view,
-        line: c.splitter.line,
-    };
-    match read_held(c.splitter) {
-        Ok(l) => match c.desks.method {
-            Method::Locks => answer_by_locks(&mut c.desks.locks, woken, h, l, out, at),
-            Method::Stamps => answer_by_stamps(&mut c.desks.stamps, h, l, out, at),
+    let h = Heading { view, line: s.line };
+    match read_held(s) {
+        Ok(l) => match desks.method {
+            Method::Locks => answer_by_locks(&mut desks.locks, woken, h, l, out, at),
+            Method::Stamps => answer_by_stamps(&mut desks.stamps, h, l, out, at),
         },
         Err(field) => put_bad(out, at, h, field),
     }
@@ -110,40 +108,33 @@ fn answer_line(
 // Answers every line that ends in the chunk, from a place on, and puts its records into the buffer from a place on, while bytes are left and any line's records would fit.
 // If they might not fit, the work is full: it stops before the next cut, and goes on from there once the buffer is written out.
 #[tactic(auto, unfolding(program_rules::specs::Work::roomy), using(crate::proofs::Going::left_all, crate::proofs::Going::left_passes))]
-pub fn work(
-    view: View,
-    mut c: Clerk,
-    chunk: &[u8],
-    from: usize,
-    out: &mut [u8],
-    at: usize,
-) -> Worked
+pub fn work(view: View, c: Clerk, chunk: &[u8], from: usize, out: &mut [u8], at: usize) -> Worked
     ensures { (result ≡ (work_of view c chunk.now from out.old at).worked) × (out.new ≡ (work_of view c chunk.now from out.old at).out) }
 {
+    // Desks and splitter change apart: with the clerk changed as a whole, a line took up to 5% longer.
+    let mut desks = c.desks;
     let mut woken = [0; PLACES];
+    let mut splitter = c.splitter;
     let mut next = from;
     let mut place = at;
+    let mut full = false;
     while next < chunk.len() {
         if !has_room(out.len(), place, LINE_ROOM) {
-            return Worked {
-                clerk: c,
-                next,
-                at: place,
-                full: true,
-            };
+            full = true;
+            break;
         }
-        let cut = c.splitter.cut(chunk, next);
-        c.splitter = cut.splitter;
+        let cut = splitter.cut(chunk, next);
+        splitter = cut.splitter;
         next = cut.next;
-        if is_due(c.splitter) {
-            place = answer_line(view, &mut c, &mut woken, out, place);
+        if is_due(splitter) {
+            place = answer_line(view, &mut desks, &mut woken, splitter, out, place);
         }
     }
     Worked {
-        clerk: c,
+        clerk: Clerk { desks, splitter },
         next,
         at: place,
-        full: false,
+        full,
     }
 }
 
