@@ -23,7 +23,7 @@ use terms::words::Word;
 use text::writer::{write_answer, write_line};
 use text_rules::Line;
 
-// The word of an answer.
+// The word of an answer: this and the two below are the definitions of an answer's record, one for one.
 #[tactic(auto, unfolding(desks::specs::AnswerWords::word_of))]
 fn word_of(a: Answer) -> Word
     ensures { (result ≡ word_of a) × (of_answers result ≡ true) }

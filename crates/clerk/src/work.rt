@@ -106,7 +106,7 @@ fn answer_line(
 }
 
 // Answers every line that ends in the chunk, from a place on, and puts its records into the buffer from a place on, while bytes are left and any line's records would fit.
-// If they might not fit, the work is full: it stops before the next cut, and goes on from there once the buffer is written out.
+// The loop counts no index: each cut tells where the next one begins. If they might not fit, the work is full: it stops before the next cut, and goes on from there once the buffer is written out.
 #[tactic(auto, unfolding(program_rules::specs::Work::roomy), using(crate::proofs::Going::left_all, crate::proofs::Going::left_passes))]
 pub fn work(view: View, c: Clerk, chunk: &[u8], from: usize, out: &mut [u8], at: usize) -> Worked
     ensures { (result ≡ (work_of view c chunk.now from out.old at).worked) × (out.new ≡ (work_of view c chunk.now from out.old at).out) }

@@ -28,7 +28,7 @@ fn holds_above(b: Board, c: usize, age: u32, q: usize) -> bool
     age < b.number[q]
 }
 
-// The place of the youngest holder of the cell that is younger than the job, or 32; this leaves out the job's own hold.
+// The place of the youngest holder of the cell that is younger than the job, or 32, as the definition has it; this leaves out the job's own hold.
 #[tactic(auto, unfolding(crate::specs::Chains::holder_above))]
 fn holder_above(b: Board, c: usize, job: u32) -> usize
     requires { c < cells }
@@ -45,7 +45,7 @@ fn holder_above(b: Board, c: usize, job: u32) -> usize
     best
 }
 
-// The place of the next job after the one at this place, or 32 if that one does not wait for a cell from 0 to 63.
+// The place of the next job after the one at this place, or 32, as the definition has it, if that one does not wait for a cell from 0 to 63.
 #[tactic(auto, unfolding(crate::specs::Chains::next_at))]
 fn next_at(b: Board, p: usize) -> usize
     requires { p < places }
@@ -119,7 +119,7 @@ fn waits_within(b: Board, last: u32, least: u64, q: usize) -> bool
     false
 }
 
-// The place of the waiter with the smallest number above `last`, or 32.
+// The place of the waiter with the smallest number above `last`, or 32, as the definition has it.
 #[tactic(auto, unfolding(crate::specs::Chains::waiter_above))]
 fn waiter_above(b: Board, last: u32) -> usize
     ensures { result ≡ waiter_above b.entry.number.now b.entry.status.now last places }
@@ -135,7 +135,7 @@ fn waiter_above(b: Board, last: u32) -> usize
     best
 }
 
-// Puts the chain of the first waiting job with a number above `last` into the first places of the list; tells how many jobs it has, or 0 if no such job waits.
+// Puts the chain of the first waiting job with a number above `last` into the first places of the list; tells how many jobs it has: no chain is empty, so 0 says that no such job waits.
 // Start with 0 and go on with the first job of the last chain told: this gives the chains of all waiting jobs, in ascending order.
 #[tactic(auto, using(crate::proofs::Looks::places_enough))]
 pub fn next_chain(d: Desk, last: u32, list: &mut [u32; PLACES]) -> usize

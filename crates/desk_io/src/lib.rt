@@ -48,7 +48,7 @@ enum Halt {
     NotTaken,
 }
 
-// The front after all that was read, and why reading stopped.
+// The front after all that was read, and why reading stopped: every stop has its front, so it is no Result.
 #[derive(Clone, Copy)]
 struct Halted {
     front: Front,

@@ -120,7 +120,7 @@ fn number_at(number: &[u32; PLACES], p: usize) -> u32
     number.get(p).copied().unwrap_or(0)
 }
 
-// The place of the youngest job waiting for the cell (the front of its queue), or 32.
+// The place of the youngest job waiting for the cell (the front of its queue), or 32, as the definition `youngest` has it.
 // The number of the best place so far stands in a variable: to read it anew at each waiter made a step slower by a twentieth.
 #[tactic(auto, unfolding(desk_arrays::specs::Places::youngest))]
 pub fn front_of(b: Board, c: usize) -> usize

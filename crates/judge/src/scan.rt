@@ -89,7 +89,7 @@ fn bare_end(text: &[u8], to: usize) -> usize
     if text[last] == NEWLINE { last } else { to }
 }
 
-// Scans the lines of a text in order and keeps them, up to the first faulty line; how many there are.
+// Scans the lines of a text in order and keeps them, up to the first faulty line; how many there are. The loop goes from line to line, and each line tells where the next begins.
 #[tactic(auto, using(crate::proofs::Scanning::line_falls, crate::proofs::Scanning::line_some, crate::proofs::Scanning::line_within, crate::proofs::Scanning::scanning_kept))]
 pub fn scan(text: &[u8], lines: &mut KeptLines) -> Result<usize, Faulty>
     ensures { ScannedAs text.now lines.new result }
