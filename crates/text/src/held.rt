@@ -10,8 +10,9 @@ use terms::Field;
 use text_rules::Reading;
 use text_rules::splitter::Splitter;
 
-// What the line in the splitter says.
+// What the line in the splitter says. The attribute keeps it in the loop over the lines, although the end of the input calls it too: each line takes some ten ns less.
 #[tactic(auto, using(std::proofs::lemmas::List::take_min), unfolding(text_rules::specs::Split::found_at))]
+#[inline(always)]
 pub fn read_held(s: Splitter) -> Reading
     ensures { result ≡ read_line of_requests (found_at s).bytes }
 {

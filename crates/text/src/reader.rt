@@ -146,8 +146,9 @@ fn first_letter(line: &[u8]) -> Option<Letter>
     }
 }
 
-// What a request line says. This and the reader of histories differ in the guard alone; a function that takes the guard would be no shorter.
+// What a request line says. This and the reader of histories differ in the guard alone; a function that takes the guard would be no shorter. The attribute stands for the reason that `read_held` has.
 #[tactic(auto, using(crate::proofs::LineParts::line_other, crate::proofs::LineParts::line_read, crate::proofs::LineParts::line_unknown))]
+#[inline(always)]
 pub fn read_request(line: &[u8]) -> Reading
     ensures { result ≡ read_line of_requests line.now }
 {
