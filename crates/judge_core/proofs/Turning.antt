@@ -6,8 +6,11 @@ use mathlib.Core.Bool.{true, false}
 use mathlib.Core.List.{List, [], ◌∷◌, ◌++◌}
 use native.Mathlib.Omega.{arith}
 use lib.Dec.{eqb}
-use lib.ListN.{length, get_or, take, drop, length-append}
-use lib.Seq.{drop-cons, split_at}
+use lib.ListN.{length, get_or, take, drop, length-append, length-take, length-drop}
+use lib.Seq.{drop-cons, split_at, take-append_seam}
+use borrow.Rule.Slice.PartMut.{put_mid}
+use Rattle.std.proofs.lemmas.List.{take-append-drop}
+use Rattle.std.proofs.lemmas.Slice.{take-put_mid, drop-put_mid, drop-append-drop}
 use borrow.Author.Tests.{eqb-true, ne_eqb}
 use Rattle.laws.specs.Choice.{not_both}
 use Rattle.laws.specs.Lists.{member, filled}
@@ -72,7 +75,25 @@ turn_length (k ∷ ks) =
     ap length (cut m (k ∷ ks)) ∙ length-append (up_to m (k ∷ ks)) (from m (k ∷ ks)) in
     length-append (from m (k ∷ ks)) (up_to m (k ∷ ks)) ∙ omega arith
 
--- a cycle put into the first places of a buffer, and turned there
-pub turned : (buffer round put first : List ℕ) (m : ℕ) → (m ≤ length round) × (turn round ≡ drop m round ++ take m round) → put ≡ round → first ≡ drop m put ++ take m put → first ++ drop (length round) buffer ≡ filled (turn round) buffer
+-- two parts put into the first places of a buffer, one behind the other
+two_parts : (buffer xs ys : List ℕ) → put_mid (length xs) (length ys) (xs ++ drop (length xs) buffer) ys ≡ (xs ++ ys) ++ drop (length (xs ++ ys)) buffer
+two_parts buffer xs ys =
+    let put = xs ++ drop (length xs) buffer in
+    let n = length (xs ++ ys) in
+    let l : n ≡ length xs + length ys = length-append xs ys in
+    let inside : length xs ≤ length put = rw (length-append xs (drop (length xs) buffer)) (omega arith) in
+    sym (take-append-drop n (put_mid (length xs) (length ys) put ys))
+    ∙ rw (
+      take-put_mid (length xs) (length ys) put ys n l inside,
+      drop-put_mid (length xs) (length ys) put ys n (omega (arith, l)) inside refl,
+      take-append_seam xs (drop (length xs) buffer),
+      drop-append-drop (length xs) buffer xs n (omega (arith, l)) refl,
+    )
+
+-- a cycle put into the first places of a buffer: from its smallest job on, and then what stands before that one
+pub turned : (buffer round front back first second : List ℕ) (m : ℕ) → (m ≤ length round) × (turn round ≡ drop m round ++ take m round) → front ≡ take m round → back ≡ drop m round → first ≡ back → second ≡ front →
+    put_mid (length back) (length round - length back) (first ++ drop (length back) buffer) second ≡ filled (turn round) buffer
 unfolding filled
-turned buffer round put first m t p e = rw (e, p, ← t.1, turn_length round)
+turned buffer round front back first second m t f b e g =
+    let k : length round - length (drop m round) ≡ length (take m round) = rw (length-drop m round, length-take m round) (omega (arith, t.0)) in
+    rw (e, g, f, b, k, t.1) (two_parts buffer (drop m round) (take m round))

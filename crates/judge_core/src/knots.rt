@@ -63,8 +63,7 @@ pub fn put_turned(buffer: &mut [u8], round: &[u8])
     requires { length round.now ≤ length buffer.old }
     ensures { buffer.new ≡ filled (turn round.now) buffer.old }
 {
-    let first = smallest_place(round);
-    let places = &mut buffer[..round.len()];
-    places.copy_from_slice(round);
-    places.rotate_left(first);
+    let (before, after) = round.split_at(smallest_place(round));
+    buffer[..after.len()].copy_from_slice(after);
+    buffer[after.len()..round.len()].copy_from_slice(before);
 }
