@@ -36,10 +36,11 @@ fn holder_above(b: Board, c: usize, job: u32) -> usize
 {
     let number = b.number;
     let mut best = PLACES;
+    let mut age = number.get(best).copied().unwrap_or(job);
     for q in 0..PLACES {
-        let age = number.get(best).copied().unwrap_or(job);
         if holds_above(b, c, age, q) {
             best = q;
+            age = number.get(q).copied().unwrap_or(job);
         }
     }
     best
@@ -126,10 +127,11 @@ fn waiter_above(b: Board, last: u32) -> usize
 {
     let number = b.number;
     let mut best = PLACES;
+    let mut least = number.get(best).copied().map_or(ABOVE_ALL, u64::from);
     for q in 0..PLACES {
-        let least = number.get(best).copied().map_or(ABOVE_ALL, u64::from);
         if waits_within(b, last, least, q) {
             best = q;
+            least = number.get(q).copied().map_or(ABOVE_ALL, u64::from);
         }
     }
     best
