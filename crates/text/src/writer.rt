@@ -62,6 +62,14 @@ impl Number {
         }
     }
 
+    // The number of a field that may not be there; the digits of one that is not there are not counted.
+    #[tactic(auto, using(text_rules::proofs::FieldLaws::field_none))]
+    fn of_field(there: bool, value: u64) -> Self
+        ensures { field there result ≡ field there value }
+    {
+        Number::new(if there { value } else { 0 })
+    }
+
     fn value(self) -> u64
         ensures { result ≡ self }
     {
@@ -216,8 +224,8 @@ pub fn write_line(
 ) -> Result<usize, Refusal>
     ensures { (result ≡ told buf.old at (line_record letter job cell)) × (buf.new ≡ left buf.old at (line_record letter job cell)) }
 {
-    let second = Number::new(job);
-    let third = Number::new(cell);
+    let second = Number::of_field(has_job(letter), job);
+    let third = Number::of_field(has_cell(letter), cell);
     let len = field_width(has_job(letter), second) + field_width(has_cell(letter), third) + 2;
     if !has_room(buf.len(), at, len) {
         return Err(Refusal::NoRoom);

@@ -1,11 +1,14 @@
 -- `text::writer::write_answer` meets its contract: a record that fits is written into the lent later part, and one that does not is refused.
 -- Assumes nothing.
-use Rattle.std.proofs.Common.{◌≡◌, length, ap, true, ltb, arith}
+use Rattle.std.proofs.Common.{◌≡◌, ◌∙◌, ℕ, ◌-◌, List, length, ap, true, ltb, arith}
+use borrow.Author.Rules.{part_to_end}
+use borrow.Rule.Slice.PartMut.{mid_of}
+use lib.ListN.{length-drop}
 use Rattle.text_rules.specs.Decimal.{decimal}
 use Rattle.text_rules.specs.Records.{field, answer_record}
 use Rattle.text_rules.proofs.Length.{answer_length}
 use Rattle.text_rules.proofs.RoomLaws.{room_for, written_from, refused_there}
-use Rattle.text_rules.proofs.WroteLaws.{wrote_as, wrote_none, lent_fits}
+use Rattle.text_rules.proofs.WroteLaws.{wrote_as}
 use Rattle.text.proofs.writer.write_answer.Goals as goal
 
 pub returns-then-not-has_room : goal.returns-then-not-has_room
@@ -16,6 +19,10 @@ returns-then-not-has_room c =
     let g : c.field_width-2.result ≡ length (field (ltb 0 s.fault) s.fault) = cc in
     refused_there _ _ _ _ c.has_room.ensures c.if-not-has_room.true (omega (arith, answer_length s.line s.word s.number s.fault, ap length c.spelled.ensures))
 
+-- how many bytes a lent later part has, wherever it begins
+part_length : (b : List ℕ) (a : ℕ) → length (mid_of a (length b - a) b) ≡ length b - a
+part_length b a = ap length (part_to_end b a) ∙ length-drop a b
+
 pub put_answer-requires : goal.put_answer-requires
 put_answer-requires c =
     let s = c.args in
@@ -25,7 +32,7 @@ put_answer-requires c =
     let f : c.field_width.result ≡ length (field true s.number) = cc in
     let g : c.field_width-2.result ≡ length (field (ltb 0 s.fault) s.fault) = cc in
     let h = room_for _ _ _ (length r) c.has_room.ensures c.if-not-has_room.false (omega (arith, answer_length s.line s.word s.number s.fault, ap length c.spelled.ensures, ap length e)) in
-    lent_fits (wrote_none {b = s.buf.now} (omega (arith, h))) h
+    omega (arith, h, part_length)
 
 pub returns : goal.returns
 returns c =

@@ -4,6 +4,7 @@ use Rattle.std.proofs.Common.{◌≡◌, length, arith}
 use Rattle.terms.specs.Letters.{has_job, has_cell}
 use Rattle.text_rules.specs.Records.{field, line_record}
 use Rattle.text_rules.proofs.Length.{line_length}
+use Rattle.text_rules.proofs.FieldLaws.{line_is}
 use Rattle.text_rules.proofs.RoomLaws.{written_from, refused_there}
 use Rattle.text_rules.proofs.WroteLaws.{wrote_as}
 use Rattle.text.proofs.writer.write_line.Goals as goal
@@ -11,6 +12,8 @@ use Rattle.text.proofs.writer.write_line.Goals as goal
 pub returns-then-not-has_room : goal.returns-then-not-has_room
 returns-then-not-has_room c =
     let s = c.args in
+    let h : field (has_job s.letter) c.of_field-second.result ≡ field (has_job s.letter) s.job = cc in
+    let k : field (has_cell s.letter) c.of_field-third.result ≡ field (has_cell s.letter) s.cell = cc in
     let f : c.field_width.result ≡ length (field (has_job s.letter) s.job) = cc in
     let g : c.field_width-2.result ≡ length (field (has_cell s.letter) s.cell) = cc in
     refused_there _ _ _ _ c.has_room.ensures c.if-not-has_room.true (omega (arith, line_length s.letter s.job s.cell))
@@ -18,5 +21,7 @@ returns-then-not-has_room c =
 pub returns : goal.returns
 returns c =
     let s = c.args in
-    let e : line_record s.letter c.new-second.result c.new-third.result ≡ line_record s.letter s.job s.cell = cc in
+    let h : field (has_job s.letter) c.of_field-second.result ≡ field (has_job s.letter) s.job = cc in
+    let k : field (has_cell s.letter) c.of_field-third.result ≡ field (has_cell s.letter) s.cell = cc in
+    let e : line_record s.letter c.of_field-second.result c.of_field-third.result ≡ line_record s.letter s.job s.cell = rw (line_is s.letter c.of_field-second.result c.of_field-third.result, line_is s.letter s.job s.cell, h, k) in
     written_from _ _ _ c.has_room.ensures c.if-not-has_room.false (wrote_as c.put_line.ensures e)
