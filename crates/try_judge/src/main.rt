@@ -136,13 +136,15 @@ fn report(rt: &HostRuntime, text: &[u8], places: usize) {
     }
 }
 
-// The number of a header with one more digit. More than all places are not lent, so it need not be exact above that.
+// The number of a header with one more digit, at most that of all places.
 fn with_digit(number: usize, digit: u8) -> usize
     requires { 48 ≤ digit }
+    ensures { result ≤ 300 }
 {
     number
         .saturating_mul(10)
         .saturating_add(usize::from(digit - b'0'))
+        .min(ORDER_PLACES)
 }
 
 impl Case {
