@@ -23,6 +23,12 @@ use Rattle.tuyenlomac.proofs.stamps.tuyenlomac_stamps_step_on.Reads as stamps_st
 use Rattle.tuyenlomac.proofs.stamps.tuyenlomac_stamps_step_on.Kinds as stamps-stepK
 use Rattle.tuyenlomac.proofs.histories.tuyenlomac_judge.Reads as judge
 use Rattle.tuyenlomac.proofs.histories.tuyenlomac_judge.Kinds as judgeK
+use Rattle.tuyenlomac.proofs.lines.LineFromReading.from.Reads as line-of
+use Rattle.tuyenlomac.proofs.lines.LineFromReading.from.Kinds as line-ofK
+use Rattle.tuyenlomac.proofs.lines.PlacedFromResultUsizeRefusal.from.Reads as placed-of
+use Rattle.tuyenlomac.proofs.lines.PlacedFromResultUsizeRefusal.from.Kinds as placed-ofK
+use Rattle.tuyenlomac.proofs.locks.ChainSaidFromResultUsizeRefusal.from.Reads as chain-of
+use Rattle.tuyenlomac.proofs.locks.ChainSaidFromResultUsizeRefusal.from.Kinds as chain-ofK
 use Rattle.tuyenlomac.proofs.lines.tuyenlomac_read_request.Reads as read-request
 use Rattle.tuyenlomac.proofs.lines.tuyenlomac_read_request.Kinds as read-requestK
 use Rattle.tuyenlomac.proofs.lines.tuyenlomac_read_history.Reads as read_history
@@ -67,6 +73,16 @@ same_first = ap (λ l. get_or l 0 0)
 
 same_second : {a b c d : ℕ} → (a ∷ b ∷ []) ≡ (c ∷ d ∷ []) → b ≡ d
 same_second = ap (λ l. get_or l 1 0)
+
+-- the conversions: what a line says, what writing tells, and the answer to a question for a chain, each in numbers
+pub line_from_unique : Unique line-ofK.ps line-ofK.r line-of.Post
+line_from_unique κs a x y e f p q = p ∙ sym q
+
+pub placed_from_unique : Unique placed-ofK.ps placed-ofK.r placed-of.Post
+placed_from_unique κs a x y e f p q = let s = p ∙ sym q in λ i. record { refusal = same_first s i; next = same_second s i }
+
+pub chain_said_from_unique : Unique chain-ofK.ps chain-ofK.r chain-of.Post
+chain_said_from_unique κs a x y e f p q = let s = p ∙ sym q in λ i. record { refusal = same_first s i; jobs = same_second s i }
 
 -- a question for a chain: what is answered, and what the list then holds
 pub tuyenlomac_locks_chain_on_unique : UniqueLent locks-chainK.ps locks-chainK.r locks-chain.Post (λ κs e. e.1.1.1.1.1.1.1.0.now)
