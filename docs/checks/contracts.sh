@@ -1,4 +1,4 @@
-# Functions that callers reach, against what 01 asks of each (01, How much a contract says).
+# Functions that callers reach, and conversions, against what 01 asks of each (01, How much a contract says).
 
 # the files of a crate that callers reach: its root, and what `pub mod` leads to from there
 opened() { # FILE FOLDER
@@ -27,6 +27,18 @@ reached() { # CRATE
         head && /&('"'"'[a-z]+ )?mut / && !/^ *(ensures|requires) / { lends = "yes" }
         # the body begins
         head && /{$/ && !/^ *(ensures|requires) / { head = 0; print FILENAME, name, module type name, states, requires, lends }'
+}
+
+# the conversions of a crate (`impl From<A> for B`); to a line, parted by tabs: file, what it converts, the module that its proofs have for it, whether it states what it gives
+conversions() { # CRATE
+    find "crates/$1/src" -name '*.rt' -print0 | sort -z | xargs -0 awk -v OFS='\t' '
+        function joined(type,   i, n, part, all) { n = split(type, part, /[^A-Za-z0-9]+/); for (i = 1; i <= n; i++) all = all toupper(substr(part[i], 1, 1)) substr(part[i], 2); return all }
+        FNR == 1 { into = ""; module = FILENAME; sub(/^crates\/[^\/]*\/src\//, "", module); sub(/\.rt$/, ".", module); sub(/^lib\.$/, "", module); gsub(/\//, ".", module) }
+        /^impl From<.*> for .* \{$/ {
+            split_at = index($0, "> for "); from = substr($0, 11, split_at - 11); into = substr($0, split_at + 6); sub(/ \{$/, "", into); states = "no"
+        }
+        into != "" && /^    ghost from_gives = / { states = "yes" }
+        into != "" && /^}/ { print FILENAME, "From<" from "> for " into, module joined(into) "From" joined(from) ".from", states; into = "" }'
 }
 
 # the theorems NAME_unique of a crate, in the files that its proofs/Lib.antt declares; to a line, parted by tabs: the theorem, how it says that there is
@@ -94,5 +106,13 @@ contracts() {
             *) if grep -F "| \`$proof\` |" docs/promises/*.md | grep -qF "\`$theorem\`"; then echo ok; else echo "no page of docs/promises/ cites $theorem of $proof"; fi ;;
             esac
         done <"$log/reached"
+        while IFS=$'\t' read -r file name module states; do
+            [ "$states" = yes ] || echo "$file: $name states nothing of what it gives"
+            IFS=$'\t' read -r theorem how proof < <(awk -F '\t' -v OFS='\t' -v module="$module" '$3 == module { print $1, $2, $4; exit }' "$log/uniques")
+            case $how in
+            Unique*) if grep -F "| \`$proof\` |" docs/promises/*.md | grep -qF "\`$theorem\`"; then echo ok; else echo "no page of docs/promises/ cites $theorem of $proof"; fi ;;
+            *) echo "$file: of $name no theorem of the form NAME_unique says that there is no second result ($module)" ;;
+            esac
+        done < <(conversions "$crate")
     done
 }
