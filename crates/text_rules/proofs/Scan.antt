@@ -1,25 +1,13 @@
 -- The place after a line: after the first newline from a place on, or at the text's end.
 -- Assumes nothing.
-use Rattle.std.proofs.Common.{◌≡◌, ◌==◌, ℕ, suc, ◌+◌, ◌≤◌, ◌<◌, get_or, min, Bool, List, [], ◌∷◌, Some, None, length, drop, eqb, ltb, refl, arith, drop_of_length-le, add-zero, sym}
+use Rattle.std.proofs.Common.{◌≡◌, ◌==◌, ℕ, ◌+◌, ◌≤◌, min, Bool, List, [], ◌∷◌, Some, None, length, drop, eqb, ltb, refl, arith, drop_of_length-le, add-zero, sym}
 use Rattle.std.specs.List.{position, position_or_len}
-use native.Mathlib.Numerals.{add-one}
-use lib.Seq.{drop-cons}
-use borrow.Author.Tests.{ltb-true, ltb-false, eq-eqb, ne_eqb}
+use borrow.Author.Tests.{ltb-true, ltb-false}
 use Rattle.laws.specs.Choice.{by_test}
 use Rattle.terms.specs.Words.{newline}
 use Rattle.text_rules.specs.Split.{used}
 
--- a newline is the line's last byte
-used_newline : (b : ℕ) (t : List ℕ) → b ≡ newline → used (b ∷ t) ≡ 1
-unfolding used
-used_newline b t e = rw (eq-eqb b newline e)
-
--- any other byte is followed by the rest of the line
-used_other : (b : ℕ) (t : List ℕ) → (b ≡ newline → ⊥) → used (b ∷ t) ≡ suc (used t)
-unfolding used
-used_other b t e = rw (ne_eqb b newline e)
-
--- whether a byte is a newline, as the library's search asks it
+-- whether a byte is a newline, as the code asks it
 abbrev ends : ℕ → Bool
 ends b = b == newline
 
@@ -49,11 +37,3 @@ line_whole t h =
 pub end_past : (t : List ℕ) (from : ℕ) → length t ≤ from → from ≡ from + used (drop from t)
 unfolding used
 end_past t from h = rw (drop_of_length-le t h) (sym (add-zero from))
-
--- at a newline the line ends after it
-pub end_at_newline : (t : List ℕ) (at : ℕ) → at < length t → get_or t at 0 ≡ newline → at + 1 ≡ at + used (drop at t)
-end_at_newline t at h e = rw (drop-cons t at 0 h, used_newline (get_or t at 0) (drop (suc at) t) e)
-
--- at any other byte the line's end is the one found from the next place
-pub end_passed : (t : List ℕ) (at : ℕ) → at < length t → (get_or t at 0 ≡ newline → ⊥) → (at + 1) + used (drop (at + 1) t) ≡ at + used (drop at t)
-end_passed t at h e = rw (drop-cons t at 0 h, used_other (get_or t at 0) (drop (suc at) t) e, add-one) (omega arith)

@@ -1,6 +1,7 @@
 // The splitter: cuts chunks of input into lines of any length, in fixed memory (01, Lines).
-ghost use Rattle.std.specs.Prelude.{◌≡◌, ◌+◌, ◌-◌, ◌≤◌, ◌<◌, min, length, take, drop};
+ghost use Rattle.std.specs.Prelude.{◌≡◌, ◌==◌, ◌+◌, ◌-◌, ◌≤◌, ◌<◌, min, length, take, drop, position};
 ghost use Rattle.std.proofs.lemmas.List.Edits.{sets};
+ghost use Rattle.terms.specs.Words.{newline};
 ghost use Rattle.text_rules.specs.Split.{kept, fresh, following, under_way, through, used, cut_of};
 
 use terms::words::NEWLINE;
@@ -25,18 +26,32 @@ pub struct Cut {
     pub next: usize,
 }
 
+// How many bytes of a text stand before its first newline, if it has one.
+fn before_newline(text: &[u8]) -> Option<usize>
+    ensures { result ≡ position (λ b. b == newline) text.now }
+{
+    text.iter().position(|byte| *byte == NEWLINE)
+}
+
+// How many bytes a text's first line has: those up to and including the first newline, or all if there is none.
+fn line_length(text: &[u8]) -> usize
+    ensures { result ≡ used text.now }
+{
+    match before_newline(text) {
+        Some(before) => before + 1,
+        None => text.len(),
+    }
+}
+
 // The place after the line that starts at a place of a text: after its newline, or at the text's end if it has none. A place past the end stays.
-// A loop by places: over the part from there on (`get(from..)`, `position`) each line of a program took eleven instructions more.
-#[tactic(auto, using(crate::proofs::Scan::end_at_newline, crate::proofs::Scan::end_past, crate::proofs::Scan::end_passed))]
+#[tactic(auto, using(crate::proofs::Cutting::used_within, crate::proofs::Scan::end_past))]
 pub fn line_end(text: &[u8], from: usize) -> usize
     ensures { result ≡ from + used (drop from text.now) }
 {
-    for at in from..text.len() {
-        if text[at] == NEWLINE {
-            return at + 1;
-        }
+    match text.get(from..) {
+        Some(rest) => from + line_length(rest),
+        None => from,
     }
-    from.max(text.len())
 }
 
 // The number after a line's.
@@ -107,17 +122,16 @@ impl Splitter {
                 next,
             };
         }
-        let part = &chunk[from..next];
-        let splitter = if self.ended {
-            let fresh = Self {
+        let line = if self.ended {
+            Self {
                 len: 0,
                 line: next_line(self.line),
                 ..self
-            };
-            fresh.grown(part)
+            }
         } else {
-            self.grown(part)
+            self
         };
+        let splitter = line.grown(&chunk[from..next]);
         Cut { splitter, next }
     }
 }
