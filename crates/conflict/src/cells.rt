@@ -29,10 +29,7 @@ pub fn with_cell(set: u64, cell: u32) -> u64
 pub fn has_cell(set: u64, cell: u32) -> bool
     ensures { result ≡ (ltb cell cells && in_set set cell) }
 {
-    if cell >= CELLS {
-        return false;
-    }
-    (set >> cell) & 1 == 1
+    cell < CELLS && (set >> cell) & 1 == 1
 }
 
 // The cells on which two jobs can conflict, as a set: both jobs have an action there, and the kinds of the two do not agree.
